@@ -98,7 +98,7 @@ fn put_static(rt: &impl Abort, alloc: Global, log: &mut String, config: &Config,
         format!(in alloc; "static {} {last}", entry.vid.number()),
     );
     let found = config.entry(entry.vid, entry.address);
-    put_ports(rt, alloc, log, "", &found.unwrap_or(PortSet::empty()));
+    put_ports(rt, alloc, log, "", found.unwrap_or(&PortSet::empty()));
 }
 
 // The static entries in order.

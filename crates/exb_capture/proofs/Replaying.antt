@@ -14,11 +14,10 @@ use Rattle.exb_capture.specs.declared.file.CaptureFile.{CaptureFile}
 use Rattle.exb_capture.specs.declared.file.Halt.{Halt}
 use Rattle.exb_capture.specs.declared.file.Halt.TheVariants as halt
 use Rattle.exb_capture.specs.declared.replay.Replay.{Replay}
-use Rattle.exb_capture.specs.declared.replay.Replayed.{Replayed}
 use Rattle.exb_capture.specs.declared.replay.ReplayFault.{ReplayFault}
 use Rattle.exb_capture.specs.declared.replay.ReplayFault.TheVariants.{Read, Changed}
 use Rattle.exb_capture.specs.Reading.{IsSound, IsHeldIn, HasRead, IsWhole, HaltsBy, after, coming, next_of, seen_in, with_next}
-use Rattle.exb_capture.specs.Replaying.{comes_early, stopped, unread, BeginsWith, Disagrees, Breaks, Ends, GoesOn, ComesEarly, ComesAt, HasGiven, IsPlayed, IsReplaying, IsFirstOf}
+use Rattle.exb_capture.specs.Replaying.{comes_early, stopped, unread, BeginsWith, Disagrees, Breaks, Ends, GoesOn, ComesEarly, ComesAt, HasGiven, IsPlayed, IsReplaying}
 use Rattle.exb_capture.specs.Scans.{first_time, scanned_of}
 
 nil_of : {X : Type 0} (xs : List X) → length xs ≡ 0 → xs ≡ []
@@ -155,10 +154,10 @@ fault_is fault at e = cc
 given_left : (xs left rest : List Record) (x : Record) (bytes : List ℕ) → capture_records bytes ≡ Ok (xs ++ left) → (capture_of bytes).records ≡ xs ++ (x ∷ rest) → left ≡ x ∷ rest
 given_left xs left rest x bytes good e = append_cancel_left xs left (x ∷ rest) (sym (good_records bytes (xs ++ left) good) ∙ e)
 
-pub next_replayed : (bytes : List ℕ) (left : List Record) (r seen next : Replay) (moment : ℕ) (given : Replayed) (k : IsReplaying bytes left r) (c : ComesAt moment seen)
-    → HasGiven bytes k.given seen → HasGiven bytes (k.given ++ c.next ∷ []) next → given.moment ≡ moment → given.bytes ≡ c.next.bytes → seen.least ≡ r.least → next.told ≡ r.told
-    → IsFirstOf left r.least (Some given) (λ rest. IsReplaying bytes rest next)
-next_replayed bytes left r seen next moment given k c has then_has at is least told =
+pub next_replayed : (bytes : List ℕ) (left : List Record) (r seen next : Replay) (moment : ℕ) (given : List ℕ) (k : IsReplaying bytes left r) (c : ComesAt moment seen)
+    → HasGiven bytes k.given seen → HasGiven bytes (k.given ++ c.next ∷ []) next → given ≡ c.next.bytes → seen.least ≡ r.least → next.told ≡ r.told
+    → (x : Record) × (rest : List Record) × (left ≡ x ∷ rest) × (moment ≡ max r.least x.time) × (given ≡ x.bytes) × IsReplaying bytes rest next
+next_replayed bytes left r seen next moment given k c has then_has is least told =
     let x = c.next in
     let found = found_records bytes k.given x seen.file has.read c.found in
     let rest = found.0 in
@@ -167,7 +166,7 @@ next_replayed bytes left r seen next moment given k c has then_has at is least t
       x,
       rest,
       first,
-      at ∙ c.is ∙ ap (λ n. max n x.time) least,
+      c.is ∙ ap (λ n. max n x.time) least,
       is,
       record {
         given = k.given ++ x ∷ [];

@@ -11,7 +11,6 @@ use Rattle.exb_capture.specs.declared.file.Halt.TheVariants as halt
 use Rattle.exb_capture.specs.declared.replay.Replay.{Replay}
 use Rattle.exb_capture.specs.declared.replay.ReplayFault.{ReplayFault}
 use Rattle.exb_capture.specs.declared.replay.ReplayFault.TheVariants.{Memory, Read, Changed}
-use Rattle.exb_capture.specs.declared.replay.Replayed.{Replayed}
 use Rattle.exb_capture.specs.Reading.{IsSound, IsSameFile, HasRead, next_of}
 use Rattle.exb_capture.specs.Scans.{scanned_of}
 
@@ -88,14 +87,6 @@ pub record ComesAt (moment : ℕ) (r : Replay) : Type 0 where
   pub since : IsSince r.told.first moment
   pub in_time : moment < 2 ^ 32 * 1_000_000_000
 
--- a record that is given: its moment is no earlier than that of the one before it and than what was told of the first, and within 2^32
--- seconds; its frame is no longer than a capture has them
-pub record IsReplayed (least : ℕ) (told : Option ℕ) (x : Replayed) : Type 0 where
-  pub rises : least ≤ x.moment
-  pub since : IsSince told x.moment
-  pub in_time : x.moment < 2 ^ 32 * 1_000_000_000
-  pub short : length x.bytes ≤ 262_144
-
 -- ---- what is told of the file
 -- of a file of these bytes these records were given
 pub record HasGiven (bytes : List ℕ) (xs : List Record) (r : Replay) : Type 0 where
@@ -113,9 +104,3 @@ pub record IsReplaying (bytes : List ℕ) (left : List Record) (r : Replay) : Ty
   pub has : HasGiven bytes given r
   pub whole : capture_records bytes ≡ Ok (given ++ left)
   pub told : r.told ≡ scanned_of bytes (given ++ left)
-
--- the first of these records comes, with its moment behind this one, and the others are left; or none is there
-abbrev pub IsFirstOf : List Record → ℕ → Option Replayed → (List Record → Type 0) → Type 0
-IsFirstOf left least None Rest = left ≡ []
-IsFirstOf left least (Some x) Rest =
-    (r : Record) × (rest : List Record) × (left ≡ r ∷ rest) × (x.moment ≡ max least r.time) × (x.bytes ≡ r.bytes) × Rest rest

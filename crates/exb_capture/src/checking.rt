@@ -1,5 +1,5 @@
 //! Checking a capture from front to end.
-ghost use Rattle.std.specs.Prelude.{◌≡◌, ◌≤◌, ◌<◌, ◌+◌, ◌-◌, ◌*◌, ◌^◌, [], ℕ, false, min, length, IfOk, OnOk, IfErr, IsErrOf, IfSome};
+ghost use Rattle.std.specs.Prelude.{◌≡◌, ◌≤◌, ◌<◌, ◌+◌, ◌-◌, ◌*◌, ◌^◌, [], ℕ, false, min, IfOk, OnOk, IfErr, IsErrOf, IfSome};
 ghost use Rattle.exb_shelf.specs.Files.{SameFiles, bytes_of};
 ghost use Rattle.exb_shelf.specs.Shelf.{IsReadingOf, Opens, Rose, NoFewer};
 ghost use Rattle.exb_capture.specs.Counts.{after_looking, after_scan};
@@ -8,7 +8,7 @@ ghost use Rattle.exb_capture.specs.Scans.{IsScan, IsScanned, or_this, refused, u
 
 use crate::fault::Fault;
 use crate::file::{CaptureFile, Halt};
-use exb_shelf::{OpenFault, PIECE, Shelf, room};
+use exb_shelf::{OpenFault, Shelf};
 use std::alloc::Global;
 
 /// What is told of a capture without a fault.
@@ -76,13 +76,8 @@ impl Scanned {
 }
 
 /// Goes through a capture that was opened.
-fn scan_on<S: Shelf>(
-    shelf: &mut S,
-    file: &mut CaptureFile,
-    piece: &mut [u8],
-) -> Result<Scanned, Halt>
+fn scan_on<S: Shelf>(shelf: &mut S, file: &mut CaptureFile) -> Result<Scanned, Halt>
     requires at { IsAt (S.ids shelf.old file.old.id) file.old.got }
-    requires piece { 0 < length piece.old }
     requires sound { IsSound file.old }
     ensures whole { S.tells → IfOk result (λ scanned. HasRead (bytes_of (S.file shelf.old (S.ids shelf.old file.old.id).name)) [] file.old
         → IsScanned file.old.limit (bytes_of (S.file shelf.old (S.ids shelf.old file.old.id).name)) scanned) }
@@ -101,7 +96,7 @@ fn scan_on<S: Shelf>(
         records: 0,
         first: None,
     };
-    'records: while let Some(moment) = file.ahead(shelf, piece)? {
+    'records: while let Some(moment) = file.ahead(shelf)? {
         file.pass();
         scanned = scanned.with(moment);
     }
@@ -134,14 +129,11 @@ pub fn scan<S: Shelf>(
     ensures missing { IsErrOf result ScanFault.Missing → Rose (S.faults shelf.old).missing (S.faults shelf.new).missing }
     ensures failed { IsErrOf result ScanFault.Read → Rose (S.faults shelf.old).reads (S.faults shelf.new).reads }
 {
-    let Ok(mut piece) = room(alloc, PIECE) else {
-        return Err(ScanFault::Memory);
-    };
     let mut file = match CaptureFile::open(alloc, shelf, name, limit) {
         Ok(file) => file,
         Err(fault) => return Err(unopened(fault)),
     };
-    match scan_on(shelf, &mut file, piece.as_mut_slice()) {
+    match scan_on(shelf, &mut file) {
         Ok(scanned) => Ok(scanned),
         Err(halt) => Err(refused(halt, limit)),
     }

@@ -1,7 +1,6 @@
 //! One capture on a shelf, read in pieces.
-ghost use Rattle.std.specs.Prelude.{◌≡◌, ◌≢◌, ◌<◌, ◌≤◌, ◌+◌, ◌-◌, ◌*◌, ◌^◌, ◌∷◌, ◌++◌, ◌⊎◌, [], ℕ, List, true, false, Some, None, Ok, length, take, drop, IfOk, OnOk, IfErr, OnErr, IsErrOf, IfSome, IfNone, IsSome};
+ghost use Rattle.std.specs.Prelude.{◌≡◌, ◌≢◌, ◌<◌, ◌≤◌, ◌+◌, ◌-◌, ◌*◌, ◌^◌, ◌∷◌, ◌++◌, ◌⊎◌, [], ℕ, List, true, false, Some, None, Ok, length, take, IfOk, OnOk, IfErr, IsErrOf, IfSome, IfNone, IsSome};
 ghost use Rattle.exb_model.specs.Input.{Record};
-ghost use Rattle.exb_capture.specs.Captures.{capture_records};
 ghost use Rattle.exb_shelf.specs.Files.{SameFiles, bytes_of};
 ghost use Rattle.exb_shelf.specs.Counting.{after_open};
 ghost use Rattle.exb_shelf.specs.Shelf.{IsReadingOf, Opens, reading, Rose, NoFewer};
@@ -13,7 +12,7 @@ use crate::fault::Fault;
 use crate::reader::{Ahead, Reader};
 use exb_model::bytes::Bytes;
 use exb_model::memory::NoMemory;
-use exb_shelf::{OpenFault, Shelf, ShelfFault};
+use exb_shelf::{OpenFault, PIECE, Shelf, ShelfFault};
 use std::alloc::Global;
 
 /// Why a capture can't be read on.
@@ -42,15 +41,24 @@ impl From<ShelfFault> for Halt {
     }
 }
 
-/// How much is read at once.
-fn size_of(room: u32, left: u64, piece: usize) -> usize
+/// How much is read at once: a piece at most.
+fn size_of(room: u32, left: u64) -> usize
     ensures room { result ≤ room }
     ensures left { result ≤ left }
-    ensures piece { result ≤ piece }
-    ensures some { 0 < room → 0 < left → 0 < piece → 0 < result }
+    ensures some { 0 < room → 0 < left → 0 < result }
 {
     let most = (room as u64).min(left);
-    most.min(piece as u64) as usize
+    most.min(PIECE as u64) as usize
+}
+
+/// A copy of bytes, which is written anew into a buffer.
+#[inline(always)]
+fn written(mut buffer: Vec<u8>, bytes: &[u8]) -> Result<Bytes, NoMemory>
+    ensures { IfOk result (λ made. made ≡ bytes.now) }
+{
+    buffer.clear();
+    buffer.extend_from_slice(bytes)?;
+    Ok(Bytes::from_vec(buffer))
 }
 
 /// A record that was looked at: its moment, and where its frame lies in what the reader holds.
@@ -66,7 +74,7 @@ pub struct Seen {
 #[derive(Drop)]
 pub struct CaptureFile {
     id: u32,
-    reader: Reader<Capture>,
+    pub(crate) reader: Reader<Capture>,
     /// The record that comes next, where it was looked at.
     next: Option<Seen>,
     /// How many bytes were read.
@@ -127,70 +135,15 @@ impl CaptureFile {
         self.got
     }
 
-    /// How many bytes may be read.
-    pub fn limit(&self) -> u64
-        ensures { result ≡ self.now.limit }
-    {
-        self.limit
-    }
-
-    /// Where the record that was looked at begins in the file.
-    pub(crate) fn begun(&self) -> u64
-        ensures { result ≡ self.now.reader.begun }
-    {
-        self.reader.begun()
-    }
-
-    /// Where it ends.
-    pub(crate) fn place(&self) -> u64
-        ensures { result ≡ self.now.reader.place }
-    {
-        self.reader.place()
-    }
-
-    /// Looks whether the file ends where no more of it may be read.
+    /// Reads the next bytes of the file, or its end. Where no more may be read, it looks whether the file ends there.
     #[cold]
     #[inline(never)]
-    fn look_for_end<S: Shelf>(&mut self, shelf: &mut S, piece: &mut [u8]) -> Result<(), Halt>
+    fn read_on<S: Shelf>(&mut self, shelf: &mut S) -> Result<(), Halt>
         requires at { IsAt (S.ids shelf.old self.old.id) self.old.got }
-        requires piece { 0 < length piece.old }
-        requires full { self.old.got ≡ self.old.limit }
-        requires sound { IsSound self.old }
-        ensures piece { length piece.new ≡ length piece.old }
-        ensures sound { IsSound self.new }
-        ensures at { OnOk result (IsAt (S.ids shelf.new self.new.id) self.new.got) }
-        ensures ended { OnOk result (self.new ≡ record self.old { ended = true }) }
-        ensures read { S.tells → OnOk result ((xs : List Record) → HasRead (bytes_of (S.file shelf.old (S.ids shelf.old self.old.id).name)) xs self.old
-            → HasRead (bytes_of (S.file shelf.old (S.ids shelf.old self.old.id).name)) xs self.new) }
-        ensures same { OnErr result (self.new ≡ self.old) }
-        ensures large { S.tells → IsErrOf result Halt.Large → (xs : List Record) → HasRead (bytes_of (S.file shelf.old (S.ids shelf.old self.old.id).name)) xs self.old
-            → self.old.limit < length (bytes_of (S.file shelf.old (S.ids shelf.old self.old.id).name)) }
-        ensures whole { (fault : Fault) → IsErrOf result (Halt.Broken fault) → ⊥ }
-        ensures moves { MovesOn self.old.id (S.ids shelf.old) (S.ids shelf.new) }
-        ensures files { SameFiles (S.file shelf.old) (S.file shelf.new) }
-        ensures counts { S.faults shelf.new ≡ after_looking result (S.faults shelf.old) }
-        ensures faults { NoFewer (S.faults shelf.old) (S.faults shelf.new) }
-        ensures failed { IsErrOf result Halt.Failed → Rose (S.faults shelf.old).reads (S.faults shelf.new).reads }
-    {
-        let n = shelf.read(self.id, &mut piece[..1])?;
-        if n > 0 {
-            return Err(Halt::Large);
-        }
-        self.ended = true;
-        Ok(())
-    }
-
-    /// Reads the next bytes of the file, or its end. More bytes than may be read are none to read.
-    #[cold]
-    #[inline(never)]
-    fn read_on<S: Shelf>(&mut self, shelf: &mut S, piece: &mut [u8]) -> Result<(), Halt>
-        requires at { IsAt (S.ids shelf.old self.old.id) self.old.got }
-        requires piece { 0 < length piece.old }
         requires room { 0 < self.old.reader.room }
         requires open { self.old.ended ≡ false }
         requires unseen { self.old.next ≡ None }
         requires sound { IsSound self.old }
-        ensures piece { length piece.new ≡ length piece.old }
         ensures sound { IsSound self.new }
         ensures unseen { OnOk result (self.new.next ≡ None) }
         ensures same { IsSameFile self.old self.new }
@@ -210,9 +163,15 @@ impl CaptureFile {
         ensures failed { IsErrOf result Halt.Failed → Rose (S.faults shelf.old).reads (S.faults shelf.new).reads }
     {
         if self.got == self.limit {
-            return self.look_for_end(shelf, piece);
+            let mut one = [0u8; 1];
+            let more = shelf.read(self.id, &mut one)?;
+            if more > 0 {
+                return Err(Halt::Large);
+            }
+            self.ended = true;
+            return Ok(());
         }
-        let most = size_of(self.reader.room(), self.limit - self.got, piece.len());
+        let most = size_of(self.reader.room(), self.limit - self.got);
         let n = self.reader.fill(shelf, self.id, most)?;
         self.got += n as u64;
         if n == 0 {
@@ -222,13 +181,11 @@ impl CaptureFile {
     }
 
     /// Reads on until it is known what comes next, and answers the time of the record, or None at the end.
-    /// What comes next isn't taken yet. No more is read at once than `piece` has room for.
+    /// What comes next isn't taken yet.
     #[inline(always)]
-    pub fn ahead<S: Shelf>(&mut self, shelf: &mut S, piece: &mut [u8]) -> Result<Option<u64>, Halt>
+    pub fn ahead<S: Shelf>(&mut self, shelf: &mut S) -> Result<Option<u64>, Halt>
         requires at { IsAt (S.ids shelf.old self.old.id) self.old.got }
-        requires piece { 0 < length piece.old }
         requires sound { IsSound self.old }
-        ensures piece { length piece.new ≡ length piece.old }
         ensures sound { IsSound self.new }
         ensures same { IsSameFile self.old self.new }
         ensures at { OnOk result (IsAt (S.ids shelf.new self.new.id) self.new.got) }
@@ -273,15 +230,15 @@ impl CaptureFile {
                     return Ok(Some(moment));
                 }
                 Ok(Ahead::End) => return Ok(None),
-                Ok(Ahead::More) => self.read_on(shelf, piece)?,
+                Ok(Ahead::More) => self.read_on(shelf)?,
                 Err(fault) => return Err(Halt::Broken { fault }),
             }
         }
     }
 
-    /// Takes the record that comes next, and gives its bytes as a copy.
+    /// Takes the record that comes next, and gives its bytes as a copy in this buffer, which is written anew.
     #[inline(always)]
-    pub fn take(&mut self, alloc: Global) -> Result<Bytes, NoMemory>
+    pub fn take(&mut self, buffer: Vec<u8>) -> Result<Bytes, NoMemory>
         requires found { (moment : ℕ) × ComesNext moment self.old }
         requires sound { IsSound self.old }
         ensures sound { IsSound self.new }
@@ -296,7 +253,7 @@ impl CaptureFile {
         match self.next {
             Some(seen) => {
                 self.next = None;
-                Bytes::from_slice(alloc, self.reader.frame(seen.from, seen.bytes))
+                written(buffer, self.reader.frame(seen.from, seen.bytes))
             }
             None => unreachable!(),
         }

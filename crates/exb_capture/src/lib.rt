@@ -33,5 +33,5 @@ pub use front::Front;
 pub use interface::Interface;
 pub use order::ByteOrder;
 pub use reader::{Ahead, Reader};
-pub use replay::{Replay, ReplayFault, Replayed};
+pub use replay::{Replay, ReplayFault};
 pub use writer::{header_text, record_text};

@@ -225,15 +225,6 @@ impl<F: Format> Reader<F> {
         }
     }
 
-    // The bytes that were fed and not yet passed over.
-    #[inline(always)]
-    fn held(&self) -> &[u8]
-        ensures bytes { result.now ≡ self.now.held }
-        ensures len { length result.now ≤ 327_680 }
-    {
-        &self.buffer[self.start..self.end]
-    }
-
     // What stands at the front.
     #[inline(always)]
     fn look(&mut self) -> Front
@@ -316,7 +307,6 @@ impl<F: Format> Reader<F> {
         requires { from + bytes ≤ length self.now.held }
         ensures { result.now ≡ take bytes (drop from self.now.held) }
     {
-        let held = self.held();
-        &held[from as usize..][..bytes as usize]
+        &self.buffer[self.start..self.end][from as usize..][..bytes as usize]
     }
 }

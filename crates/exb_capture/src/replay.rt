@@ -1,11 +1,11 @@
 //! Reading a capture again that was checked.
-ghost use Rattle.std.specs.Prelude.{◌≡◌, ◌≢◌, ◌<◌, ◌≤◌, ◌+◌, ◌*◌, ◌^◌, ◌∷◌, ◌++◌, [], ℕ, List, true, false, Some, None, length, min, IfOk, OnOk, IfErr, IsErrOf, IfSome, IfNone, IsSome};
+ghost use Rattle.std.specs.Prelude.{◌≡◌, ◌≢◌, ◌<◌, ◌≤◌, ◌+◌, ◌^◌, ◌∷◌, ◌++◌, [], ℕ, List, true, false, Some, None, length, min, IfOk, OnOk, IsErrOf, IfSome, IfNone, IsSome};
 ghost use Rattle.exb_model.specs.Input.{Record};
 ghost use Rattle.exb_shelf.specs.Files.{SameFiles, bytes_of};
 ghost use Rattle.exb_shelf.specs.Shelf.{IsReadingOf, Opens, reading, Rose, NoFewer};
 ghost use Rattle.exb_capture.specs.Counts.{after_fault, after_opening, after_replay};
 ghost use Rattle.exb_capture.specs.Reading.{IsAt, IsBegun, ComesNext, MovesOn, left_to_read, next_of};
-ghost use Rattle.exb_capture.specs.Replaying.{comes_early, Disagrees, IsKept, IsSameReplay, IsAsBefore, ComesAt, IsReplayed, HasGiven, IsPlayed, IsReplaying, stopped, unopened, unread, IsFirstOf};
+ghost use Rattle.exb_capture.specs.Replaying.{comes_early, Disagrees, IsKept, IsSameReplay, IsAsBefore, ComesAt, HasGiven, IsPlayed, stopped, unopened, unread};
 
 use crate::checking::Scanned;
 use crate::file::{CaptureFile, Halt};
@@ -13,15 +13,6 @@ use exb_model::bytes::Bytes;
 use exb_model::memory::NoMemory;
 use exb_shelf::{OpenFault, Shelf};
 use std::alloc::Global;
-
-/// A record of a capture that is read again.
-#[derive(Debug, Drop)]
-pub struct Replayed {
-    /// Its time in nanoseconds since the epoch, or the moment of the record before it if that is greater.
-    pub moment: u64,
-    /// Its frame, at most 262,144 bytes.
-    pub bytes: Bytes,
-}
 
 /// Why a capture isn't read on.
 #[derive(Clone, Copy, Debug, PartialEq, Eq)]
@@ -164,13 +155,11 @@ impl Replay {
     /// failed or memory ran out, that is the answer.
     #[cold]
     #[inline(never)]
-    fn early<S: Shelf>(&mut self, shelf: &mut S, piece: &mut [u8]) -> ReplayFault
+    fn early<S: Shelf>(&mut self, shelf: &mut S) -> ReplayFault
         requires at { IsAt (S.ids shelf.old self.old.file.id) self.old.file.got }
-        requires piece { 0 < length piece.old }
         requires kept { IsKept self.old }
         requires fresh { self.old.fresh ≡ true }
         requires found { (time : ℕ) × (ComesNext time self.old.file) × (comes_early self.old.told.first time ≡ true) }
-        ensures piece { length piece.new ≡ length piece.old }
         ensures kept { IsKept self.new }
         ensures same { IsSameReplay self.old self.new }
         ensures changed { S.tells → (at : ℕ) → result ≡ ReplayFault.Changed at → (xs : List Record) → HasGiven (bytes_of (S.file shelf.old (S.ids shelf.old self.old.file.id).name)) xs self.old
@@ -184,13 +173,13 @@ impl Replay {
         ensures failed { result ≡ ReplayFault.Read → Rose (S.faults shelf.old).reads (S.faults shelf.new).reads }
     {
         let bytes = self.told.bytes;
-        let begin = self.file.begun();
-        let end = self.file.place();
+        let begin = self.file.reader.begun();
+        let end = self.file.reader.place();
         if bytes < end {
             return ReplayFault::Changed { at: bytes };
         }
         self.file.pass();
-        match self.file.ahead(shelf, piece) {
+        match self.file.ahead(shelf) {
             Ok(Some(_)) => ReplayFault::Changed { at: begin },
             Ok(None) => {
                 let got = self.file.got();
@@ -204,21 +193,14 @@ impl Replay {
     }
 
     /// Reads on until it is known what comes next, and answers the moment of the record, or None at the end.
-    /// What comes next isn't taken yet. `piece` has room for what is read at once.
+    /// What comes next isn't taken yet.
     ///
     /// Where the files are told, it is Changed at a byte only where the file disagrees there with what was
     /// told, and None only where all was given and it agrees.
     #[inline(always)]
-    pub fn ahead<S: Shelf>(
-        &mut self,
-        alloc: Global,
-        shelf: &mut S,
-        piece: &mut [u8],
-    ) -> Result<Option<u64>, ReplayFault>
+    pub fn ahead<S: Shelf>(&mut self, shelf: &mut S) -> Result<Option<u64>, ReplayFault>
         requires at { IsAt (S.ids shelf.old self.old.file.id) self.old.file.got }
-        requires piece { 0 < length piece.old }
         requires kept { IsKept self.old }
-        ensures piece { length piece.new ≡ length piece.old }
         ensures kept { IsKept self.new }
         ensures same { IsSameReplay self.old self.new }
         ensures before { IsAsBefore self.old self.new }
@@ -243,10 +225,10 @@ impl Replay {
         ensures faults { NoFewer (S.faults shelf.old) (S.faults shelf.new) }
         ensures failed { IsErrOf result ReplayFault.Read → Rose (S.faults shelf.old).reads (S.faults shelf.new).reads }
     {
-        match self.file.ahead(shelf, piece) {
+        match self.file.ahead(shelf) {
             Ok(Some(time)) => {
                 if self.fresh && comes_early(self.told.first, time) {
-                    return Err(self.early(shelf, piece));
+                    return Err(self.early(shelf));
                 }
                 Ok(Some(time.max(self.least)))
             }
@@ -255,9 +237,10 @@ impl Replay {
         }
     }
 
-    /// Takes the record that comes next, of which the moment is known, and gives its bytes as a copy.
+    /// Takes the record that comes next, of which the moment is known, and gives its bytes as a copy in this buffer, which is
+    /// written anew.
     #[inline(always)]
-    pub fn take(&mut self, alloc: Global, moment: u64) -> Result<Replayed, NoMemory>
+    pub fn take(&mut self, moment: u64, buffer: Vec<u8>) -> Result<Bytes, NoMemory>
         requires found { ComesAt moment self.old }
         requires kept { IsKept self.old }
         ensures kept { IsKept self.new }
@@ -265,60 +248,14 @@ impl Replay {
         ensures got { self.new.file.got ≡ self.old.file.got }
         ensures left { left_to_read self.new.file + 16 ≤ left_to_read self.old.file }
         ensures least { OnOk result (self.new.least ≡ moment) }
-        ensures moment { IfOk result (λ x. x.moment ≡ moment) }
-        ensures limits { IfOk result (IsReplayed self.old.least self.old.told.first) }
-        ensures bytes { (x : Record) → next_of self.old.file ≡ Some x → IfOk result (λ replayed. replayed.bytes ≡ x.bytes) }
+        ensures bytes { (x : Record) → next_of self.old.file ≡ Some x → IfOk result (λ bytes. bytes ≡ x.bytes) }
+        ensures short { IfOk result (λ bytes. length bytes ≤ 262_144) }
         ensures given { OnOk result ((bytes : List ℕ) (xs : List Record) (x : Record) → next_of self.old.file ≡ Some x
             → HasGiven bytes xs self.old → HasGiven bytes (xs ++ x ∷ []) self.new) }
     {
-        let bytes = self.file.take(alloc)?;
+        let bytes = self.file.take(buffer)?;
         self.least = moment;
         self.fresh = false;
-        Ok(Replayed { moment, bytes })
-    }
-
-    /// Reads on and takes the record that comes next; None exactly at the end. `piece` has room for what is
-    /// read at once.
-    ///
-    /// Where the files are told and the file is the one that was checked, the records come as they stand in
-    /// it, each with its moment, and it is never Changed.
-    pub fn next<S: Shelf>(
-        &mut self,
-        alloc: Global,
-        shelf: &mut S,
-        piece: &mut [u8],
-    ) -> Result<Option<Replayed>, ReplayFault>
-        requires at { IsAt (S.ids shelf.old self.old.file.id) self.old.file.got }
-        requires piece { 0 < length piece.old }
-        requires kept { IsKept self.old }
-        ensures piece { length piece.new ≡ length piece.old }
-        ensures kept { IsKept self.new }
-        ensures same { IsSameReplay self.old self.new }
-        ensures at { OnOk result (IsAt (S.ids shelf.new self.new.file.id) self.new.file.got) }
-        ensures limits { IfOk result (λ next. IfSome next (IsReplayed self.old.least self.old.told.first)) }
-        ensures least { IfOk result (λ next. IfSome next (λ x. self.new.least ≡ x.moment)) }
-        ensures left { IfOk result (λ next. IfSome next (λ x. left_to_read self.new.file + 16 ≤ left_to_read self.old.file)) }
-
-        ensures order { S.tells → IfOk result (λ next. (left : List Record) → IsReplaying (bytes_of (S.file shelf.old (S.ids shelf.old self.old.file.id).name)) left self.old
-            → IsFirstOf left self.old.least next (λ rest. IsReplaying (bytes_of (S.file shelf.old (S.ids shelf.old self.old.file.id).name)) rest self.new)) }
-        ensures never { S.tells → (at : ℕ) → IsErrOf result (ReplayFault.Changed at) → (left : List Record) → IsReplaying (bytes_of (S.file shelf.old (S.ids shelf.old self.old.file.id).name)) left self.old → ⊥ }
-
-        // Whatever the files hold, it has changed within the bytes that were told and one more.
-        ensures place { (at : ℕ) → IsErrOf result (ReplayFault.Changed at) → at ≤ self.old.told.bytes + 1 }
-
-        ensures moves { MovesOn self.old.file.id (S.ids shelf.old) (S.ids shelf.new) }
-        ensures files { SameFiles (S.file shelf.old) (S.file shelf.new) }
-        ensures counts { S.faults shelf.new ≡ after_replay result (S.faults shelf.old) }
-        ensures faults { NoFewer (S.faults shelf.old) (S.faults shelf.new) }
-        ensures failed { IsErrOf result ReplayFault.Read → Rose (S.faults shelf.old).reads (S.faults shelf.new).reads }
-    {
-        match self.ahead(alloc, shelf, piece) {
-            Ok(Some(moment)) => match self.take(alloc, moment) {
-                Ok(next) => Ok(Some(next)),
-                Err(_) => Err(ReplayFault::Memory),
-            },
-            Ok(None) => Ok(None),
-            Err(fault) => Err(fault),
-        }
+        Ok(bytes)
     }
 }

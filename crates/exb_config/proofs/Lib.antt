@@ -1,3 +1,4 @@
+pub mod Masks
 pub mod Statics
 pub mod Rows
 pub mod Changes

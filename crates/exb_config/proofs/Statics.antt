@@ -5,6 +5,7 @@ use Rattle.std.specs.Cmp.{nat_eq_equiv}
 use Rattle.std.specs.List.{IsDistinct, AllByRecursion}
 use Rattle.std.specs.Map.{keys_of, lookup, remove_entry}
 use Rattle.std.proofs.lemmas.Bool.{cases_Bool, eqb-true, and_parts, false≢true}
+use Rattle.std.proofs.lemmas.List.{nil_from_length}
 use Rattle.std.proofs.lemmas.Slice.Eq.{bytes_eq-Decides}
 use Rattle.indexmap.specs.IndexMap.{insert_entry}
 use Rattle.indexmap.proofs.MapLemmas.{Found-position, some_index, remove_entry-first}
@@ -48,6 +49,10 @@ find_of d (e ∷ es) = rw (← same_for d e) (at_head (find_of d es) (same d e.0
         option_map (λ e. e.ports) (cond b (Some (static_of e)) (static_for (statics_of es) d.vid d.address.0)) ≡ cond b (Some e.1) (lookup (same d) es)
     at_head rest true = refl
     at_head rest false = rest
+
+-- nothing is found among no entries
+pub find_none : (d : Station) (es : List (Station × PortSet)) → length es ≡ 0 → option_map (λ e. e.ports) (static_for (statics_of es) d.vid d.address.0) ≡ None
+find_none d es none = rw (nil_from_length es none) refl
 
 pub put_of : (d : Station) (s : PortSet) (es : List (Station × PortSet)) → statics_of (insert_entry same es d s) ≡ put_static (static_of (d, s)) (statics_of es)
 put_of d s [] = refl

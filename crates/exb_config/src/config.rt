@@ -1,10 +1,12 @@
 //! The configuration.
-ghost use Rattle.std.specs.Prelude.{◌≡◌, ℕ, ◌&&◌, slice_get, option_map, IfOk, OnOk, OnErr};
+ghost use Rattle.std.specs.Prelude.{◌≡◌, ℕ, ◌+◌, ◌*◌, ◌<◌, ◌&&◌, is_some, slice_get, option_copied, option_map, IfOk, OnOk, OnErr};
+ghost use Rattle.exb_model.specs.Masks.{bits_of};
 ghost use Rattle.exb_model.specs.Ports.{port_in};
 ghost use Rattle.exb_model.specs.Configuration.{Bridge, after, empty_bridge, is_known};
 ghost use Rattle.exb_model.specs.Targets.{static_for};
 ghost use Rattle.exb_model.specs.Refusals.{is_kind};
 ghost use Rattle.exb_config.specs.Pvids.{HasPvids, IsVlan};
+ghost use Rattle.exb_config.specs.Rows.{kind_by};
 ghost use Rattle.exb_config.specs.Tables.{bridge_of};
 
 use crate::members::Members;
@@ -155,6 +157,32 @@ impl Config {
         self.vlans.is_known(vid)
     }
 
+    /// The members of a VLAN, present or not; None exactly where the VLAN isn't in the table.
+    pub fn members(&self, vid: Vid) -> Option<&Members>
+        ensures kinds { (q : ℕ) → kind_by (option_copied result) q ≡ (bridge_of self.now).member vid q }
+        ensures known { is_some (option_copied result) ≡ is_known (bridge_of self.now) vid }
+    {
+        self.vlans.row(vid)
+    }
+
+    /// The present ports of a device, 0 for the bridge: bit k - 1 is its port k.
+    #[tactic(auto, unfolding(crate::specs::Tables::bridge_of))]
+    pub fn present_mask(&self, device: u8) -> u64
+        requires { device < 65 }
+        ensures { result ≡ bits_of (λ j. (bridge_of self.now).present (64 * device + j)) 64 }
+    {
+        self.present.mask(device)
+    }
+
+    /// The isolated ports of a device, 0 for the bridge: bit k - 1 is its port k.
+    #[tactic(auto, unfolding(crate::specs::Tables::bridge_of))]
+    pub fn isolated_mask(&self, device: u8) -> u64
+        requires { device < 65 }
+        ensures { result ≡ bits_of (λ j. ((bridge_of self.now).rule (64 * device + j)).isolated) 64 }
+    {
+        self.rules.isolated_mask(device)
+    }
+
     /// The isolated ports.
     #[tactic(auto, unfolding(crate::specs::Tables::bridge_of))]
     pub fn isolated(&self) -> PortSet
@@ -165,8 +193,8 @@ impl Config {
 
     /// The ports of the static entry for an address in a VLAN; None exactly where there is no such entry.
     #[tactic(auto, unfolding(crate::specs::Tables::bridge_of))]
-    pub fn entry(&self, vid: Vid, address: Mac) -> Option<PortSet>
-        ensures { result ≡ option_map (λ e. e.ports) (static_for (bridge_of self.now).statics vid address.0) }
+    pub fn entry(&self, vid: Vid, address: Mac) -> Option<&PortSet>
+        ensures { option_copied result ≡ option_map (λ e. e.ports) (static_for (bridge_of self.now).statics vid address.0) }
     {
         self.statics.find(vid, address)
     }

@@ -1,5 +1,6 @@
 //! The members of one VLAN.
-ghost use Rattle.std.specs.Prelude.{◌≡◌, ℕ, ◌==◌, not, if◌then◌else◌, Some, None};
+ghost use Rattle.std.specs.Prelude.{◌≡◌, ℕ, ◌+◌, ◌*◌, ◌<◌, ◌==◌, not, if◌then◌else◌, Some, None};
+ghost use Rattle.exb_model.specs.Masks.{bits_of};
 ghost use Rattle.exb_model.specs.Ports.{port_in};
 ghost use Rattle.exb_model.specs.Configuration.{kind_in};
 ghost use Rattle.exb_model.specs.Refusals.{is_kind};
@@ -79,6 +80,18 @@ impl Members {
         match kind {
             Kind::Tagged => self.tagged.except(&self.untagged),
             Kind::Untagged => self.untagged,
+        }
+    }
+
+    /// The members of a kind that a device has, 0 for the bridge: bit k - 1 is its port k.
+    pub fn mask(&self, kind: Kind, device: u8) -> u64
+        requires { device < 65 }
+        ensures { result ≡ bits_of (λ j. is_kind kind (kind_in self.now.tagged self.now.untagged (64 * device + j))) 64 }
+    {
+        let untagged = self.untagged.mask(device);
+        match kind {
+            Kind::Tagged => self.tagged.mask(device) & !untagged,
+            Kind::Untagged => untagged,
         }
     }
 

@@ -1,5 +1,6 @@
 //! The rules of each port.
-ghost use Rattle.std.specs.Prelude.{◌≡◌, ℕ, ◌==◌, ◌<◌, length, slice_index_or, if◌then◌else◌, IfOk};
+ghost use Rattle.std.specs.Prelude.{◌≡◌, ℕ, ◌+◌, ◌*◌, ◌==◌, ◌<◌, length, slice_index_or, if◌then◌else◌, IfOk};
+ghost use Rattle.exb_model.specs.Masks.{bits_of};
 ghost use Rattle.exb_model.specs.Ports.{port_in};
 ghost use Rattle.exb_model.specs.Configuration.{default_rule};
 ghost use Rattle.exb_model.specs.declared.rules.PortRule.{PortRule};
@@ -82,6 +83,14 @@ impl PortRules {
         ensures { (q : ℕ) → port_in result q ≡ (rule_of self.now q).isolated }
     {
         self.isolated
+    }
+
+    /// The isolated ports of a device, 0 for the bridge: bit k - 1 is its port k.
+    pub fn isolated_mask(&self, device: u8) -> u64
+        requires { device < 65 }
+        ensures { result ≡ bits_of (λ j. (rule_of self.now (64 * device + j)).isolated) 64 }
+    {
+        self.isolated.mask(device)
     }
 
     /// Sets the rule of a port.

@@ -1,5 +1,5 @@
 //! The static entries, in their order.
-ghost use Rattle.std.specs.Prelude.{◌≡◌, ℕ, [], not, filter, slice_get, option_map, IfOk, OnOk, OnErr};
+ghost use Rattle.std.specs.Prelude.{◌≡◌, ℕ, [], not, filter, slice_get, option_copied, option_map, IfOk, OnOk, OnErr};
 ghost use Rattle.exb_model.specs.Configuration.{is_for, put_static};
 ghost use Rattle.exb_model.specs.Targets.{static_for};
 
@@ -50,10 +50,14 @@ impl StaticEntries {
     }
 
     /// The ports of the entry for an address in a VLAN.
-    pub fn find(&self, vid: Vid, address: Mac) -> Option<PortSet>
-        ensures { result ≡ option_map (λ e. e.ports) (static_for self.now vid address.0) }
+    pub fn find(&self, vid: Vid, address: Mac) -> Option<&PortSet>
+        ensures { option_copied result ≡ option_map (λ e. e.ports) (static_for self.now vid address.0) }
     {
-        self.entries.get(&Station { vid, address }).copied()
+        // Most configurations have no entry, and then nothing is hashed.
+        if self.entries.is_empty() {
+            return None;
+        }
+        self.entries.get(&Station { vid, address })
     }
 
     /// The entry at a place, counted from 0.

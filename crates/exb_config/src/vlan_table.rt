@@ -1,9 +1,9 @@
 //! The members of each VLAN.
-ghost use Rattle.std.specs.Prelude.{◌≡◌, ℕ, ◌==◌, [], is_some, if◌then◌else◌, IfOk, OnOk, OnErr};
+ghost use Rattle.std.specs.Prelude.{◌≡◌, ℕ, ◌==◌, [], is_some, option_copied, if◌then◌else◌, IfOk, OnOk, OnErr};
 ghost use Rattle.std.specs.List.{list_any};
 ghost use Rattle.exb_model.specs.Ports.{all_ports};
 ghost use Rattle.exb_model.specs.Configuration.{kind_in};
-ghost use Rattle.exb_config.specs.Rows.{member_of};
+ghost use Rattle.exb_config.specs.Rows.{kind_by, member_of};
 
 use crate::members::Members;
 use exb_model::memory::NoMemory;
@@ -49,6 +49,14 @@ impl VlanTable {
         Ok(VlanTable {
             rows: self.rows.clone()?,
         })
+    }
+
+    /// The row of a VLAN; None exactly where it has no member.
+    pub fn row(&self, vid: Vid) -> Option<&Members>
+        ensures kinds { (q : ℕ) → kind_by (option_copied result) q ≡ member_of self.now vid q }
+        ensures known { is_some (option_copied result) ≡ list_any (λ q. is_some (member_of self.now vid q)) all_ports }
+    {
+        self.rows.get(&vid.number())
     }
 
     /// The members of a VLAN.

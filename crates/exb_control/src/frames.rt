@@ -22,6 +22,7 @@ use exb_model::memory::NoMemory;
 use exb_model::port::PortId;
 use exb_relay::{Ingress, relay};
 use std::alloc::Global;
+use std::mem;
 
 /// A frame that came: record `index` of its port, at `moment` nanoseconds.
 #[derive(Clone, Copy)]
@@ -56,16 +57,18 @@ fn learn(learned: &mut Learned, port: PortId, frame: &[u8], ingress: &Ingress)
     }
 }
 
-/// The event of a frame that is relayed.
-fn relayed(alloc: Global, arrived: &Arrived) -> Result<Event, NoMemory>
+/// The event of a frame that is relayed, with its bytes in memory that was kept for them.
+fn relayed(alloc: Global, arrived: &Arrived, spare: &mut Vec<u8>) -> Result<Event, NoMemory>
     ensures { IfOk result (λ event. event ≡ Event.Relay arrived.now.port arrived.now.index arrived.now.moment arrived.now.bytes.now) }
 {
-    let bytes = Bytes::from_slice(alloc, arrived.bytes)?;
+    let mut bytes = mem::replace(spare, Vec::new(alloc));
+    bytes.clear();
+    bytes.extend_from_slice(arrived.bytes)?;
     Ok(Event::Relay {
         port: arrived.port,
         index: arrived.index,
         moment: arrived.moment,
-        bytes,
+        bytes: Bytes::from_vec(bytes),
     })
 }
 
@@ -93,7 +96,8 @@ pub(crate) fn arrive(
         });
     }
     learned.reserve()?;
-    out.events.push(relayed(alloc, arrived)?)?;
+    let event = relayed(alloc, arrived, &mut out.spare)?;
+    out.events.push(event)?;
     fabric.is_fabric();
     out.ingress = relay(
         fabric.tree(),

@@ -18,6 +18,8 @@ pub struct Outbox {
     pub sends: ArrayVec<SendTo, 256>,
     /// What became of the frame at its port.
     pub ingress: Ingress,
+    /// Memory for the bytes of the next event of a frame, which whoever calls may put here. What it holds has no meaning.
+    pub spare: Vec<u8>,
 }
 
 impl Outbox {
@@ -32,6 +34,7 @@ impl Outbox {
             asks: List::new(alloc),
             sends: ArrayVec::new(),
             ingress: Ingress::Dropped,
+            spare: Vec::new(alloc),
         }
     }
 

@@ -8,7 +8,7 @@ use Rattle.exb_ecp.specs.declared.pdu.EcpFault.TheVariants.{NotEcp, Cut, Version
 
 -- the destination 01-80-C2-00-00-0E, and EtherType 8940 at byte 12
 abbrev pub is_ecp : List ℕ → Bool
-is_ecp frame = nat_le 14 (length frame) && (is_control_frame frame && number_at frame 12 == 35136)
+is_ecp frame = nat_le 14 (length frame) && (is_control_frame frame && number_at frame 12 == 0x8940)
 
 -- version (4 bits), operation (2) and subtype (10) at byte 14
 abbrev pub version : List ℕ → ℕ
@@ -47,7 +47,7 @@ header_word p = 4096 + (if p.acknowledgement then 1 else 0) * 1024 + p.subtype
 
 abbrev pub spelling : Mac → Pdu → List ℕ → List ℕ
 spelling source p payload =
-    control_address ++ source.0 ++ two_bytes 35136 ++ two_bytes (header_word p) ++ two_bytes p.sequence ++ carried p payload
+    control_address ++ source.0 ++ two_bytes 0x8940 ++ two_bytes (header_word p) ++ two_bytes p.sequence ++ carried p payload
 
 -- a frame that is written is read again, as the header and the payload that it carries
 pub record IsReadAgain (source : Mac) (p : Pdu) (payload : List ℕ) : Type 0 where

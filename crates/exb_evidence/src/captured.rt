@@ -1,5 +1,5 @@
 //! The frames of one file.
-ghost use Rattle.std.specs.Prelude.{◌≡◌, ◌<◌, ◌≤◌, ◌⊎◌, [], None, length, IfOk, IfErr, IsErrOf};
+ghost use Rattle.std.specs.Prelude.{◌≡◌, ◌<◌, ◌≤◌, ◌⊎◌, [], None, IfOk, IfErr, IsErrOf};
 ghost use Rattle.exb_capture.specs.Captures.{capture_records};
 ghost use Rattle.exb_capture.specs.Counts.{after_looking};
 ghost use Rattle.exb_capture.specs.Classic.{pcap_records};
@@ -71,12 +71,9 @@ fn take_frames<S: Shelf>(
     alloc: Global,
     shelf: &mut S,
     file: &mut CaptureFile,
-    piece: &mut [u8],
 ) -> Result<Taken, Halt>
     requires at { IsAt (S.ids shelf.old file.old.id) file.old.got }
-    requires piece { 0 < length piece.old }
     requires sound { IsSound file.old }
-    ensures piece { length piece.new ≡ length piece.old }
     ensures whole { S.tells → IfOk result (λ taken. HasRead (bytes_of (S.file shelf.old (S.ids shelf.old file.old.id).name)) [] file.old
         → IsTaken capture_records file.old.limit (bytes_of (S.file shelf.old (S.ids shelf.old file.old.id).name)) taken) }
     ensures halts { S.tells → IfErr result (λ halt. HasRead (bytes_of (S.file shelf.old (S.ids shelf.old file.old.id).name)) [] file.old
@@ -89,8 +86,8 @@ fn take_frames<S: Shelf>(
     ensures failed { IsErrOf result Halt.Failed → Rose (S.faults shelf.old).reads (S.faults shelf.new).reads }
 {
     let mut frames = Vec::new(alloc);
-    'records: while let Some(_) = file.ahead(shelf, piece)? {
-        let Ok(frame) = file.take(alloc) else {
+    'records: while let Some(_) = file.ahead(shelf)? {
+        let Ok(frame) = file.take(Vec::new(alloc)) else {
             return Err(Halt::Memory);
         };
         if frames.push(frame).is_err() {
@@ -109,10 +106,7 @@ pub(crate) fn take_capture<S: Shelf>(
     shelf: &mut S,
     one: &PortFile,
     left: u64,
-    piece: &mut [u8],
 ) -> Result<Taken, FramesFault>
-    requires piece { 0 < length piece.old }
-    ensures piece { length piece.new ≡ length piece.old }
     ensures taken { S.tells → IfOk result (IsTakenOf capture_records left (S.file shelf.old one.now.name)) }
     ensures flaw { S.tells → IfErr result (λ fault. IsFlaw capture_records left one.now (S.file shelf.old one.now.name) fault ⊎ (fault ≡ FramesFault.Read) ⊎ (fault ≡ FramesFault.Memory)) }
     ensures bytes { IfOk result (λ taken. taken.bytes ≤ left) }
@@ -125,7 +119,7 @@ pub(crate) fn take_capture<S: Shelf>(
         Ok(file) => file,
         Err(fault) => return Err(unopened(alloc, &one.name, fault)),
     };
-    match take_frames(alloc, shelf, &mut file, piece) {
+    match take_frames(alloc, shelf, &mut file) {
         Ok(taken) => Ok(taken),
         Err(halt) => Err(halted(one.port, halt)),
     }
@@ -136,10 +130,7 @@ fn first_byte<S: Shelf>(
     alloc: Global,
     shelf: &mut S,
     name: &Text,
-    piece: &mut [u8],
 ) -> Result<Option<u8>, FramesFault>
-    requires piece { 0 < length piece.old }
-    ensures piece { length piece.new ≡ length piece.old }
     ensures first { S.tells → IfOk result (λ first. BeginsWith first (S.file shelf.old name.now)) }
     ensures fault { S.tells → IfErr result (λ fault. ((S.file shelf.old name.now ≡ None) × (fault ≡ FramesFault.Missing name.now)) ⊎ (fault ≡ FramesFault.Read) ⊎ (fault ≡ FramesFault.Memory)) }
     ensures port { IfErr result IsOfPort }
@@ -151,8 +142,8 @@ fn first_byte<S: Shelf>(
         Ok(id) => id,
         Err(fault) => return Err(unopened(alloc, name, fault)),
     };
-    let (first, _) = piece.split_at_mut(1);
-    let n = match shelf.read(id, first) {
+    let mut first = [0u8; 1];
+    let n = match shelf.read(id, &mut first) {
         Ok(n) => n,
         Err(fault) => return Err(unread(fault)),
     };
@@ -182,10 +173,7 @@ pub(crate) fn take_classic<S: Shelf>(
     shelf: &mut S,
     one: &PortFile,
     left: u64,
-    piece: &mut [u8],
 ) -> Result<Taken, FramesFault>
-    requires piece { 0 < length piece.old }
-    ensures piece { length piece.new ≡ length piece.old }
     ensures taken { S.tells → IfOk result (IsTakenOf pcap_records left (S.file shelf.old one.now.name)) }
     ensures flaw { S.tells → IfErr result (λ fault. IsFlaw pcap_records left one.now (S.file shelf.old one.now.name) fault ⊎ (fault ≡ FramesFault.Read) ⊎ (fault ≡ FramesFault.Memory)) }
     ensures bytes { IfOk result (λ taken. taken.bytes ≤ left) }
@@ -194,7 +182,7 @@ pub(crate) fn take_classic<S: Shelf>(
     ensures files { SameFiles (S.file shelf.old) (S.file shelf.new) }
     ensures faults { CountsFrames result (S.faults shelf.old) (S.faults shelf.new) }
 {
-    let first = first_byte(alloc, shelf, &one.name, piece)?;
+    let first = first_byte(alloc, shelf, &one.name)?;
     let Some(byte) = first else {
         return Err(no_classic(one.port));
     };
@@ -204,5 +192,5 @@ pub(crate) fn take_classic<S: Shelf>(
     if byte == 10 {
         return Err(no_classic(one.port));
     }
-    take_capture(alloc, shelf, one, left, piece)
+    take_capture(alloc, shelf, one, left)
 }

@@ -1,5 +1,5 @@
 //! The frames of several files, by port.
-ghost use Rattle.std.specs.Prelude.{◌≡◌, ◌<◌, ◌≤◌, ◌⊎◌, length, IfOk, IfErr};
+ghost use Rattle.std.specs.Prelude.{◌≡◌, ◌<◌, ◌≤◌, ◌⊎◌, IfOk, IfErr};
 ghost use Rattle.exb_shelf.specs.Files.{SameFiles};
 ghost use Rattle.exb_shelf.specs.Shelf.{Opens, IsReadingOf};
 ghost use Rattle.exb_evidence.specs.Capturing.{IsTakenOf};
@@ -11,7 +11,7 @@ use exb_capture::Fault;
 use exb_model::memory::NoMemory;
 use exb_model::port::PortId;
 use exb_model::text::Text;
-use exb_shelf::{PIECE, Shelf, room};
+use exb_shelf::Shelf;
 use std::alloc::Global;
 
 /// The most bytes of all captures together, of all output files together, of a journal, and of a trace.
@@ -66,10 +66,7 @@ fn take_file<S: Shelf>(
     one: &PortFile,
     grammar: Grammar,
     left: u64,
-    piece: &mut [u8],
 ) -> Result<Taken, FramesFault>
-    requires piece { 0 < length piece.old }
-    ensures piece { length piece.new ≡ length piece.old }
     ensures taken { S.tells → IfOk result (IsTakenOf (records_by grammar) left (S.file shelf.old one.now.name)) }
     ensures flaw { S.tells → IfErr result (λ fault. IsFlaw (records_by grammar) left one.now (S.file shelf.old one.now.name) fault ⊎ (fault ≡ FramesFault.Read) ⊎ (fault ≡ FramesFault.Memory)) }
     ensures bytes { IfOk result (λ taken. taken.bytes ≤ left) }
@@ -79,8 +76,8 @@ fn take_file<S: Shelf>(
     ensures faults { CountsFrames result (S.faults shelf.old) (S.faults shelf.new) }
 {
     match grammar {
-        Grammar::Either => take_capture(alloc, shelf, one, left, piece),
-        Grammar::Classic => take_classic(alloc, shelf, one, left, piece),
+        Grammar::Either => take_capture(alloc, shelf, one, left),
+        Grammar::Classic => take_classic(alloc, shelf, one, left),
     }
 }
 
@@ -105,14 +102,10 @@ pub fn read_frames<S: Shelf>(
 
     ensures faults { CountsFrames result (S.faults shelf.old) (S.faults shelf.new) }
 {
-    let Ok(mut piece) = room(alloc, PIECE) else {
-        return Err(FramesFault::Memory);
-    };
-    let piece = piece.as_mut_slice();
     let mut left = u64::from(limit);
     let mut all = Vec::new(alloc);
     'files: for one in files {
-        let taken = take_file(alloc, shelf, one, grammar, left, piece)?;
+        let taken = take_file(alloc, shelf, one, grammar, left)?;
         left -= taken.bytes;
         let frames = taken.frames;
         let port = one.port;

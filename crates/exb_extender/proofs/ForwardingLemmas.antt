@@ -248,7 +248,7 @@ outs_given f p t tag frames long is =
 pub tagged_long : (f : List ℕ) (tag : Tag) → Some tag ≡ read_etag f → 20 ≤ length f
 tagged_long f tag is =
     elim (cases_Bool (has_etag f)) [
-      | inl has ↦ leb-true 20 (length f) (and_parts (nat_le 20 (length f)) (number_at f 12 == 35135 && number_at f 18 == 0) has).0
+      | inl has ↦ leb-true 20 (length f) (and_parts (nat_le 20 (length f)) (number_at f 12 == 0x893F && number_at f 18 == 0) has).0
       | inr out ↦ absurd (some_none (rw out at is))
     ]
   where

@@ -37,7 +37,7 @@ channel_tag channel = record { pcp = 0; dei = false; ingress = 0; ecid = channel
 
 -- the type 89 3F at byte 12, whether an E-TAG can be read there or not
 abbrev pub has_etag_type : List ℕ → Bool
-has_etag_type f = number_at f 12 == 35135
+has_etag_type f = number_at f 12 == 0x893F
 
 -- a control frame without an E-TAG; a frame of under 14 bytes has no type, and is none
 unfoldable pub is_bare_control : List ℕ → Bool

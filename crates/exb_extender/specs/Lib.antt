@@ -1,4 +1,5 @@
 pub mod Kept
+pub mod MemberSets
 pub mod Rows
 pub mod Tables
 pub mod Forwarding

@@ -1,6 +1,6 @@
 -- Tables as lists by port and rows by E-CID.
 use Rattle.std.specs.Prelude.{ℕ, Bool, false, List, slice_index, slice_index_or}
-use Rattle.exb_members.specs.Rows.{row_of}
+use Rattle.exb_extender.specs.MemberSets.{row_of}
 use Rattle.exb_csp.specs.Execute.{ExtenderTables, in_mask}
 
 -- the tables that these are: the channel and the kind of each port, and the ports of each E-CID

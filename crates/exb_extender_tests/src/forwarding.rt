@@ -4,7 +4,6 @@ use crate::drive::{Step, judge};
 use crate::fixture::Fixture;
 use crate::words::{bytes_of, put_bytes, same};
 use exb_frame::etag::{ETag, tag_into};
-use exb_model::buffers::FrameBuf;
 use std::alloc::Global;
 use std::process::Abort;
 
@@ -182,7 +181,7 @@ const TAG: ETag = ETag {
 };
 
 // Puts the E-TAG into a frame, and asserts what comes of it.
-fn tag(rt: &impl Abort, alloc: Global, frame: &[u8], word: &mut FrameBuf) {
+fn tag(rt: &impl Abort, alloc: Global, frame: &[u8], word: &mut Vec<u8>) {
     let mut text = String::new(alloc);
     assert!(rt; frame.len() >= 12);
     assert!(rt; tag_into(frame, &TAG, word).is_ok());
@@ -200,7 +199,7 @@ fn expect_two(rt: &impl Abort, fixture: &mut Fixture, word: &[u8]) {
 fn an_e_tag_of_a_station_comes_out_as_it_was(rt: HostRuntime) {
     let alloc = rt.alloc();
     let frame = bytes_of(&rt, alloc, STATIONS);
-    let mut word = FrameBuf::new();
+    let mut word = Vec::new(alloc);
     tag(&rt, alloc, frame.as_slice(), &mut word);
     expect_two(&rt, &mut laid(&rt, alloc), word.as_slice());
 }

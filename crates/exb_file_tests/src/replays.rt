@@ -8,8 +8,9 @@ use crate::compare::{same, same_at};
 use crate::hostile::bytes_of;
 use crate::pcapng::ROW;
 use crate::scans::{CUTS, Change, MAGIC, capture, changed, name_of, shelf_with};
-use exb_capture::{Replay, ReplayFault, Replayed, Scanned, scan};
+use exb_capture::{Replay, ReplayFault, Scanned, scan};
 use exb_faulty::{Disturbance, FaultyShelf};
+use exb_model::bytes::Bytes;
 use std::alloc::Global;
 use std::process::Abort;
 
@@ -130,9 +131,9 @@ fn put(rt: &impl Abort, text: &mut String, more: &str) {
 }
 
 // Puts a record behind a text.
-fn put_record(rt: &impl Abort, alloc: Global, text: &mut String, record: &Replayed) {
-    let length = record.bytes.as_slice().len();
-    let one = format!(in alloc; "{} {length}; ", record.moment).expect(rt, "memory");
+fn put_record(rt: &impl Abort, alloc: Global, text: &mut String, moment: u64, bytes: &Bytes) {
+    let length = bytes.as_slice().len();
+    let one = format!(in alloc; "{moment} {length}; ").expect(rt, "memory");
     put(rt, text, one.as_str());
 }
 
@@ -148,16 +149,17 @@ fn play_on(
     alloc: Global,
     shelf: &mut FaultyShelf,
     replay: &mut Replay,
-    piece: &mut [u8],
     text: &mut String,
 )
     requires at { IsAt (ids_of shelf.old replay.old.file.id) replay.old.file.got }
     requires kept { IsKept replay.old }
-    requires piece { 0 < length piece.old }
 {
     'records: for _record in 0..9u32 {
-        match replay.next(alloc, shelf, piece) {
-            Ok(Some(next)) => put_record(rt, alloc, text, &next),
+        match replay.ahead(shelf) {
+            Ok(Some(moment)) => {
+                let bytes = replay.take(moment, Vec::new(alloc)).expect(rt, "memory");
+                put_record(rt, alloc, text, moment, &bytes);
+            }
             Ok(None) => return put(rt, text, "end"),
             Err(fault) => return put_fault(rt, alloc, text, fault),
         }
@@ -173,17 +175,8 @@ fn replay_text(
 ) -> String {
     assert!(rt; scanned.bytes < 1_000_000);
     let mut text = String::new(alloc);
-    let mut piece = vec![in alloc; 0u8; 65_536].expect(rt, "memory");
-    assert!(rt; piece.len() > 0);
     match Replay::open(alloc, shelf, "in.pcap", scanned) {
-        Ok(mut replay) => play_on(
-            rt,
-            alloc,
-            shelf,
-            &mut replay,
-            piece.as_mut_slice(),
-            &mut text,
-        ),
+        Ok(mut replay) => play_on(rt, alloc, shelf, &mut replay, &mut text),
         Err(fault) => put_fault(rt, alloc, &mut text, fault),
     }
     text

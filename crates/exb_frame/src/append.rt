@@ -1,13 +1,23 @@
-//! Bytes put behind others in a frame's buffer.
-ghost use Rattle.std.specs.Prelude.{◌≡◌, ◌+◌, ◌≤◌, ◌++◌, length};
-ghost use Rattle.arrayvec.specs.ArrayVec.{array_vec_len};
+//! Bytes put one behind another in a buffer that grows.
+ghost use Rattle.std.specs.Prelude.{◌≡◌, ◌++◌, [], OnOk};
 
-use exb_model::buffers::FrameBuf;
+use exb_model::memory::NoMemory;
 
-/// Appends bytes for which there is room.
-pub(crate) fn append(out: &mut FrameBuf, bytes: &[u8])
-    requires { array_vec_len out.old + length bytes.now ≤ 9232 }
-    ensures { out.new.items ≡ out.old.items ++ bytes.now }
+/// Empties a buffer, and makes room for so many bytes.
+#[inline(always)]
+pub(crate) fn begin(size: usize, into: &mut Vec<u8>) -> Result<(), NoMemory>
+    ensures { into.new.items ≡ [] }
 {
-    let _ = out.try_extend_from_slice(bytes);
+    into.clear();
+    into.reserve(size)?;
+    Ok(())
+}
+
+/// Puts bytes behind others.
+#[inline(always)]
+pub(crate) fn put(bytes: &[u8], into: &mut Vec<u8>) -> Result<(), NoMemory>
+    ensures { OnOk result (into.new.items ≡ into.old.items ++ bytes.now) }
+{
+    into.extend_from_slice(bytes)?;
+    Ok(())
 }

@@ -1,6 +1,6 @@
 //! The kind of a frame.
-ghost use Rattle.std.specs.Prelude.{◌≡◌, ◌≢◌, ◌≤◌, ◌<◌, ◌+◌, true, length};
-ghost use Rattle.exb_model.specs.Frames.{kind_of, priority_of, is_reserved, kind_of_tag};
+ghost use Rattle.std.specs.Prelude.{◌≡◌, ◌≢◌, ◌≤◌, ◌<◌, ◌==◌, true, length};
+ghost use Rattle.exb_model.specs.Frames.{kind_of, priority_of, is_reserved, kind_of_tag, number_at};
 ghost use Rattle.exb_model.specs.EagerHistory.{is_relayed_kind};
 
 use exb_model::bytes::number_at;
@@ -20,6 +20,15 @@ fn is_reserved(frame: &[u8]) -> bool
         && frame[3] == 0
         && frame[4] == 0
         && frame[5] < 16
+}
+
+/// Whether a VLAN tag stands behind the addresses of a frame, by its type.
+#[inline(always)]
+pub(crate) fn has_vlan_type(frame: &[u8]) -> bool
+    requires { 14 ≤ length frame.now }
+    ensures { result ≡ (number_at frame.now 12 == 0x8100) }
+{
+    number_at(frame, 12) == VLAN_TYPE
 }
 
 fn kind_of_tag(tci: u16) -> Seen
@@ -55,7 +64,7 @@ pub fn classify(frame: &[u8]) -> Seen
     if is_reserved(frame) {
         return Seen::Reserved;
     }
-    if number_at(frame, 12) == VLAN_TYPE {
+    if has_vlan_type(frame) {
         if frame.len() < 18 {
             return Seen::BadTag;
         }

@@ -1,19 +1,15 @@
 //! The E-TAG.
-ghost use Rattle.std.specs.Prelude.{◌≡◌, ℕ, ◌+◌, ◌≤◌, ◌<◌, ◌↔◌, [], length, IsErr, OnOk, OnErr};
+ghost use Rattle.std.specs.Prelude.{◌≡◌, ◌≤◌, length, drop, OnOk};
 ghost use Rattle.std.specs.Option.{option_map};
 ghost use Rattle.exb_model.specs.ETags.{TagFits, read_etag, etag_bytes, tagged, stripped};
 ghost use Rattle.exb_frame.specs.TagValues.{tag_of};
 
-use crate::append::append;
+use crate::append::{begin, put};
 use byteorder::{BigEndian, ByteOrder};
-use exb_model::buffers::FrameBuf;
+use exb_model::memory::NoMemory;
 
 /// The EtherType of an E-TAG.
 pub const E_TAG_TYPE: u16 = 0x893F;
-
-/// A result that exceeds a `FrameBuf`.
-#[derive(Clone, Copy, Debug, PartialEq, Eq)]
-pub struct Full;
 
 /// The fields of an E-TAG (after IEEE 802.1BR): the priority of the frame (PCP below 8, DEI), the E-CID of
 /// the port by which it came (below 4,096; 0 for none), and the E-CID to which it goes (below 16,384: one
@@ -64,39 +60,38 @@ impl ETag {
     }
 }
 
-/// Puts an E-TAG in at byte 12. Full exactly where the result exceeds 9,232 bytes; `out` is then empty.
-pub fn tag_into(frame: &[u8], tag: &ETag, out: &mut FrameBuf) -> Result<(), Full>
+/// A frame with an E-TAG put in at byte 12, in place of what was in `into`.
+pub fn tag_into(frame: &[u8], tag: &ETag, into: &mut Vec<u8>) -> Result<(), NoMemory>
     requires long { 12 ≤ length frame.now }
     requires fits { TagFits (tag_of tag.now) }
-    ensures full { IsErr result ↔ (9232 < length frame.now + 8) }
-    ensures ok { OnOk result (out.new.items ≡ tagged frame.now (tag_of tag.now)) }
-    ensures fitting { length frame.now ≤ 9224 → out.new.items ≡ tagged frame.now (tag_of tag.now) }
-    ensures err { OnErr result (out.new.items ≡ []) }
+    ensures { OnOk result (into.new.items ≡ tagged frame.now (tag_of tag.now)) }
 {
-    out.clear();
-    if frame.len() > 9224 {
-        return Err(Full);
-    }
-    append(out, &frame[..12]);
-    append(out, &tag.write());
-    append(out, &frame[12..]);
-    Ok(())
+    begin(frame.len().saturating_add(8), into)?;
+    put(&frame[..12], into)?;
+    put(&tag.write(), into)?;
+    put(&frame[12..], into)
 }
 
-/// Takes the eight bytes at byte 12 out. Full exactly where the result exceeds 9,232 bytes; `out` is then
-/// empty.
-pub fn strip_into(frame: &[u8], out: &mut FrameBuf) -> Result<(), Full>
+/// A frame without the eight bytes at byte 12, in place of what was in `into`.
+#[inline(always)]
+pub fn strip_into(frame: &[u8], into: &mut Vec<u8>) -> Result<(), NoMemory>
     requires { 20 ≤ length frame.now }
-    ensures full { IsErr result ↔ (9232 + 8 < length frame.now) }
-    ensures ok { OnOk result (out.new.items ≡ stripped frame.now) }
-    ensures fitting { length frame.now ≤ 9240 → out.new.items ≡ stripped frame.now }
-    ensures err { OnErr result (out.new.items ≡ []) }
+    ensures { OnOk result (into.new.items ≡ stripped frame.now) }
 {
-    out.clear();
-    if frame.len() > 9240 {
-        return Err(Full);
-    }
-    append(out, &frame[..12]);
-    append(out, &frame[20..]);
-    Ok(())
+    begin(frame.len(), into)?;
+    put(&frame[..12], into)?;
+    put(&frame[20..], into)
+}
+
+/// Takes the eight bytes at byte 12 out where they stand: the addresses are moved, and the frame without them is what stands
+/// from byte 8 on.
+#[inline(always)]
+pub fn strip_in_place(bytes: &mut Vec<u8>)
+    requires { 20 ≤ length bytes.old.items }
+    ensures stripped { drop 8 bytes.new.items ≡ stripped bytes.old.items }
+    ensures len { length bytes.new.items ≡ length bytes.old.items }
+{
+    let mut addresses = [0u8; 12];
+    addresses.copy_from_slice(&bytes[..12]);
+    bytes[8..20].copy_from_slice(&addresses);
 }

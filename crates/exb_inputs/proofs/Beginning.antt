@@ -19,7 +19,7 @@ use Rattle.exb_capture.specs.Scans.{first_time, scanned_of}
 use Rattle.exb_shelf.specs.Files.{Files, bytes_of}
 use Rattle.exb_tables.specs.declared.rows.Named.{Named}
 use Rattle.exb_inputs.specs.declared.checked.Checked.{Checked}
-use Rattle.exb_inputs.specs.Again.{earlier, earliest_told, first_standing, start_told, stream_told}
+use Rattle.exb_inputs.specs.Again.{AreSince, earlier, earliest_told, first_standing, seconds_told, start_told, stream_told}
 use Rattle.exb_inputs.specs.Checks.{IsGood, IsToldOf, most_bytes}
 use Rattle.exb_inputs.specs.Inputs.{bytes_at, bytes_named, input_from, is_named, name_of, records_at}
 
@@ -73,7 +73,7 @@ few-ports test = few-range test 0 4160
 abbrev pub ports_in : List Checked → List ℕ
 ports_in cs = map (λ c. c.port) cs
 
-told-streams : (i : Input) (names : List Named) (file : Files) (cs : List Checked) → i.records ≡ records_at names file → map (stream_told names file) cs ≡ map (stream_at i) (ports_in cs)
+pub told-streams : (i : Input) (names : List Named) (file : Files) (cs : List Checked) → i.records ≡ records_at names file → map (stream_told names file) cs ≡ map (stream_at i) (ports_in cs)
 told-streams i names file [] same = refl
 told-streams i names file (c ∷ cs) same =
     ap (λ (ss : List Stream). stream_told names file c ∷ ss) (told-streams i names file cs same)
@@ -138,7 +138,7 @@ filter_first f g h (y ∷ ys) all = by_first (f (h y)) (g y) all.0 (filter_first
     by_first : (a b : Option ℕ) → a ≡ b → filter_map f (map h ys) ≡ filter_map g ys → more a (filter_map f (map h ys)) ≡ more b (filter_map g ys)
     by_first a b same rest = ap (λ (o : Option ℕ). more o (filter_map f (map h ys))) same ∙ ap (more b) rest
 
-firsts-are : (names : List Named) (file : Files) (cs : List Checked) → AllByRecursion (IsTold names file) cs → filter_map second_first (map (stream_told names file) cs) ≡ filter_map second_told cs
+pub firsts-are : (names : List Named) (file : Files) (cs : List Checked) → AllByRecursion (IsTold names file) cs → filter_map second_first (map (stream_told names file) cs) ≡ seconds_told cs
 firsts-are names file cs all = filter_first second_first second_told (stream_told names file) cs (all-first cs all)
   where
     all-first : (ds : List Checked) → AllByRecursion (IsTold names file) ds → AllByRecursion (λ d. second_first (stream_told names file d) ≡ second_told d) ds
@@ -245,10 +245,10 @@ listed-more xs None ys = ap (λ (zs : List ℕ). zs ++ ys) (append-nil xs)
 listed-more xs (Some x) ys = append_assoc xs (x ∷ []) ys
 
 -- with those of some captures more
-pub earliest-least : (xs : List ℕ) (o : Option ℕ) (cs : List Checked) → IsLeastOf xs o → IsLeastOf (xs ++ filter_map (λ (c : Checked). option_map second_of c.told.first) cs) (earliest_told o cs)
+pub earliest-least : (xs : List ℕ) (o : Option ℕ) (cs : List Checked) → IsLeastOf xs o → IsLeastOf (xs ++ seconds_told cs) (earliest_told o cs)
 earliest-least xs o [] is = subst (λ (ys : List ℕ). IsLeastOf ys o) (sym (append-nil xs)) is
 earliest-least xs o (c ∷ cs) is =
-    subst (λ (ys : List ℕ). IsLeastOf ys (earliest_told (earlier o c.told.first) cs)) (listed-more xs (second_told c) (filter_map second_told cs))
+    subst (λ (ys : List ℕ). IsLeastOf ys (earliest_told (earlier o c.told.first) cs)) (listed-more xs (second_told c) (seconds_told cs))
     (earliest-least (xs ++ listed (second_told c)) (earlier o c.told.first) cs (least-next xs o c.told.first is))
 
 pub least-end : (xs : List ℕ) (o : Option ℕ) → IsLeastOf xs o → unwrap_or o 0 ≡ least_or 0 xs
@@ -256,23 +256,23 @@ least-end [] o is = ap (λ (b : Option ℕ). unwrap_or b 0) is
 least-end (n ∷ ns) o is = ap (λ (b : Option ℕ). unwrap_or b 0) is
 
 pub earliest-start : (cs : List Checked) → unwrap_or (earliest_told None cs) 0 ≡ start_told cs
-earliest-start cs = least-end (filter_map second_told cs) (earliest_told None cs) (earliest-least [] None cs refl)
+earliest-start cs = least-end (seconds_told cs) (earliest_told None cs) (earliest-least [] None cs refl)
 
 -- none of them is before it
 below-all : (m k : ℕ) (xs : List ℕ) → m ≤ k → AllByRecursion (λ x. k ≤ x) xs → AllByRecursion (λ x. m ≤ x) xs
 below-all m k [] low all = tt
 below-all m k (x ∷ xs) low all = (let own = all.0 in omega (arith, low, own), below-all m k xs low all.1)
 
-least-low : (d : ℕ) (xs : List ℕ) → AllByRecursion (λ x. least_or d xs ≤ x) xs
+pub least-low : (d : ℕ) (xs : List ℕ) → AllByRecursion (λ x. least_or d xs ≤ x) xs
 least-low d [] = tt
 least-low d (n ∷ ns) = (omega arith, below-all (min n (least_or n ns)) (least_or n ns) ns (omega arith) (least-low n ns))
 
-told-since-all : (m : ℕ) (cs : List Checked) → AllByRecursion (λ x. m ≤ x) (filter_map second_told cs) → AllByRecursion (λ (c : Checked). IfSome c.told.first (λ first. m ≤ second_of first)) cs
+told-since-all : (m : ℕ) (cs : List Checked) → AllByRecursion (λ x. m ≤ x) (seconds_told cs) → AllByRecursion (λ (c : Checked). IfSome c.told.first (λ first. m ≤ second_of first)) cs
 told-since-all m [] all = tt
 told-since-all m (c ∷ cs) all = by_told c.told.first (told-since-all m cs) all
   where
-    by_told : (o : Option ℕ) → (AllByRecursion (λ x. m ≤ x) (filter_map second_told cs) → AllByRecursion (λ (d : Checked). IfSome d.told.first (λ first. m ≤ second_of first)) cs) →
-        AllByRecursion (λ x. m ≤ x) (more (option_map second_of o) (filter_map second_told cs)) →
+    by_told : (o : Option ℕ) → (AllByRecursion (λ x. m ≤ x) (seconds_told cs) → AllByRecursion (λ (d : Checked). IfSome d.told.first (λ first. m ≤ second_of first)) cs) →
+        AllByRecursion (λ x. m ≤ x) (more (option_map second_of o) (seconds_told cs)) →
         IfSome o (λ first. m ≤ second_of first) × AllByRecursion (λ (d : Checked). IfSome d.told.first (λ first. m ≤ second_of first)) cs
     by_told None later rest = (tt, later rest)
     by_told (Some first) later rest = (rest.0, later rest.1)
@@ -282,28 +282,29 @@ all-got P [] k d low all = absurd (omega (arith, low))
 all-got P (x ∷ xs) zero d low all = all.0
 all-got P (x ∷ xs) (suc k) d low all = all-got P xs k d (omega (arith, low)) all.1
 
+pub since-told : (m : ℕ) (cs : List Checked) → AllByRecursion (λ x. m ≤ x) (seconds_told cs) → AreSince m cs
+since-told m cs all k d low = all-got (λ (c : Checked). IfSome c.told.first (λ first. m ≤ second_of first)) cs k d low (told-since-all m cs all)
+
 -- the start isn't behind the first record of any
-pub told-since : (cs : List Checked) (at : ℕ) (c : Checked) → at < length cs → c ≡ get_or cs at c → IfSome c.told.first (λ first. start_told cs ≤ second_of first)
-told-since cs at c low is =
-    subst (λ (d : Checked). IfSome d.told.first (λ first. start_told cs ≤ second_of first)) (sym is)
-    (all-got (λ (d : Checked). IfSome d.told.first (λ first. start_told cs ≤ second_of first)) cs at c low (told-since-all (start_told cs) cs (least-low 0 (filter_map second_told cs))))
+pub since-start : (cs : List Checked) → AreSince (start_told cs) cs
+since-start cs = since-told (start_told cs) cs (least-low 0 (seconds_told cs))
 
 -- the start is below 2^32 seconds
-start-low : (xs : List ℕ) (d : ℕ) → d < 2 ^ 32 → AllByRecursion (λ x. x < 2 ^ 32) xs → least_or d xs < 2 ^ 32
+pub start-low : (xs : List ℕ) (d : ℕ) → d < 2 ^ 32 → AllByRecursion (λ x. x < 2 ^ 32) xs → least_or d xs < 2 ^ 32
 start-low [] d low all = low
 start-low (x ∷ xs) d low all = (let own = all.0 in omega (arith, own))
 
-seconds-low : (cs : List Checked) → All (λ c. IfSome c.told.first (λ first. first < 2 ^ 32 * 1_000_000_000)) cs → AllByRecursion (λ x. x < 2 ^ 32) (filter_map second_told cs)
+pub seconds-low : (cs : List Checked) → All (λ c. IfSome c.told.first (λ first. first < 2 ^ 32 * 1_000_000_000)) cs → AllByRecursion (λ x. x < 2 ^ 32) (seconds_told cs)
 seconds-low [] all = tt
 seconds-low (c ∷ cs) all = by_told c.told.first (all 0 c (omega arith)) (seconds-low cs (λ k d low. all (suc k) d (omega (arith, low))))
   where
-    by_told : (o : Option ℕ) → IfSome o (λ first. first < 2 ^ 32 * 1_000_000_000) → AllByRecursion (λ x. x < 2 ^ 32) (filter_map second_told cs) →
-        AllByRecursion (λ x. x < 2 ^ 32) (more (option_map second_of o) (filter_map second_told cs))
+    by_told : (o : Option ℕ) → IfSome o (λ first. first < 2 ^ 32 * 1_000_000_000) → AllByRecursion (λ x. x < 2 ^ 32) (seconds_told cs) →
+        AllByRecursion (λ x. x < 2 ^ 32) (more (option_map second_of o) (seconds_told cs))
     by_told None is rest = rest
     by_told (Some first) is rest = (omega (arith, is), rest)
 
 pub start-fits : (cs : List Checked) → All (λ c. IfSome c.told.first (λ first. first < 2 ^ 32 * 1_000_000_000)) cs → start_told cs < 2 ^ 32
-start-fits cs all = start-low (filter_map second_told cs) 0 (omega arith) (seconds-low cs all)
+start-fits cs all = start-low (seconds_told cs) 0 (omega arith) (seconds-low cs all)
 
 -- ---- what was told of the file of this name
 pub record ToldNamed (names : List Named) (file : Files) (c : Checked) (name : List ℕ) : Type 0 where

@@ -1,5 +1,5 @@
 -- Captures that were checked, at their first records: where each stands, what is still to come of it, and when commands begin.
-use Rattle.std.specs.Prelude.{ℕ, List, [], ◌∷◌, filter_map, min, option_map, Option, Some, None}
+use Rattle.std.specs.Prelude.{◌≤◌, ℕ, List, [], ◌∷◌, All, filter_map, IfSome, min, option_map, Option, Some, None}
 use Rattle.exb_model.specs.Input.{least_or, second_of}
 use Rattle.exb_merge.specs.Replays.{Standing}
 use Rattle.exb_merge.specs.Streams.{Stream, stream_of}
@@ -8,10 +8,17 @@ use Rattle.exb_tables.specs.declared.rows.Named.{Named}
 use Rattle.exb_inputs.specs.declared.checked.Checked.{Checked}
 use Rattle.exb_inputs.specs.Inputs.{records_at}
 
--- The second from which commands count: the least whole second of the first record of any capture, or 0. It is that of the input, since the
--- moments of a port never fall.
+-- the whole seconds of the first records of some captures, of those that have any
+abbrev pub seconds_told : List Checked → List ℕ
+seconds_told checked = filter_map (λ (c : Checked). option_map second_of c.told.first) checked
+
+-- The second from which commands count: the least of them, or 0. It is that of the input, since the moments of a port never fall.
 abbrev pub start_told : List Checked → ℕ
-start_told checked = least_or 0 (filter_map (λ (c : Checked). option_map second_of c.told.first) checked)
+start_told checked = least_or 0 (seconds_told checked)
+
+-- no first record was told before this second
+abbrev pub AreSince : ℕ → List Checked → Type 0
+AreSince second checked = All (λ c. IfSome c.told.first (λ first. second ≤ second_of first)) checked
 
 -- the least second so far, with that of one capture more
 abbrev pub earlier : Option ℕ → Option ℕ → Option ℕ

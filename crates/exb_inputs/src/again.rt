@@ -1,11 +1,11 @@
 //! Captures that were checked are opened again.
-ghost use Rattle.std.specs.Prelude.{[], ◌≡◌, ◌≤◌, ◌<◌, ◌+◌, ◌++◌, ◌∷◌, ℕ, List, true, false, length, map, sum_by, IfOk, OnOk, IfErr, IfSome};
+ghost use Rattle.std.specs.Prelude.{[], ◌≡◌, ◌≤◌, ◌<◌, ◌+◌, ◌++◌, ◌∷◌, ℕ, List, true, false, map, sum_by, IfOk, OnOk, IfErr, IfSome};
 ghost use Rattle.std.specs.List.{AllByRecursion};
 ghost use Rattle.exb_model.specs.Input.{second_of};
 ghost use Rattle.exb_merge.specs.Replays.{AreOpened, AreReplays, AreToldSince, HasPort, ids_in, left_in, standings};
 ghost use Rattle.exb_merge.specs.Streams.{Stream};
 ghost use Rattle.exb_inputs.specs.Checks.{AreChecked, IsToldOf, most_bytes};
-ghost use Rattle.exb_inputs.specs.Again.{earlier, earliest_told, first_standing, start_told, stream_told};
+ghost use Rattle.exb_inputs.specs.Again.{AreSince, earlier, earliest_told, first_standing, start_told, stream_told};
 ghost use Rattle.exb_inputs.specs.Inputs.{is_named};
 ghost use Rattle.exb_inputs.specs.Shelving.{ReadsCapture, CountsFaults};
 ghost use Rattle.exb_inputs.specs.Reading.{IsChange, IsOfPlay};
@@ -56,17 +56,14 @@ pub fn start_of(checked: &[Checked]) -> u64
 fn open_one<S: Shelf>(
     alloc: Global,
     shelf: &mut S,
-    piece: &mut [u8],
     names: &[Named],
     one: &Checked,
     captures: &mut Replays,
 ) -> Result<(), Fault>
-    requires piece { 0 < length piece.old }
     requires opened { AreOpened (S.ids shelf.old) captures.old }
     requires named { is_named names.now one.now.port ≡ true }
     requires port { HasPort one.now.port (standings captures.old) → ⊥ }
     requires small { one.now.told.bytes ≤ most_bytes }
-    ensures piece { length piece.new ≡ length piece.old }
     ensures opened { OnOk result (AreOpened (S.ids shelf.new) captures.new) }
     ensures named { OnOk result (AllByRecursion (λ k. ReadsCapture names.now (S.ids shelf.old k)) (ids_in captures.old) → AllByRecursion (λ k. ReadsCapture names.now (S.ids shelf.new k)) (ids_in captures.new)) }
     ensures standings { OnOk result (standings captures.new ≡ standings captures.old ++ first_standing one.now ∷ []) }
@@ -83,7 +80,7 @@ fn open_one<S: Shelf>(
     ensures faults { CountsFaults result (S.faults shelf.old) (S.faults shelf.new) }
 {
     let name = name_of(names, one.port).unwrap();
-    captures.add(alloc, shelf, piece, one.port, name, one.told)?;
+    captures.add(alloc, shelf, one.port, name, one.told)?;
     Ok(())
 }
 
@@ -91,19 +88,16 @@ fn open_one<S: Shelf>(
 pub fn open_all<S: Shelf>(
     alloc: Global,
     shelf: &mut S,
-    piece: &mut [u8],
     names: &[Named],
     checked: &[Checked],
 ) -> Result<Replays, Fault>
-    requires piece { 0 < length piece.old }
     requires checked { AreChecked S.tells names.now (S.file shelf.old) checked.now }
-    ensures piece { length piece.new ≡ length piece.old }
     ensures opened { IfOk result (AreOpened (S.ids shelf.new)) }
     ensures named { IfOk result (λ captures. AllByRecursion (λ k. ReadsCapture names.now (S.ids shelf.new k)) (ids_in captures)) }
     ensures fresh { IfOk result (λ captures. AllByRecursion (λ k. (S.ids shelf.old k).given ≡ false) (ids_in captures)) }
     ensures standings { IfOk result (λ captures. standings captures ≡ map first_standing checked.now) }
     ensures left { IfOk result (λ captures. left_in captures ≤ sum_by (λ c. c.told.bytes + 1) checked.now) }
-    ensures since { IfOk result (AreToldSince (start_told checked.now)) }
+    ensures since { IfOk result (λ captures. (second : ℕ) → AreSince second checked.now → AreToldSince second captures) }
     ensures streams { S.tells → IfOk result (λ captures. AreReplays (S.file shelf.new) (S.ids shelf.new) captures.sources.items (map (stream_told names.now (S.file shelf.old)) checked.now)) }
     ensures never { S.tells → IfErr result (λ fault. IsChange fault → ⊥) }
     ensures opens { Opens (ReadsCapture names.now) (S.ids shelf.old) (S.ids shelf.new) }
@@ -114,7 +108,7 @@ pub fn open_all<S: Shelf>(
 {
     let mut captures = Replays::new(alloc);
     'opening: for one in checked {
-        open_one(alloc, shelf, piece, names, one, &mut captures)?;
+        open_one(alloc, shelf, names, one, &mut captures)?;
     }
     Ok(captures)
 }

@@ -3,6 +3,7 @@ pub mod Links
 pub mod Laid
 pub mod Tables
 pub mod Lookups
+pub mod Packing
 pub mod Slotted
 pub mod Stores
 pub mod Counting

@@ -1,8 +1,8 @@
 -- What is stored, after a call.
-use Rattle.std.proofs.Common.{◌≡◌, ◌≤◌, ◌<◌, ℕ, zero, suc, ◌+◌, ◌-◌, Bool, true, false, cond, refl, sym, ap, subst, ◌∙◌, arith, List, [], ◌∷◌, length, slice_get, is_some, Option, Some, None}
+use Rattle.std.proofs.Common.{◌≡◌, ◌≤◌, ◌<◌, ℕ, zero, suc, ◌+◌, ◌-◌, Bool, true, false, cond, ◌==◌, ◌&&◌, refl, sym, ap, subst, ◌∙◌, arith, List, [], ◌∷◌, length, slice_get, is_some, Option, Some, None}
 use Rattle.std.specs.List.{IsDistinct, position_or_len, swap_remove}
 use Rattle.std.specs.Map.{keys_of, lookup}
-use Rattle.std.proofs.lemmas.Bool.{true≢false}
+use Rattle.std.proofs.lemmas.Bool.{true≢false, eqb-true, and_parts}
 use Rattle.indexmap.specs.IndexMap.{insert_entry, set_value_at}
 use Rattle.exb_learn.specs.declared.key.StationKey.{StationKey}
 use Rattle.exb_learn.specs.declared.entries.Place.{Place}
@@ -132,3 +132,21 @@ stored_more es new room spare new_spare slots held ages ports new_ages new_ports
 pub room_put : (known : Option Place) (room held len long now : ℕ) → 1 ≤ room → held ≡ long → len ≡ now → now ≡ long + cond (is_some known) 0 1 → room - (len - held) + cond (is_some known) 0 1 ≡ room
 room_put None room held len long now some held_is len_is longer = omega (arith, some, held_is, len_is, longer)
 room_put (Some p) room held len long now some held_is len_is longer = omega (arith, some, held_is, len_is, longer)
+
+-- where a station has that place already, nothing has to change
+pub changes_none : (s : StationKey) (v : Place) (es : List (StationKey × Place)) → lookup (same s) es ≡ Some v → Changes es es s (Some v)
+changes_none s v es found q = by_test (same s q) refl
+  where
+    by_test : (b : Bool) → same s q ≡ b → lookup (same q) es ≡ cond b (Some v) (lookup (same q) es)
+    by_test true h = ap (λ x. lookup (same x) es) (sym (same_is s q h)) ∙ found
+    by_test false h = refl
+
+same_place : (p q : Place) → ((p.port == q.port) && (p.at == q.at)) ≡ true → p ≡ q
+same_place p q h =
+    let parts = and_parts (p.port == q.port) (p.at == q.at) h in
+    let port = eqb-true p.port q.port parts.0 in
+    let at = eqb-true p.at q.at parts.1 in
+    λ i. record { port = port i; at = at i }
+
+pub changes_known : (s : StationKey) (p q : Place) (es : List (StationKey × Place)) → lookup (same s) es ≡ Some p → ((p.port == q.port) && (p.at == q.at)) ≡ true → Changes es es s (Some q)
+changes_known s p q es found h = changes_none s q es (found ∙ ap (λ (x : Place). Some x) (same_place p q h))

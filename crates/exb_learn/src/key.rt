@@ -1,27 +1,29 @@
 //! What an entry is found by.
+ghost use Rattle.std.specs.Prelude.{◌≡◌};
+ghost use Rattle.exb_learn.specs.Keys.{packed, same_equiv, IsSpelled};
+ghost use Rattle.exb_learn.specs.Stations.{same};
+
 use exb_model::address::Mac;
 use exb_model::vlan::Vid;
 use std::hash::{Hash, Hasher};
 
-/// A station: an address in a VLAN. Its eight bytes are hashed at one go.
-#[derive(Clone, Copy, Debug, PartialEq, Eq)]
+/// A station: an address in a VLAN. Its eight bytes are compared and hashed as one number.
+#[derive(Clone, Copy, Debug)]
 pub struct StationKey {
     pub vid: Vid,
     pub address: Mac,
 }
 
-impl Hash for StationKey {
-    ghost use Rattle.std.specs.Prelude.{[], ◌∷◌};
-    ghost use Rattle.exb_learn.specs.Keys.{bytes_of, fed_alike};
-
-    ghost hash_input = { λ k. bytes_of k.vid k.address.0 ∷ [] };
-
-    ghost respects_eq = { fed_alike };
-
-    fn hash<H: Hasher>(&self, state: &mut H) {
+impl StationKey {
+    /// The two bytes of the VLAN and the six of the address as one number.
+    #[inline(always)]
+    fn packed(&self) -> u64
+        ensures number { result ≡ packed self.now }
+        ensures spelled { IsSpelled self.now }
+    {
         let vid = self.vid.number();
         let Mac(a) = self.address;
-        state.write(&[
+        u64::from_le_bytes([
             (vid % 256) as u8,
             (vid / 256) as u8,
             a[0],
@@ -30,6 +32,37 @@ impl Hash for StationKey {
             a[3],
             a[4],
             a[5],
-        ]);
+        ])
+    }
+}
+
+impl PartialEq for StationKey {
+    ghost use Rattle.std.specs.Cmp.{partial_equiv_from_equiv};
+
+    ghost eq = { same };
+
+    ghost laws = { partial_equiv_from_equiv same_equiv };
+
+    #[inline(always)]
+    fn eq(&self, other: &StationKey) -> bool {
+        self.packed() == other.packed()
+    }
+}
+
+impl Eq for StationKey {
+    ghost laws = { same_equiv };
+}
+
+impl Hash for StationKey {
+    ghost use Rattle.std.specs.Hash as fed;
+    ghost use Rattle.exb_learn.specs.Keys.{fed_alike};
+
+    ghost hash_input = { λ k. fed.u64 (packed k) };
+
+    ghost respects_eq = { fed_alike };
+
+    #[inline(always)]
+    fn hash<H: Hasher>(&self, state: &mut H) {
+        state.write_u64(self.packed());
     }
 }

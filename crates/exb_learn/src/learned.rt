@@ -51,6 +51,7 @@ impl Learned {
 
     /// Makes room for one more entry. Nothing that is learned changes.
     #[tactic(auto, unfolding(crate::specs::Entries::table_of))]
+    #[inline(always)]
     pub fn reserve(&mut self) -> Result<(), NoMemory>
         ensures ok { OnOk result (1 ≤ self.new.spare) }
         ensures err { OnErr result (self.new ≡ self.old) }
@@ -75,6 +76,7 @@ impl Learned {
     }
 
     /// An individual address was seen in a VLAN at a port, now.
+    #[inline(always)]
     pub fn see(&mut self, vid: Vid, address: Mac, port: PortId)
         requires spare { 1 ≤ self.old.spare }
         requires individual { is_group address.0 ≡ false }
@@ -93,6 +95,7 @@ impl Learned {
     /// The port at which an address was seen last in a VLAN; None exactly where it wasn't, where that was the
     /// ageing time or more ago, or where that port was forgotten since.
     #[tactic(auto, unfolding(crate::specs::Entries::table_of))]
+    #[inline(always)]
     pub fn look(&self, vid: Vid, address: Mac) -> Option<PortId>
         ensures { result ≡ look_of self.now vid address.0 }
     {

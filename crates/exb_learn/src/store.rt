@@ -48,14 +48,27 @@ impl Store {
     }
 
     /// Makes room for one more entry, where there is none.
+    #[inline(always)]
     pub fn reserve(&mut self) -> Result<(), NoMemory>
         ensures ok { OnOk result (1 ≤ self.new.room) }
         ensures err { OnErr result (self.new ≡ self.old) }
         ensures entries { self.new.entries ≡ self.old.entries }
     {
         if self.room > 0 {
-            return Ok(());
+            Ok(())
+        } else {
+            self.make_room()
         }
+    }
+
+    /// Makes room for one more entry.
+    #[cold]
+    #[inline(never)]
+    fn make_room(&mut self) -> Result<(), NoMemory>
+        ensures ok { OnOk result (1 ≤ self.new.room) }
+        ensures err { OnErr result (self.new ≡ self.old) }
+        ensures entries { self.new.entries ≡ self.old.entries }
+    {
         self.places.reserve(1)?;
         let slots = self.places.capacity();
         self.slots.reserve(slots)?;
@@ -79,14 +92,31 @@ impl Store {
     }
 
     /// Where a station was seen last.
+    #[inline(always)]
     pub fn place(&self, station: &StationKey) -> Option<Place>
         ensures { result ≡ lookup (same station.now) self.now.entries }
     {
         self.places.get(station).copied()
     }
 
-    /// Puts the place of a station, which was seen no earlier than all others.
+    /// Puts the place of a station, which was seen no earlier than all others. Nothing is written where it has that
+    /// place already.
+    #[inline(always)]
     pub fn put(&mut self, station: StationKey, place: Place)
+        requires room { 1 ≤ self.old.room }
+        requires latest { IsUntil place.at self.old.entries }
+        ensures updates { Changes self.old.entries self.new.entries station (Some place) }
+    {
+        match self.place(&station) {
+            Some(known) if known == place => {}
+            _ => self.put_anew(station, place),
+        }
+    }
+
+    /// Puts the place of a station that had none, or another one.
+    #[cold]
+    #[inline(never)]
+    fn put_anew(&mut self, station: StationKey, place: Place)
         requires room { 1 ≤ self.old.room }
         requires latest { IsUntil place.at self.old.entries }
         ensures updates { Changes self.old.entries self.new.entries station (Some place) }

@@ -10,7 +10,7 @@ use Rattle.exb_lldp.specs.Tlvs.{Tlv, Tlvs, tlvs_from, first_misplaced, first_cou
 
 -- the destination 01-80-C2-00-00-0E, and EtherType 88CC at byte 12
 abbrev pub is_lldp : List ℕ → Bool
-is_lldp frame = nat_le 14 (length frame) && (is_control_frame frame && number_at frame 12 == 35020)
+is_lldp frame = nat_le 14 (length frame) && (is_control_frame frame && number_at frame 12 == 0x88CC)
 
 -- of the first misplaced TLV, the one that is cut and the first port count: all TLVs before the cut lie before it
 abbrev pub verdict : Option ℕ → Option ℕ → Option ℕ → Result ℕ LldpFault

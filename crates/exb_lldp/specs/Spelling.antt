@@ -18,4 +18,4 @@ tlvs_of a = tlv 1 (4 ∷ a.chassis.0) ++ tlv 2 (7 ∷ codes "up") ++ tlv 3 (two_
 
 -- from the chassis to the address of control frames
 unfoldable pub spelling : Announce → List ℕ
-spelling a = control_address ++ a.chassis.0 ++ two_bytes 35020 ++ tlvs_of a
+spelling a = control_address ++ a.chassis.0 ++ two_bytes 0x88CC ++ tlvs_of a

@@ -145,11 +145,11 @@ egress_bytes f Untagged v bytes pcp small = let all = each_byte f bytes in byte_
 egress_bytes f Tagged v bytes pcp small =
     let all = each_byte f bytes in
     let prio : priority_of (kind_of f) < 16 = priority_small (kind_of f) pcp in
-    let x : List ℕ = two_bytes 33024 in
+    let x : List ℕ = two_bytes 0x8100 in
     let y : List ℕ = two_bytes (priority_of (kind_of f) * 4096 + v) in
     let low : priority_of (kind_of f) * 4096 + v < 65536 = omega (arith, prio) in
     byte_each (take 12 f ++ x ++ y ++ body_after f (kind_of f)) (
-    both (take 12 f ++ x ++ y) (body_after f (kind_of f)) (both (take 12 f ++ x) y (both (take 12 f) x (each_take 12 f all) (two_all 33024 (omega arith))) (two_all (priority_of (kind_of f) * 4096 + v) low))
+    both (take 12 f ++ x ++ y) (body_after f (kind_of f)) (both (take 12 f ++ x) y (both (take 12 f) x (each_take 12 f all) (two_all 0x8100 (omega arith))) (two_all (priority_of (kind_of f) * 4096 + v) low))
     (body_all f (kind_of f) all))
 
 pub egress_short : (f : List ℕ) (kind : Kind) (v : ℕ) → length (egress f kind v) ≤ length f + 4
@@ -161,7 +161,7 @@ egress_short f Untagged v =
     let c = body_short f (kind_of f) in
     omega (arith, e, a, b, c)
 egress_short f Tagged v =
-    let x : List ℕ = two_bytes 33024 in
+    let x : List ℕ = two_bytes 0x8100 in
     let y : List ℕ = two_bytes (priority_of (kind_of f) * 4096 + v) in
     let e = length-append (take 12 f ++ x ++ y) (body_after f (kind_of f)) in
     let g = length-append (take 12 f ++ x) y in
@@ -210,7 +210,7 @@ tag_small tci =
 
 vid_small : (f : List ℕ) → IsVidSmall (kind_of f)
 unfolding kind_of
-vid_small f = by_tests (nat_lt (length f) 14) (nat_lt 9216 (length f)) (is_reserved f) (number_at f 12 == 33024) (nat_lt (length f) 18)
+vid_small f = by_tests (nat_lt (length f) 14) (nat_lt 9216 (length f)) (is_reserved f) (number_at f 12 == 0x8100) (nat_lt (length f) 18)
   where
     by_tests : (a b c d e : Bool) → IsVidSmall (cond a seen.Short (cond b seen.Long (cond c seen.Reserved (cond d (cond e seen.BadTag (kind_of_tag (number_at f 14))) seen.Plain))))
     by_tests true b c d e = tt

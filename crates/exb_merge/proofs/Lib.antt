@@ -21,3 +21,4 @@ pub mod NetStart
 pub mod NetReads
 pub mod Turning
 pub mod NetSteps
+pub mod Onward

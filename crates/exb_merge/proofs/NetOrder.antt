@@ -3,7 +3,7 @@ use Rattle.std.proofs.Common.{◌≡◌, ℕ, suc, ◌+◌, ◌*◌, ◌<◌, �
 use Rattle.std.specs.Prelude.{⊤, ◌≢◌, nat_lt, nat_le, min, Option, Some, None, IfSome}
 use Rattle.std.specs.List.{AllByRecursion}
 use Rattle.std.proofs.lemmas.Bool.{cases_lt, lt-ltb, le-ltb, leb-true}
-use Rattle.std.proofs.lemmas.List.{append_assoc, map-append}
+use Rattle.std.proofs.lemmas.List.{append_assoc}
 use Rattle.exb_model.specs.declared.setup.Timed.{Timed}
 use Rattle.exb_model.specs.Input.{Arrival, Coming, Ordered, Captured, Given, by_moment, commands_from, given_by, moment_of, put_in_order}
 use Rattle.exb_nets.specs.NetHistory.{Due, due_at, due_moment, dues_by_moment, put_due}
@@ -11,7 +11,7 @@ use Rattle.exb_merge.specs.Agendas.{ToPlay, commands_left, first_moment, still_t
 use Rattle.exb_merge.specs.NetAgendas.{dues_left, orders_from, records_from}
 use Rattle.exb_merge.proofs.Among.{Rising, command-first, not-first, record-first, rising-commands}
 use Rattle.exb_merge.proofs.InOrder.{NoneBefore}
-use Rattle.exb_merge.proofs.Sorting.{put, puts, sort, AreFrom, HaveOther, IsSorted, from_puts, puts_append, puts_others, puts_put, puts_sort, sort_first, sort_sorts}
+use Rattle.exb_merge.proofs.Sorting.{put, puts, sort, AreFrom, HaveOther, IsSorted, puts_append, puts_others, puts_put, sort_first, sort_sorts}
 
 -- the turn of what comes, in halves of a nanosecond
 abbrev pub coming_turn : Coming → ℕ

@@ -1,16 +1,15 @@
 -- What is still to come of a net before anything is taken, and its start.
-use Rattle.std.proofs.Common.{◌≡◌, ℕ, zero, suc, ◌+◌, Bool, false, filter, List, [], ◌∷◌, ◌++◌, length, map, refl, sym, ap, subst, ◌∙◌, arith}
-use Rattle.std.specs.Prelude.{⊤, Some, flat_map, filter_map, slice_get}
+use Rattle.std.proofs.Common.{◌≡◌, ℕ, zero, suc, ◌+◌, filter, List, [], ◌∷◌, ◌++◌, length, map, refl, sym, ap, subst, ◌∙◌, arith}
+use Rattle.std.specs.Prelude.{⊤, Some, flat_map, slice_get}
 use Rattle.std.specs.List.{range_with_len}
 use Rattle.std.specs.Option.{option_map}
 use Rattle.std.proofs.lemmas.Grind.{flat_map-append}
 use Rattle.std.proofs.lemmas.List.Elements.{filter_map-append}
 use Rattle.std.proofs.lemmas.List.Folds.{flat_map-map}
-use Rattle.exb_model.specs.declared.setup.Timed.{Timed}
-use Rattle.exb_model.specs.Input.{Input, Arrival, Coming, Captured, Given, all_arrivals, arrivals_at, by_moment, commands_from, given_by, least_or, second_of}
+use Rattle.exb_model.specs.Input.{Input, Arrival, Captured, all_arrivals, arrivals_at, by_moment, commands_from, least_or, second_of}
 use Rattle.exb_model.specs.Ports.{all_ports, below}
 use Rattle.exb_nets.specs.Nets.{Net}
-use Rattle.exb_nets.specs.NetHistory.{Due, all_due, due_at, due_moment, dues, dues_by_moment, start_of_all}
+use Rattle.exb_nets.specs.NetHistory.{Due, due_at, due_moment, dues, start_of_all}
 use Rattle.exb_merge.specs.declared.programme.Programme.{Programme}
 use Rattle.exb_merge.specs.Agendas.{ToPlay, commands_left}
 use Rattle.exb_merge.specs.NetAgendas.{AreAllOf, AreBegunOf, AreOfNet, IsBegunOf, all_to_play, dues_left, first_seconds, orders_from, records_from}

@@ -1,12 +1,11 @@
 -- One thing more comes of several bridges.
 use Rattle.std.proofs.Common.{◌≡◌, ℕ, zero, suc, ◌+◌, ◌*◌, ◌^◌, ◌<◌, ◌≤◌, Bool, true, false, cond, List, [], ◌∷◌, ◌++◌, length, map, min, max, set, drop, refl, sym, ap, subst, ◌∙◌, arith, inl, inr, length-append}
-use Rattle.std.specs.Prelude.{◌≢◌, nat_le, nat_lt, flat_map, sum_by, slice_get, Option, Some, None, IfSome, IfNone, Err, IsErrOf}
+use Rattle.std.specs.Prelude.{◌≢◌, nat_le, nat_lt, flat_map, slice_get, Option, Some, None, IfSome, IfNone, Err, IsErrOf}
 use Rattle.std.specs.List.{AllByRecursion}
 use Rattle.std.proofs.lemmas.Bool.{leb-true}
 use Rattle.std.proofs.lemmas.List.{length-map, map-append}
 use Rattle.std.proofs.lemmas.List.Sums.{sum_by-append, sum_by-cons}
-use Rattle.exb_model.specs.Input.{Arrival, Coming, Ordered, Captured, by_moment, moment_of, put_in_order}
-use Rattle.exb_nets.specs.NetHistory.{Due}
+use Rattle.exb_model.specs.Input.{Arrival, Coming, Captured, by_moment, moment_of, put_in_order}
 use Rattle.exb_shelf.specs.Files.{Files, SameFiles, bytes_of}
 use Rattle.exb_shelf.specs.Shelf.{Id}
 use Rattle.exb_merge.specs.declared.agenda.NetNext.{NetNext}
@@ -18,9 +17,9 @@ use Rattle.exb_merge.specs.declared.replays.Again.{Again}
 use Rattle.exb_merge.specs.declared.replays.CaptureFault.{CaptureFault}
 use Rattle.exb_merge.specs.declared.replays.Replays.{Replays}
 use Rattle.exb_capture.specs.Replaying.{ComesAt}
-use Rattle.exb_merge.specs.Agendas.{ToPlay, comes_first, commands_left, first_moment, still_to_come, turn_by}
+use Rattle.exb_merge.specs.Agendas.{ToPlay, commands_left, first_moment, still_to_come, turn_by}
 use Rattle.exb_merge.specs.NetAgendas.{AreAllReplays, ComesTo, IsSeated, IsTurn, ReadApart, all_ids, all_to_play, due_of, dues_left, left_of_all, seat_seen, turn_seen}
-use Rattle.exb_merge.specs.Programmes.{IsComing, IsFrom, IsProgramme, IsSoonest, IsTakenOf, left_of, moment_in, played_with, sooner, what}
+use Rattle.exb_merge.specs.Programmes.{IsComing, IsFrom, IsSoonest, IsTakenOf, left_of, moment_in, played_with, sooner, what}
 use Rattle.exb_merge.specs.Replays.{AreOpened, AreReplays, HasNext, IsEarliest, IsOpened, NoneIsBefore, ReadsOn}
 use Rattle.exb_merge.specs.Streams.{Stream, arrivals_of, next_moment, to_come}
 use Rattle.exb_merge.proofs.Among.{not-first, rising-drop}

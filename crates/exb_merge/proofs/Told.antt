@@ -9,7 +9,6 @@ use Rattle.exb_shelf.specs.Files.{Files, SameFiles, bytes_of}
 use Rattle.exb_shelf.specs.Shelf.{Id, reading}
 use Rattle.exb_capture.specs.declared.checking.Scanned.{Scanned}
 use Rattle.exb_capture.specs.declared.replay.Replay.{Replay}
-use Rattle.exb_capture.specs.declared.replay.Replayed.{Replayed}
 use Rattle.exb_capture.specs.Reading.{IsAt, MovesOn}
 use Rattle.exb_capture.specs.Replaying.{ComesAt, HasGiven, IsPlayed, IsReplaying, IsSameReplay}
 use Rattle.exb_capture.specs.Scans.{scanned_of}
@@ -33,9 +32,8 @@ told_moment : (bytes : List ℕ) (left : List Record) (r : Replay) (m : ℕ) →
     (x : Record) × (rest : List Record) × (left ≡ x ∷ rest) × (m ≡ max r.least x.time)
 told_moment bytes left r m c k =
     let next : Replay = record r { file = record r.file { next = None }; fresh = false } in
-    let given : Replayed = record { moment = m; bytes = c.next.bytes } in
     let has : HasGiven bytes (k.given ++ c.next ∷ []) next = record { read = taken_read bytes k.given c.next r.file c.found k.has.read; fresh = λ e. absurd (cc) } in
-    let first = next_replayed bytes left r r next m given k c k.has has refl refl refl refl in
+    let first = next_replayed bytes left r r next m c.next.bytes k c k.has has refl refl refl in
     (first.0, first.1, first.2, first.3)
 
 pub next_told : (files : Files) (ids : ℕ → Id) (s : Again) (x : Stream) → IsOpened ids s → IsReplayOf files ids s x → next_moment (arrivals_of x) ≡ s.next
@@ -53,8 +51,7 @@ pub replaying_taken : (bytes taken_bytes : List ℕ) (left : List Record) (r tak
     ((b : List ℕ) (xs : List Record) (x : Record) → next_of r.file ≡ Some x → HasGiven b xs r → HasGiven b (xs ++ x ∷ []) taken) → IsReplaying bytes left r →
     (x : Record) × (rest : List Record) × (left ≡ x ∷ rest) × (m ≡ max r.least x.time) × (taken_bytes ≡ x.bytes) × IsReplaying bytes rest taken
 replaying_taken bytes taken_bytes left r taken m c told is gives k =
-    let given : Replayed = record { moment = m; bytes = taken_bytes } in
-    next_replayed bytes left r r taken m given k c k.has (gives bytes k.given c.next c.found k.has) refl is refl told
+    next_replayed bytes left r r taken m taken_bytes k c k.has (gives bytes k.given c.next c.found k.has) is refl told
 
 -- it was looked at, so far as its next record
 pub replaying_looked : (file now : Files) (given ids : ℕ → Id) (left : List Record) (r looked : Replay) (next : Option ℕ) → IsAt (given r.file.id) r.file.got → MovesOn r.file.id given ids →

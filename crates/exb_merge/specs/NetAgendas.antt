@@ -1,5 +1,5 @@
 -- What is still to be played of a net: the commands and captures of several bridges, in the order in which the net is given them.
-use Rattle.std.specs.Prelude.{⊤, ◌≡◌, ◌≢◌, ◌+◌, ◌<◌, ◌≤◌, ℕ, suc, Bool, false, List, [], ◌∷◌, ◌++◌, length, map, filter, filter_map, flat_map, sum_by, Option, Some, None, slice_get}
+use Rattle.std.specs.Prelude.{⊤, ◌≡◌, ◌≢◌, ◌<◌, ◌≤◌, ℕ, suc, Bool, false, List, [], ◌∷◌, ◌++◌, length, map, filter, filter_map, flat_map, sum_by, Option, Some, None, slice_get}
 use Rattle.std.specs.List.{AllByRecursion}
 use Rattle.std.specs.Option.{option_map}
 use Rattle.exb_model.specs.Input.{Input, given_by, moment_of, second_of}

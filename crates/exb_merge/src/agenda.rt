@@ -55,13 +55,10 @@ impl Seat<'_> {
     #[inline(always)]
     fn take<S: Shelf>(
         &mut self,
-        alloc: Global,
         shelf: &mut S,
-        piece: &mut [u8],
+        buffer: Vec<u8>,
     ) -> Result<Option<Next>, CaptureFault>
         requires seated { IsSeated (S.ids shelf.old) self.old }
-        requires piece { 0 < length piece.old }
-        ensures piece { length piece.new ≡ length piece.old }
         ensures seated { OnOk result (IsSeated (S.ids shelf.new) self.new) }
         ensures coming { IfOk result (λ next. IfSome next (λ d. IsComing self.old.programme d self.new.programme)) }
         ensures turn { IfOk result (λ next. IfSome next (λ d. IfSome self.old.turn (λ t. 2 * moment_of (what d) ≤ t))) }
@@ -79,7 +76,7 @@ impl Seat<'_> {
         ensures faults { NoFewer (S.faults shelf.old) (S.faults shelf.new) }
         ensures failed { IsErrOf result CaptureFault.Read → Rose (S.faults shelf.old).reads (S.faults shelf.new).reads }
     {
-        let next = self.programme.next(alloc, shelf, piece)?;
+        let next = self.programme.next(shelf, buffer)?;
         self.turn = self.programme.turn();
         Ok(next)
     }
@@ -114,7 +111,8 @@ impl<'a> Agenda<'a> {
         Ok(())
     }
 
-    /// Takes what comes next of all bridges; None exactly where nothing is left. `piece` has room for what is read at once.
+    /// Takes what comes next of all bridges; None exactly where nothing is left. A record's bytes come in `buffer`, which is written
+    /// anew.
     ///
     /// Where the files are told and are those that were checked, what comes is the first of what is still to come of all bridges: by
     /// moment, and at the same moment the commands of all bridges first, and then in the order of bridges. A capture is then never
@@ -122,13 +120,10 @@ impl<'a> Agenda<'a> {
     #[inline(always)]
     pub fn next<S: Shelf>(
         &mut self,
-        alloc: Global,
         shelf: &mut S,
-        piece: &mut [u8],
+        buffer: Vec<u8>,
     ) -> Result<Option<NetNext>, BridgeFault>
         requires agenda { IsAgenda (S.ids shelf.old) self.old }
-        requires piece { 0 < length piece.old }
-        ensures piece { length piece.new ≡ length piece.old }
         ensures agenda { OnOk result (IsAgenda (S.ids shelf.new) self.new) }
 
         // Whatever the files hold.
@@ -157,7 +152,7 @@ impl<'a> Agenda<'a> {
         };
         let bridge = place as u8;
         let seat = &mut self.seats[place];
-        let next = match seat.take(alloc, shelf, piece) {
+        let next = match seat.take(shelf, buffer) {
             Ok(next) => next,
             Err(fault) => return Err(BridgeFault { bridge, fault }),
         };

@@ -14,7 +14,6 @@ use crate::moments::{comes_first, is_of, moment_after, turn_by};
 use crate::replays::{Came, CaptureFault, Replays};
 use exb_model::setup::Timed;
 use exb_shelf::Shelf;
-use std::alloc::Global;
 
 /// What comes next.
 #[derive(Debug, Drop)]
@@ -145,17 +144,14 @@ impl<'a> Programme<'a> {
         &self.commands[from..self.taken]
     }
 
-    /// Takes what comes next; None exactly where nothing is left. `piece` has room for what is read at once.
+    /// Takes what comes next; None exactly where nothing is left. A record's bytes come in `buffer`, which is written anew.
     #[inline(always)]
     pub fn next<S: Shelf>(
         &mut self,
-        alloc: Global,
         shelf: &mut S,
-        piece: &mut [u8],
+        buffer: Vec<u8>,
     ) -> Result<Option<Next>, CaptureFault>
         requires programme { IsProgramme (S.ids shelf.old) self.old }
-        requires piece { 0 < length piece.old }
-        ensures piece { length piece.new ≡ length piece.old }
         ensures programme { OnOk result (IsProgramme (S.ids shelf.new) self.new) }
         ensures coming { IfOk result (λ next. IfSome next (λ d. IsComing self.old d self.new)) }
         ensures soonest { IfOk result (λ next. IsSoonest (moment_in next) self.old) }
@@ -178,7 +174,7 @@ impl<'a> Programme<'a> {
         if comes_first(self.command_moment(), self.captures.moment()) {
             return Ok(Some(self.take_command()));
         }
-        match self.captures.next(alloc, shelf, piece)? {
+        match self.captures.next(shelf, buffer)? {
             Some(came) => Ok(Some(Next::Record(came))),
             None => Ok(None),
         }
@@ -187,14 +183,11 @@ impl<'a> Programme<'a> {
     /// Takes what comes next, where it is of this second; else it changes nothing.
     pub fn next_within<S: Shelf>(
         &mut self,
-        alloc: Global,
         shelf: &mut S,
-        piece: &mut [u8],
+        buffer: Vec<u8>,
         second: u64,
     ) -> Result<Option<Next>, CaptureFault>
         requires programme { IsProgramme (S.ids shelf.old) self.old }
-        requires piece { 0 < length piece.old }
-        ensures piece { length piece.new ≡ length piece.old }
         ensures programme { OnOk result (IsProgramme (S.ids shelf.new) self.new) }
         ensures coming { IfOk result (λ next. IfSome next (λ d. IsComing self.old d self.new)) }
         ensures within { IfOk result (λ next. IfSome next (λ d. second_of (moment_of (what d)) ≡ second)) }
@@ -215,7 +208,7 @@ impl<'a> Programme<'a> {
         ensures failed { IsErrOf result CaptureFault.Read → Rose (S.faults shelf.old).reads (S.faults shelf.new).reads }
     {
         if is_of(self.next_moment(), second) {
-            self.next(alloc, shelf, piece)
+            self.next(shelf, buffer)
         } else {
             Ok(None)
         }

@@ -1,8 +1,8 @@
 //! The captures of some ports that were checked, as they are read again and played.
-ghost use Rattle.std.specs.Prelude.{false, ◌≡◌, ◌≢◌, ◌+◌, ◌*◌, ◌^◌, ◌<◌, ◌≤◌, [], ◌∷◌, ◌++◌, ℕ, List, Some, None, length, IfOk, OnOk, IsErrOf, IfSome, IfNone};
+ghost use Rattle.std.specs.Prelude.{false, ◌≡◌, ◌+◌, ◌*◌, ◌^◌, ◌<◌, ◌≤◌, [], ◌∷◌, ◌++◌, ℕ, List, Some, None, length, IfOk, OnOk, IsErrOf, IfSome, IfNone};
 ghost use Rattle.exb_model.specs.Input.{Record, second_of};
 ghost use Rattle.exb_capture.specs.Captures.{capture_records};
-ghost use Rattle.exb_shelf.specs.Files.{SameFiles, bytes_of};
+ghost use Rattle.exb_shelf.specs.Files.{SameFiles};
 ghost use Rattle.exb_shelf.specs.Shelf.{Id, IsReadingOf, Opens, Rose, NoFewer};
 ghost use Rattle.exb_capture.specs.Reading.{left_to_read, next_of};
 ghost use Rattle.exb_capture.specs.Replaying.{ComesAt, HasGiven, IsKept, IsSameReplay, IsSince};
@@ -79,9 +79,9 @@ pub struct Replays {
 }
 
 impl Again {
-    /// Takes the next record, of which the moment is known.
+    /// Takes the next record, of which the moment is known, with its bytes in this buffer.
     #[inline(always)]
-    fn take(&mut self, alloc: Global, moment: u64) -> Result<Came, NoMemory>
+    fn take(&mut self, moment: u64, buffer: Vec<u8>) -> Result<Came, NoMemory>
         requires found { ComesAt moment self.old.replay }
         requires kept { IsKept self.old.replay }
         requires numbers { self.old.index + left_to_read self.old.replay.file < 2 ^ 63 }
@@ -99,14 +99,14 @@ impl Again {
         ensures given { OnOk result ((bytes : List ℕ) (xs : List Record) (x : Record) → next_of self.old.replay.file ≡ Some x
             → HasGiven bytes xs self.old.replay → HasGiven bytes (xs ++ x ∷ []) self.new.replay) }
     {
-        let record = self.replay.take(alloc, moment)?;
+        let bytes = self.replay.take(moment, buffer)?;
         let index = self.index;
         self.index += 1;
         Ok(Came {
             port: self.port,
             index,
             moment,
-            bytes: record.bytes,
+            bytes,
         })
     }
 }
@@ -124,23 +124,20 @@ impl Replays {
     }
 
     /// Opens the capture of a port again, of which this was told, puts it behind those so far, and looks as
-    /// far as its first record. `piece` has room for what is read at once.
+    /// far as its first record.
     ///
     /// Where the files are told and the file is the one that was checked, it is never Changed.
     pub fn add<S: Shelf>(
         &mut self,
         alloc: Global,
         shelf: &mut S,
-        piece: &mut [u8],
         port: PortId,
         name: &str,
         told: Scanned,
     ) -> Result<(), CaptureFault>
         requires opened { AreOpened (S.ids shelf.old) self.old }
         requires port { HasPort port (standings self.old) → ⊥ }
-        requires piece { 0 < length piece.old }
         requires room { told.bytes + 2 < 2 ^ 63 }
-        ensures piece { length piece.new ≡ length piece.old }
         ensures opened { OnOk result (AreOpened (S.ids shelf.new) self.new) }
         ensures standings { OnOk result (standings self.new ≡ standings self.old ++ record { port = port; index = 1; least = 0 } ∷ []) }
         ensures left { OnOk result (left_in self.new ≤ left_in self.old + told.bytes + 1) }
@@ -170,7 +167,7 @@ impl Replays {
             Ok(replay) => replay,
             Err(fault) => return Err(fault_at(port, fault)),
         };
-        let next = match replay.ahead(alloc, shelf, piece) {
+        let next = match replay.ahead(shelf) {
             Ok(next) => next,
             Err(fault) => return Err(fault_at(port, fault)),
         };
@@ -201,20 +198,17 @@ impl Replays {
     }
 
     /// Takes what comes next, and looks as far as the next record of its capture; None exactly where nothing
-    /// is left. `piece` has room for what is read at once.
+    /// is left. The record's bytes come in `buffer`, which is written anew.
     ///
     /// Where the files are told and are those that were checked, what comes is the first of what is still to
     /// come of their records, and it is never Changed.
     #[inline(always)]
     pub fn next<S: Shelf>(
         &mut self,
-        alloc: Global,
         shelf: &mut S,
-        piece: &mut [u8],
+        buffer: Vec<u8>,
     ) -> Result<Option<Came>, CaptureFault>
         requires opened { AreOpened (S.ids shelf.old) self.old }
-        requires piece { 0 < length piece.old }
-        ensures piece { length piece.new ≡ length piece.old }
         ensures opened { OnOk result (AreOpened (S.ids shelf.new) self.new) }
 
         // Whatever the files hold.
@@ -246,11 +240,11 @@ impl Replays {
             return Ok(None);
         };
         let source = &mut self.sources[place];
-        let came = match source.take(alloc, moment) {
+        let came = match source.take(moment, buffer) {
             Ok(came) => came,
             Err(_) => return Err(CaptureFault::Memory),
         };
-        let next = match source.replay.ahead(alloc, shelf, piece) {
+        let next = match source.replay.ahead(shelf) {
             Ok(next) => next,
             Err(fault) => return Err(fault_at(source.port, fault)),
         };

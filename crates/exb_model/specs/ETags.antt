@@ -22,11 +22,11 @@ tag_word t = t.pcp * 8192 + (if t.dei then 4096 else 0) + t.ingress
 
 -- the eight bytes: the type, that word, the E-CID below two reserved bits, and two extension bytes of 0
 abbrev pub etag_bytes : Tag → List ℕ
-etag_bytes t = two_bytes 35135 ++ two_bytes (tag_word t) ++ two_bytes t.ecid ++ (0 ∷ 0 ∷ [])
+etag_bytes t = two_bytes 0x893F ++ two_bytes (tag_word t) ++ two_bytes t.ecid ++ (0 ∷ 0 ∷ [])
 
 -- whether a frame has an E-TAG at byte 12, with extension bytes 0
 abbrev pub has_etag : List ℕ → Bool
-has_etag f = nat_le 20 (length f) && (number_at f 12 == 35135 && number_at f 18 == 0)
+has_etag f = nat_le 20 (length f) && (number_at f 12 == 0x893F && number_at f 18 == 0)
 
 -- the fields, whatever the reserved bits are
 abbrev pub fields : List ℕ → Tag

@@ -45,7 +45,7 @@ kind_of f =
     if nat_lt (length f) 14 then seen.Short
     else (if nat_lt 9216 (length f) then seen.Long
     else (if is_reserved f then seen.Reserved
-    else (if number_at f 12 == 33024 then (if nat_lt (length f) 18 then seen.BadTag else kind_of_tag (number_at f 14))
+    else (if number_at f 12 == 0x8100 then (if nat_lt (length f) 18 then seen.BadTag else kind_of_tag (number_at f 14))
     else seen.Plain)))
 
 -- what follows the addresses and the tag
@@ -63,7 +63,7 @@ priority_of _ = 0
 -- the bytes that leave a port of this kind in VLAN v
 unfoldable pub egress : List ℕ → Kind → ℕ → List ℕ
 egress f Untagged v = take 12 f ++ body_after f (kind_of f)
-egress f Tagged v = take 12 f ++ two_bytes 33024 ++ two_bytes (priority_of (kind_of f) * 4096 + v) ++ body_after f (kind_of f)
+egress f Tagged v = take 12 f ++ two_bytes 0x8100 ++ two_bytes (priority_of (kind_of f) * 4096 + v) ++ body_after f (kind_of f)
 
 abbrev pub destination : List ℕ → List ℕ
 destination f = take 6 f

@@ -1,7 +1,7 @@
 -- Lists that are changed place by place.
 use Rattle.std.proofs.Common.{◌≡◌, ◌≢◌, ℕ, zero, suc, ◌+◌, ◌<◌, ◌≤◌, ◌++◌, ◌==◌, cond, List, [], ◌∷◌, length, get_or, drop, take, set, Some, refl, ap, sym, ◌∙◌, subst, arith, inl, inr}
 use Rattle.std.specs.Prelude.{All, slice_get}
-use Rattle.std.proofs.lemmas.Bool.{cases_eq, eq-eqb, ne_eqb}
+use Rattle.std.proofs.lemmas.Bool.{cases_eq, cases_lt, eq-eqb, ne_eqb}
 use Rattle.std.proofs.lemmas.List.{append-nil, drop_all, length-set, take_all}
 use Rattle.std.proofs.lemmas.Option.{same_Some, slice_get-get_or, slice_get_within}
 use Rattle.exb_net.specs.Lists.{AreEach}
@@ -89,6 +89,27 @@ module _ {A : Type 0} (R : ℕ → A → A → Type 0) (xs : List A) where
     -- the same, where the element is read
     pub one_more_at : (x y : A) → AreSoFar R i xs ys → i < length ys → x ≡ get_or ys i x → R i (get_or ys i x) y → AreSoFar R (i + 1) xs (set ys i y)
     one_more_at x y f low is r = one_more x y f low is (subst (λ (z : A). R i z y) (sym is) r)
+
+    -- none has changed up to another place, if R holds of what is there
+    pub skip_to : (j : ℕ) → i ≤ j → AreSoFar R i xs ys → ((k : ℕ) (x : A) → i ≤ k → k < j → slice_get xs k ≡ Some x → R k x x) → AreSoFar R j xs ys
+    skip_to j high f same = record {
+      long = f.long;
+      each = λ k x y h was now. elim (cases_lt k i) [
+        | inl low ↦ f.each k x y low was now
+        | inr on ↦ subst (λ (z : A). R k x z) (same_Some x y (sym was ∙ (sym (f.rest k on) ∙ now))) (same k x on h was)
+      ];
+      rest = λ k h. f.rest k (omega (arith, h, high));
+    }
+
+    -- so R holds of all, if it holds of what is behind it
+    pub all_from : AreSoFar R i xs ys → ((k : ℕ) (x : A) → i ≤ k → slice_get xs k ≡ Some x → R k x x) → AreEach R xs ys
+    all_from f same = record {
+      long = f.long;
+      each = λ k x y was now. elim (cases_lt k i) [
+        | inl low ↦ f.each k x y low was now
+        | inr on ↦ subst (λ (z : A). R k x z) (same_Some x y (sym was ∙ (sym (f.rest k on) ∙ now))) (same k x on was)
+      ];
+    }
 
     pub all_so_far : AreSoFar R i xs ys → length ys ≤ i → AreEach R xs ys
     all_so_far f end = record { long = f.long; each = λ k x y was now. (let low = slice_get_within ys k y now in f.each k x y (omega (arith, low, end)) was now) }

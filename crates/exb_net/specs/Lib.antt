@@ -3,6 +3,7 @@ pub mod Crossings
 pub mod Nodes
 pub mod Lists
 pub mod Making
+pub mod Marks
 pub mod Holding
 pub mod Nets
 pub mod Turns

@@ -4,13 +4,14 @@
 //! is, and then each frame that leaves a wired port for it at the far end of its wire, in the order of their queue, until none is
 //! between bridges. So its worlds do what `exb_wiring` says of runs of several worlds. It moves each world by `exb_schedule` alone.
 //!
-//! `src`: `ends` (the wired ports of a bridge), `crossing` (the queue), `node` (one bridge), `making` and `net` (all of them).
-//! `specs`: `Holding` and `Nets` say where the bridges are and what a call does.
+//! `src`: `ends` (the wired ports of a bridge), `crossing` (the queue), `node` (one bridge), `marks` (sets of bridges), `making` and `net`
+//! (all of them). `specs`: `Holding` and `Nets` say where the bridges are and what a call does.
 #![tactic(auto)]
 
 pub mod crossing;
 pub mod ends;
 mod making;
+mod marks;
 pub mod net;
 pub mod node;
 

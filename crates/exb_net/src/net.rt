@@ -1,5 +1,5 @@
 //! A net: bridges that are wired to one another.
-ghost use Rattle.std.specs.Prelude.{All, ◌≡◌, ◌∷◌, [], ◌↔◌, ◌+◌, ◌==◌, if◌then◌else◌, ◌<◌, ◌≤◌, ◌^◌, ℕ, Some, false, true, IfOk, OnErr, OnOk, length, slice_get};
+ghost use Rattle.std.specs.Prelude.{All, ◌≡◌, ◌≢◌, ◌∷◌, [], ◌↔◌, ◌+◌, ◌==◌, if◌then◌else◌, ◌<◌, ◌≤◌, ◌^◌, ℕ, Some, false, true, IfNone, IfOk, IfSome, OnErr, OnOk, length, slice_get};
 ghost use Rattle.exb_machine.specs.Allowing.{Can};
 ghost use Rattle.exb_machine.specs.Worlds.{Arrive, Order, Tick};
 ghost use Rattle.exb_network.specs.Networks.{tree_of, world_of};
@@ -8,12 +8,13 @@ ghost use Rattle.exb_schedule.specs.Worlds.{fate_in, network_of};
 ghost use Rattle.exb_nets.specs.Nets.{Net as Wired, IsNet, is_wired};
 ghost use Rattle.exb_wiring.specs.Playing.{Dones};
 ghost use Rattle.exb_net.specs.Lists.{AreEach};
+ghost use Rattle.exb_net.specs.Marks.{AreQuietBut, AreQuietFrom, AreSameBut};
 ghost use Rattle.exb_net.specs.Nodes.{HasDone, HasForgotten, HasPassed};
-ghost use Rattle.exb_net.specs.Nets.{IsSetupOf, IsBegun, IsPlaying, IsOpen, Opens, Handled, Passes};
 ghost use Rattle.exb_net.specs.Turns.{Turn, IsTurn, HasDelivered, IsComing, Begins, HasPlayed};
 
 use crate::crossing::Crossing;
 use crate::making::make_all;
+use crate::marks::{ALL, both, first_marked, with_mark};
 use crate::node::{Node, enter, forget, let_come, let_pass, open_one, order};
 use exb_fate::Fate;
 use exb_model::memory::NoMemory;
@@ -37,6 +38,9 @@ pub struct Net {
     /// Whether memory ran out in a call.
     pub(crate) failed: bool,
     pub(crate) alloc: Global,
+    /// The bridges to which something came since they were cleared.
+    pub(crate) touched: u64,
+    ghost quiet: { AreQuietBut touched nodes.items },
 }
 
 /// Opens each bridge: it settles and is marked.
@@ -63,13 +67,19 @@ fn pass_all(nodes: &mut Vec<Node>, seconds: u32) -> Result<(), WorldFault>
     Ok(())
 }
 
-/// Forgets what was told and has left.
-fn clear_all(nodes: &mut Vec<Node>)
+/// Forgets what was told and has left, where something came.
+fn clear_all(nodes: &mut Vec<Node>, touched: u64)
+    requires { AreQuietBut touched nodes.old.items }
     ensures forgotten { AreEach (λ b x y. HasForgotten (network_of x.world) (network_of y.world) x.ends.items y.ends.items) nodes.old.items nodes.new.items }
     ensures fates { AreEach (λ b x y. left (fate_in y.world) ≤ left (fate_in x.world)) nodes.old.items nodes.new.items }
 {
-    for node in nodes.iter_mut() {
-        forget(node);
+    let mut from = 0;
+    'clearing: while let Some(bridge) = first_marked(touched, from) {
+        if bridge >= nodes.len() {
+            return;
+        }
+        forget(&mut nodes[bridge]);
+        from = bridge + 1;
     }
 }
 
@@ -83,6 +93,7 @@ fn deliver(
     requires turn { (m : Turn) × ((k : ℕ) × (IsTurn m × (HasDelivered m k nodes.old.items (crossing ∷ queue.old.items) × (k < length m.net.wires)))) }
     requires few { All (λ x. left (fate_in x.world) < 2 ^ 57) nodes.old.items }
     ensures ok { OnOk result ((m : Turn) (k : ℕ) → IsTurn m → HasDelivered m k nodes.old.items (crossing ∷ queue.old.items) → k < length m.net.wires → HasDelivered m (k + 1) nodes.new.items queue.new.items) }
+    ensures others { (b : ℕ) → b ≢ crossing.to.bridge → slice_get nodes.new.items b ≡ slice_get nodes.old.items b }
     ensures fates { OnOk result (AreEach (λ b x y. left (fate_in y.world) ≤ left (fate_in x.world)) nodes.old.items nodes.new.items) }
 {
     deliveries_end_soon();
@@ -93,27 +104,31 @@ fn deliver(
     let_come(alloc, &mut nodes[bridge], crossing, queue)
 }
 
-/// Frames between bridges arrive, one after another, until none is left. So many wires there are, and no more deliveries.
+/// Frames between bridges arrive, one after another, until none is left. So many wires there are, and no more deliveries. Answers to which
+/// bridges they came.
 fn deliver_all(
     alloc: Global,
     nodes: &mut Vec<Node>,
     wires: usize,
     queue: &mut VecDeque<Crossing>,
-) -> Result<(), NoMemory>
+) -> Result<u64, NoMemory>
     requires turn { (m : Turn) × (IsTurn m × (HasDelivered m 0 nodes.old.items queue.old.items × (wires ≡ length m.net.wires))) }
     requires few { All (λ x. left (fate_in x.world) < 2 ^ 57) nodes.old.items }
     ensures ok { OnOk result ((m : Turn) → IsTurn m → HasDelivered m 0 nodes.old.items queue.old.items → wires ≡ length m.net.wires
         → HasPlayed m.net m.bridge m.arrival m.dones m.told nodes.new.items queue.new.items) }
+    ensures others { IfOk result (λ touched. AreSameBut touched nodes.old.items nodes.new.items) }
     ensures fates { OnOk result (AreEach (λ b x y. left (fate_in y.world) ≤ left (fate_in x.world)) nodes.old.items nodes.new.items) }
 {
     deliveries_end_soon();
+    let mut touched = 0;
     for _delivery in 0..wires {
         let Some(crossing) = queue.pop_front() else {
-            return Ok(());
+            return Ok(touched);
         };
+        touched = with_mark(touched, crossing.to.bridge as usize);
         deliver(alloc, nodes, crossing, queue)?;
     }
-    Ok(())
+    Ok(touched)
 }
 
 /// A frame arrives at a bridge, and what leaves there for it is put at the end of the queue.
@@ -128,6 +143,7 @@ fn begin(
     requires few { All (λ x. left (fate_in x.world) < 2 ^ 57) nodes.old.items }
     ensures ok { OnOk result ((n : Wired) (s told : Dones) → IsComing n bridge (arrived arrival.now) s told nodes.old.items queue.old.items
         → Begins n bridge (arrived arrival.now) s told nodes.new.items queue.new.items) }
+    ensures others { (b : ℕ) → b ≢ bridge → slice_get nodes.new.items b ≡ slice_get nodes.old.items b }
     ensures fates { OnOk result (AreEach (λ b x y. left (fate_in y.world) ≤ left (fate_in x.world)) nodes.old.items nodes.new.items) }
 {
     bridges_handle();
@@ -142,18 +158,22 @@ fn play_arrival(
     queue: &mut VecDeque<Crossing>,
     bridge: u8,
     arrival: &Arrival,
-) -> Result<(), NoMemory>
+) -> Result<u64, NoMemory>
     requires can { (n : Wired) × ((s : Dones) × ((told : Dones) × (IsComing n bridge (arrived arrival.now) s told nodes.old.items queue.old.items × (wires ≡ length n.wires)))) }
     requires few { All (λ x. left (fate_in x.world) < 2 ^ 57) nodes.old.items }
     ensures ok { OnOk result ((n : Wired) (s told : Dones) → IsComing n bridge (arrived arrival.now) s told nodes.old.items queue.old.items → wires ≡ length n.wires
         → HasPlayed n bridge (arrived arrival.now) s told nodes.new.items queue.new.items) }
+    ensures others { IfOk result (λ touched. AreSameBut touched nodes.old.items nodes.new.items) }
     ensures fates { OnOk result (AreEach (λ b x y. left (fate_in y.world) ≤ left (fate_in x.world)) nodes.old.items nodes.new.items) }
 {
     begin(alloc, nodes, queue, bridge, arrival)?;
-    deliver_all(alloc, nodes, wires, queue)
+    let touched = deliver_all(alloc, nodes, wires, queue)?;
+    Ok(with_mark(touched, bridge as usize))
 }
 
 impl Net {
+    ghost use Rattle.exb_net.specs.Nets.{IsSetupOf, IsBegun, IsPlaying, IsOpen, Opens, Handled, Passes};
+
     /// The bridges of these setups, before their opening, each with the fate at its place; a fate is armed for the opening before.
     pub fn new(alloc: Global, setup: &NetSetup, fates: Vec<Box<dyn Fate>>) -> Result<Net, NoMemory>
         requires net { (n : Wired) × (IsSetupOf n setup.now × IsNet n) }
@@ -173,6 +193,7 @@ impl Net {
                 came: 0,
                 failed: false,
                 alloc,
+                touched: ALL,
             }),
             Err(_) => {
                 // By a call, since a block's end is far longer to prove where it lets worlds go.
@@ -196,6 +217,7 @@ impl Net {
         if self.failed {
             return Err(WorldFault::Failed);
         }
+        self.touched = ALL;
         match open_all(&mut self.nodes) {
             Ok(()) => Ok(()),
             Err(_) => {
@@ -222,6 +244,7 @@ impl Net {
         if seconds == 0 {
             return Ok(());
         }
+        self.touched = ALL;
         match pass_all(&mut self.nodes, seconds) {
             Ok(()) => Ok(()),
             Err(_) => {
@@ -251,11 +274,13 @@ impl Net {
         let nodes = &mut self.nodes;
         let queue = &mut self.queue;
         match play_arrival(self.alloc, nodes, self.wires, queue, bridge, arrival) {
-            Ok(()) => {
+            Ok(touched) => {
+                self.touched = both(self.touched, touched);
                 self.came += 1;
                 Ok(())
             }
             Err(_) => {
+                self.touched = ALL;
                 self.failed = true;
                 Err(WorldFault::Memory)
             }
@@ -278,6 +303,7 @@ impl Net {
         if self.failed {
             return Err(WorldFault::Failed);
         }
+        self.touched = with_mark(self.touched, bridge as usize);
         match order(&mut self.nodes[bridge as usize], command) {
             Ok(()) => Ok(()),
             Err(_) => {
@@ -295,6 +321,22 @@ impl Net {
         &self.nodes[bridge as usize].world
     }
 
+    /// A bridge to which something may have come since it was cleared, the first from this one on: to those before it nothing came. None where
+    /// nothing came to any from this one on.
+    pub fn first_touched(&self, from: usize) -> Option<usize>
+        ensures found { IfSome result (λ b. (from ≤ b) × (b < length self.now.nodes.items) × AreQuietFrom from b self.now.nodes.items) }
+        ensures none { IfNone result (AreQuietFrom from (length self.now.nodes.items) self.now.nodes.items) }
+    {
+        let Some(bridge) = first_marked(self.touched, from) else {
+            return None;
+        };
+        if bridge < self.nodes.len() {
+            Some(bridge)
+        } else {
+            None
+        }
+    }
+
     /// Forgets what was told and has left, of all bridges, and changes nothing else.
     pub fn clear(&mut self)
         ensures ok { (n : Wired) (s told : Dones) → IsPlaying n s told self.old → IsPlaying n s s self.new }
@@ -302,6 +344,7 @@ impl Net {
         ensures came { self.new.came ≡ self.old.came }
         ensures fates { AreEach (λ b x y. left (fate_in y.world) ≤ left (fate_in x.world)) self.old.nodes.items self.new.nodes.items }
     {
-        clear_all(&mut self.nodes);
+        clear_all(&mut self.nodes, self.touched);
+        self.touched = 0;
     }
 }

@@ -5,7 +5,7 @@ use Rattle.std.specs.List.{list_all}
 use Rattle.std.proofs.lemmas.Bool.{and_parts, false≢true}
 use Rattle.exb_text.specs.declared.output.Output.{Output}
 use Rattle.exb_text.specs.Names.{file_name, IsOfPort}
-use Rattle.exb_topology.proofs.Ends.{name_behind}
+use Rattle.exb_text.proofs.NameLemmas.{name_behind}
 use Rattle.exb_net_file.specs.Members.{prefix_of}
 use Rattle.exb_net_file.specs.Words.{is_letter, is_name}
 

@@ -1,25 +1,22 @@
 -- What the wires of a net are depends of each bridge on its name, its tree and its captures alone.
-use Rattle.std.proofs.Common.{◌≡◌, ◌+◌, ◌++◌, ◌∙◌, ◌==◌, ℕ, zero, suc, Bool, true, false, List, [], ◌∷◌, Option, Some, None, Result, Ok, Err, length, map, refl, ap, sym, if◌then◌else◌}
+use Rattle.std.proofs.Common.{◌≡◌, ◌+◌, ◌++◌, ◌∙◌, ℕ, Bool, true, false, List, [], ◌∷◌, Option, Some, None, Result, Ok, Err, length, map, refl, ap, sym, if◌then◌else◌}
 use Rattle.std.specs.Prelude.{codes, fold, nat_lt, option_map}
 use Rattle.std.specs.List.{list_any}
 use Rattle.std.specs.Str.{bytes_eq}
 use Rattle.exb_model.specs.Tree.{Shape, external_ports}
-use Rattle.exb_model.specs.Setup.{shape_of}
 use Rattle.exb_keys.specs.declared.faults.KeyFault.TheVariants as fault
-use Rattle.exb_keys.specs.Faults.{Refusal, at, ◌>>=◌}
+use Rattle.exb_keys.specs.Faults.{Refusal, ◌>>=◌}
 use Rattle.exb_nets.specs.declared.wires.End.{End}
 use Rattle.exb_nets.specs.declared.wires.Wire.{Wire}
 use Rattle.exb_nets.specs.Nets.{ends_of}
-use Rattle.exb_topology.specs.declared.topology.Topology.{Topology}
 use Rattle.exb_topology.specs.Checks.{output_names}
 use Rattle.exb_topology.specs.Each.{each_ok, refuse}
-use Rattle.exb_topology.specs.Topologies.{topology_view}
 use Rattle.exb_topology.proofs.Sound.{shape_alone, tree_alone}
 use Rattle.exb_net_file.specs.declared.members.NetMember.{NetMember}
 use Rattle.exb_net_file.specs.declared.rows.NetWire.{NetWire}
 use Rattle.exb_net_file.specs.declared.words.EndName.{EndName}
 use Rattle.exb_net_file.specs.Members.{files_ok, is_output_of_net, outputs_in, ports_together, prefix_of, tree_in}
-use Rattle.exb_net_file.specs.Wires.{are_joined, end_in, end_of_member, member_from, port_free, wire_in, wire_key, wires_from, wires_of}
+use Rattle.exb_net_file.specs.Wires.{end_in, end_of_member, member_from, port_free, wire_in, wire_key, wires_from, wires_of}
 
 -- a bridge of which only that is looked at
 abbrev pub alone : NetMember → NetMember

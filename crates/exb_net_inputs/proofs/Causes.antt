@@ -1,5 +1,5 @@
 -- Faults of bridges as those of their net: their causes, and what the shelf counted for them.
-use Rattle.std.proofs.Common.{◌≡◌, ◌<◌, ◌∙◌, ◌⊎◌, inl, inr, ℕ, List, Some, None, Option, Result, Ok, Err, length, refl, ap, sym, subst, arith}
+use Rattle.std.proofs.Common.{◌≡◌, ◌<◌, ◌∙◌, ◌⊎◌, inl, inr, ℕ, List, Result, Ok, Err, length, refl, ap, sym, subst}
 use Rattle.std.specs.Prelude.{IfErr}
 use Rattle.std.proofs.lemmas.Bool.{lt-ltb}
 use Rattle.exb_keys.specs.declared.faults.TopoFault.TheVariants as topology

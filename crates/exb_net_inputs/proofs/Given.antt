@@ -1,14 +1,13 @@
 -- What a bridge of a net is given is of its topology: a port without a capture has no records.
-use Rattle.std.proofs.Common.{◌≡◌, ◌==◌, ◌||◌, ◌∙◌, ℕ, Bool, true, false, List, [], ◌∷◌, Option, Some, None, refl, ap, if◌then◌else◌}
+use Rattle.std.proofs.Common.{◌≡◌, ◌==◌, ◌||◌, ◌∙◌, ℕ, Bool, true, false, List, [], ◌∷◌, Option, Some, refl, ap, if◌then◌else◌}
 use Rattle.std.specs.Prelude.{is_some}
 use Rattle.std.specs.List.{list_any}
-use Rattle.exb_model.specs.Input.{Record}
 use Rattle.exb_capture.specs.Captures.{capture_records, records_or_none}
 use Rattle.exb_shelf.specs.Files.{Files}
 use Rattle.exb_tables.specs.declared.rows.Named.{Named}
 use Rattle.exb_net_file.specs.declared.members.NetMember.{NetMember}
 use Rattle.exb_net_file.specs.Sound.{IsInputOf}
-use Rattle.exb_inputs.specs.Inputs.{bytes_at, input_of, is_named, name_of, records_at}
+use Rattle.exb_inputs.specs.Inputs.{bytes_at, input_of, is_named, name_of}
 
 -- a port has a capture where one is named for it
 named_any : (names : List Named) (p : ℕ) → is_named names p ≡ list_any (λ capture. capture.port == p) names

@@ -17,7 +17,7 @@ use Rattle.exb_inputs.specs.Checks.{AreChecked}
 use Rattle.exb_inputs.specs.Shelving.{OpensEach, ReadsCapture}
 use Rattle.exb_net_inputs.specs.Checking.{AreAllMembersGood, AreGood, AreMembersChecked}
 use Rattle.exb_net_inputs.specs.Holding.{HoldsMember, HoldsMembers}
-use Rattle.exb_net_inputs.specs.OneByOne.{OneByOne, OpensOneByOne}
+use Rattle.exb_net_inputs.specs.OneByOne.{OpensOneByOne}
 use Rattle.exb_net_inputs.specs.Opening.{OpensCaptures, OpensEachOf, ReadsMemberBelow}
 use Rattle.exb_net_inputs.proofs.Lists.{all_push, both_push, nothing_at, ones_more}
 use Rattle.exb_net_inputs.proofs.Members.{below_done, captures_next, each_next_of}

@@ -1,14 +1,13 @@
 -- The captures of bridges, bridge after bridge.
-use Rattle.std.proofs.Common.{◌≡◌, ◌≢◌, ◌<◌, ◌≤◌, ◌+◌, ◌++◌, ◌∙◌, ◌⊎◌, inl, inr, ℕ, zero, suc, true, List, [], ◌∷◌, Some, Result, Ok, Err, length, map, take, get_or, refl, ap, sym, subst, arith}
-use Rattle.std.specs.Prelude.{All, slice_get}
+use Rattle.std.proofs.Common.{◌≡◌, ◌<◌, ◌≤◌, ◌+◌, ◌∙◌, ◌⊎◌, inl, inr, ℕ, List, Some, length, take, get_or, refl, ap, sym, subst, arith}
+use Rattle.std.specs.Prelude.{slice_get}
 use Rattle.std.proofs.lemmas.Bool.{cases_eq}
 use Rattle.exb_shelf.specs.Files.{Files}
-use Rattle.exb_shelf.specs.Shelf.{Id, IsReadingOf, Opens}
-use Rattle.exb_shelf.proofs.IdLemmas.{opens_none, opens_then, opens_weaker}
+use Rattle.exb_shelf.specs.Shelf.{Id, Opens}
+use Rattle.exb_shelf.proofs.IdLemmas.{opens_then, opens_weaker}
 use Rattle.exb_net_file.specs.declared.members.NetMember.{NetMember}
 use Rattle.exb_inputs.specs.declared.fault.Fault.{Fault}
-use Rattle.exb_inputs.specs.declared.fault.Fault.TheVariants.{Memory, MemberCapture}
-use Rattle.exb_inputs.specs.declared.fault.Flaw.{Flaw}
+use Rattle.exb_inputs.specs.declared.fault.Fault.TheVariants.{Memory}
 use Rattle.exb_inputs.specs.Checks.{IsGoodNamed}
 use Rattle.exb_inputs.specs.Inputs.{name_of}
 use Rattle.exb_inputs.specs.Reading.{IsOfCapture}

@@ -1,32 +1,21 @@
 -- What was opened, and what is known of it, bridge after bridge.
-use Rattle.std.proofs.Common.{◌≡◌, ◌≢◌, ◌<◌, ◌≤◌, ◌+◌, ◌++◌, ◌∙◌, ◌⊎◌, inl, inr, ℕ, zero, suc, true, List, [], ◌∷◌, Some, Result, Ok, Err, length, map, take, get_or, refl, ap, sym, subst, arith}
+use Rattle.std.proofs.Common.{◌≡◌, ◌<◌, ◌≤◌, ◌+◌, ◌++◌, ◌∙◌, ◌⊎◌, inl, inr, ℕ, zero, suc, List, [], ◌∷◌, Some, Result, Ok, Err, length, map, take, get_or, refl, ap, sym, subst, arith}
 use Rattle.std.specs.Prelude.{All, slice_get}
-use Rattle.std.specs.declared.alloc.Global.{Global}
-use Rattle.std.specs.declared.vec.Vec.{Vec}
 use Rattle.std.proofs.Math.Seq.{take-length}
 use Rattle.std.proofs.lemmas.List.{map-append, take_all, take_more}
 use Rattle.std.proofs.lemmas.Option.{get_or_from_slice_get, slice_get_within}
 use Rattle.exb_shelf.specs.Files.{Files}
 use Rattle.exb_shelf.specs.Shelf.{Id, IsReadingOf, Opens}
-use Rattle.exb_shelf.proofs.IdLemmas.{opens_none, opens_then, opens_weaker}
 use Rattle.exb_net_file.specs.declared.file.NetFile.{NetFile}
 use Rattle.exb_net_file.specs.declared.members.NetMember.{NetMember}
 use Rattle.exb_net_file.specs.declared.rows.NetBridge.{NetBridge}
 use Rattle.exb_inputs.specs.declared.fault.Fault.{Fault}
-use Rattle.exb_inputs.specs.declared.fault.Fault.TheVariants.{MemberCapture}
-use Rattle.exb_inputs.specs.declared.fault.Flaw.{Flaw}
-use Rattle.exb_inputs.specs.Checks.{IsGoodNamed}
-use Rattle.exb_inputs.specs.Inputs.{name_of}
-use Rattle.exb_inputs.specs.Shelving.{OpensEach, ReadsBelow, ReadsCapture}
-use Rattle.exb_inputs.proofs.Asking.{some_once}
-use Rattle.exb_inputs.proofs.ShelvingLemmas.{new_later, new_stays}
 use Rattle.exb_net_inputs.specs.declared.reading.NetInputs.{NetInputs}
-use Rattle.exb_net_inputs.specs.Checking.{AreAllMembersGood, AreGood}
 use Rattle.exb_net_inputs.specs.Holding.{HoldsMember, HoldsMembers, HoldsNetFile, IsTopologyThere}
 use Rattle.exb_net_inputs.specs.OneByOne.{OpensOneByOne}
-use Rattle.exb_net_inputs.specs.Opening.{EndsAtMember, EndsWithin, OpensCaptures, OpensEachOf, OpensNet, OpensTopologies, ReadsMemberBelow, ReadsMemberCapture, ReadsTopologyOf}
-use Rattle.exb_net_inputs.specs.Refusing.{FirstMemberFault, FirstRefused, IsOwnFault, IsOwnRefusal}
-use Rattle.exb_net_inputs.proofs.Lists.{all_push, both_some, get_here, ones_all, ones_none, ones_push, taken_at}
+use Rattle.exb_net_inputs.specs.Opening.{OpensNet, OpensTopologies, ReadsTopologyOf}
+use Rattle.exb_net_inputs.specs.Refusing.{FirstRefused, IsOwnRefusal}
+use Rattle.exb_net_inputs.proofs.Lists.{both_some, get_here, ones_all, ones_push, taken_at}
 
 -- ---- places
 pub all_get : {X : Type 0} (P : X → Type 0) (xs : List X) (k : ℕ) (x : X) → All P xs → slice_get xs k ≡ Some x → P x

@@ -1,12 +1,10 @@
 -- A net has one fault or none: that of its file, of a topology or of its wires, and then of a capture.
-use Rattle.std.proofs.Common.{◌≡◌, ◌≢◌, ◌<◌, ◌+◌, ◌∙◌, ◌⊎◌, inl, inr, ℕ, zero, suc, List, [], ◌∷◌, Option, Some, None, Result, Ok, Err, map, refl, ap, sym, subst, arith}
-use Rattle.std.specs.Prelude.{All, slice_get}
+use Rattle.std.proofs.Common.{◌≡◌, ◌∙◌, ◌⊎◌, inl, inr, ℕ, zero, suc, List, [], ◌∷◌, Option, Some, None, Result, Ok, Err, map, refl, ap, sym, subst, arith}
+use Rattle.std.specs.Prelude.{slice_get}
 use Rattle.std.proofs.lemmas.Bool.{cases_lt}
 use Rattle.exb_keys.specs.Faults.{Refusal}
-use Rattle.exb_model.specs.declared.setup.ExtenderSetup.{ExtenderSetup}
 use Rattle.exb_shelf.specs.Files.{Files}
 use Rattle.exb_nets.specs.declared.wires.Wire.{Wire}
-use Rattle.exb_tables.specs.declared.rows.Named.{Named}
 use Rattle.exb_topology.specs.Topologies.{TopologySeen, topology_view}
 use Rattle.exb_topology.proofs.Sound.{tree_alone}
 use Rattle.exb_net_file.specs.declared.file.NetFile.{NetFile}
@@ -15,9 +13,7 @@ use Rattle.exb_net_file.specs.declared.rows.NetBridge.{NetBridge}
 use Rattle.exb_net_file.specs.Files.{net_file_of}
 use Rattle.exb_net_file.specs.Wires.{wires_of}
 use Rattle.exb_inputs.specs.declared.fault.Fault.{Fault}
-use Rattle.exb_inputs.specs.Answers.{HoldsTopology, IsRefused}
-use Rattle.exb_inputs.specs.Checks.{FirstFault}
-use Rattle.exb_inputs.proofs.Asking.{err_once, holds_once, none_or_some, ok_once, ok_or_err, some_once}
+use Rattle.exb_inputs.proofs.Asking.{err_once, holds_once, ok_once, ok_or_err, some_once}
 use Rattle.exb_inputs.proofs.FaultLemmas.{first_none, first_once}
 use Rattle.exb_inputs.proofs.Refused.{held_not, refused_once}
 use Rattle.exb_net_inputs.specs.Checking.{AreAllMembersGood, AreGood}

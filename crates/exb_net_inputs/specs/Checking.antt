@@ -1,5 +1,5 @@
 -- What checking tells of the captures of all bridges.
-use Rattle.std.specs.Prelude.{ℕ, List, All}
+use Rattle.std.specs.Prelude.{List, All}
 use Rattle.std.specs.declared.alloc.Global.{Global}
 use Rattle.std.specs.declared.vec.Vec.{Vec}
 use Rattle.exb_shelf.specs.Files.{Files}

@@ -1,5 +1,5 @@
 -- What is opened while a net is read and the captures of its bridges are checked.
-use Rattle.std.specs.Prelude.{◌≡◌, ◌<◌, ◌≤◌, ◌+◌, ◌⊎◌, ℕ, true, List, [], ◌∷◌, Some, Result, IfOk, length, map, slice_get, take}
+use Rattle.std.specs.Prelude.{◌≡◌, ◌<◌, ◌≤◌, ◌+◌, ◌⊎◌, ℕ, true, List, ◌∷◌, Some, Result, IfOk, length, map, slice_get, take}
 use Rattle.exb_shelf.specs.Files.{Files}
 use Rattle.exb_shelf.specs.Shelf.{Id, IsReadingOf, Opens}
 use Rattle.exb_net_file.specs.declared.file.NetFile.{NetFile}

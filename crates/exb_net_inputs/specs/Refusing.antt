@@ -1,5 +1,5 @@
 -- Why a net is not taken: the first of all faults, in the order in which they are looked for.
-use Rattle.std.specs.Prelude.{◌≡◌, ◌<◌, ◌⊎◌, ℕ, List, Option, Some, None, Result, Ok, Err, slice_get}
+use Rattle.std.specs.Prelude.{◌≡◌, ◌<◌, ◌⊎◌, ℕ, List, Option, Some, None, Result, Err, slice_get}
 use Rattle.exb_keys.specs.declared.faults.TopoFault.{TopoFault}
 use Rattle.exb_keys.specs.declared.faults.TopoFault.TheVariants as topology
 use Rattle.exb_keys.specs.Faults.{Refusal, not_toml, large, at}

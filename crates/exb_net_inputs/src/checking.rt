@@ -1,9 +1,8 @@
 //! Checking the captures of all bridges of a net.
-ghost use Rattle.std.specs.Prelude.{◌≡◌, ◌⊎◌, ℕ, List, IfOk, OnOk, IfErr};
+ghost use Rattle.std.specs.Prelude.{◌≡◌, ◌⊎◌, IfOk, OnOk, IfErr};
 ghost use Rattle.exb_shelf.specs.Files.{SameFiles};
 ghost use Rattle.exb_shelf.specs.Shelf.{Opens};
 ghost use Rattle.exb_inputs.specs.declared.fault.Fault.{Fault};
-ghost use Rattle.exb_inputs.specs.declared.fault.Flaw.{Flaw};
 ghost use Rattle.exb_inputs.specs.Checks.{AreChecked};
 ghost use Rattle.exb_inputs.specs.Shelving.{CountsFaults, OpensEach, ReadsCapture};
 ghost use Rattle.exb_net_inputs.specs.Checking.{AreAllMembersGood, AreGood, AreMembersChecked};

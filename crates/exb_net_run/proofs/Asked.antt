@@ -1,11 +1,10 @@
 -- A net that is asked for: what was read and checked, what was opened, and how it ends.
-use Rattle.std.proofs.Common.{◌≡◌, ◌≢◌, ◌⊎◌, ℕ, zero, suc, ◌+◌, ◌<◌, ◌≤◌, Bool, true, false, List, [], ◌∷◌, length, map, take, Option, Some, None, Result, Ok, Err, refl, ap, sym, ◌∙◌, subst, arith, inl, inr}
+use Rattle.std.proofs.Common.{◌≡◌, ◌≢◌, ◌⊎◌, ℕ, zero, suc, ◌<◌, Bool, true, false, List, [], ◌∷◌, length, map, take, Some, None, Result, Ok, Err, refl, ap, sym, ◌∙◌, subst, arith, inl, inr}
 use Rattle.std.specs.Prelude.{IfErr, IsErrOf, String, option_map, slice_get}
 use Rattle.std.specs.declared.alloc.Global.{Global}
 use Rattle.std.proofs.lemmas.Bool.{false≢true}
 use Rattle.std.proofs.lemmas.List.{length-map}
 use Rattle.std.proofs.lemmas.Option.{slice_get-map}
-use Rattle.exb_keys.specs.declared.faults.TopoFault.{TopoFault}
 use Rattle.exb_keys.specs.declared.faults.TopoFault.TheVariants as topology
 use Rattle.exb_inputs.specs.declared.fault.Fault.{Fault}
 use Rattle.exb_inputs.specs.declared.fault.Fault.TheVariants.{Usage, Missing, Topology, Capture, Changed, Net, Member, MemberCapture, MemberChanged, Output, TooLarge, BadLine, Illegal, Read, Write, Memory}
@@ -21,13 +20,12 @@ use Rattle.exb_net_file.specs.declared.rows.NetBridge.{NetBridge}
 use Rattle.exb_net_file.specs.Members.{prefix_of, tree_in}
 use Rattle.exb_net_inputs.specs.declared.reading.NetInputs.{NetInputs}
 use Rattle.exb_net_inputs.specs.Checking.{AreAllMembersGood}
-use Rattle.exb_net_inputs.specs.Holding.{AreRead, HoldsNet, HoldsNetFile}
+use Rattle.exb_net_inputs.specs.Holding.{AreRead, HoldsNet}
 use Rattle.exb_net_inputs.specs.Laws.{HaveOneCause}
-use Rattle.exb_net_inputs.specs.OneByOne.{OpensOneByOne}
 use Rattle.exb_net_inputs.specs.Opening.{EndsAtMember, OpensCaptures, OpensEachOf, OpensNet, ReadsMemberCapture, ReadsTopologyOf}
 use Rattle.exb_net_inputs.specs.Reading.{IsOfMemberCapture}
 use Rattle.exb_net_inputs.specs.Reading.{IsOfNet as IsOfReading}
-use Rattle.exb_net_inputs.specs.Refusing.{FirstMemberFault, IsNetRefused, NetCaptureFaulty}
+use Rattle.exb_net_inputs.specs.Refusing.{FirstMemberFault, IsNetRefused}
 use Rattle.exb_net_inputs.proofs.Alone.{alone, tree_same}
 use Rattle.exb_net_inputs.proofs.Lists.{ones_all}
 use Rattle.exb_net_inputs.proofs.Refused.{file_once, net_once}
@@ -35,12 +33,12 @@ use Rattle.exb_outputs.specs.Names.{IsOutput}
 use Rattle.exb_shelf.specs.Files.{Files, SameFiles}
 use Rattle.exb_shelf.specs.Shelf.{Id, IsReading, IsReadingOf, Opens}
 use Rattle.exb_shelf.proofs.IdLemmas.{opens_then, opens_weaker}
-use Rattle.exb_net_run.specs.Answers.{IsNetFailure, IsNetReady, IsOfNet, IsOfNetPlay, NetStops, OnlyNetAsked}
+use Rattle.exb_net_run.specs.Answers.{IsNetFailure, IsOfNet, IsOfNetPlay, NetStops, OnlyNetAsked}
 use Rattle.exb_net_run.specs.Nets.{IsNetOutput, OnlyNetOutputs, options_with}
-use Rattle.exb_net_run.specs.Opening.{HasCaptureAt, IsNetLate, IsNetWanted, MakesNet, MakesNetOutputOf, NetMadeBehind, NetOpens, NetOpensInOrder, ReadsNet, ReadsNetCapture, ReadsNetTopology, WritesNetOutput, net_names}
+use Rattle.exb_net_run.specs.Opening.{HasCaptureAt, IsNetLate, IsNetWanted, MakesNet, MakesNetOutputOf, NetMadeBehind, NetOpens, NetOpensInOrder, ReadsNet, WritesNetOutput, net_names}
 use Rattle.exb_net_run.specs.Shelving.{IsNetChange}
 use Rattle.exb_net_run.proofs.Held.{mapped_some}
-use Rattle.exb_net_run.proofs.Turns.{read_then_turn, turn_none, turn_then_read}
+use Rattle.exb_net_run.proofs.Turns.{read_then_turn, turn_none}
 
 -- ---- faults
 pub reading_net : (x : Fault) → IsOfReading x → IsOfNet x

@@ -1,5 +1,5 @@
 -- What comes next of the programmes of all bridges: how the net stands before it.
-use Rattle.std.proofs.Common.{◌≡◌, ◌≢◌, ℕ, zero, suc, ◌+◌, ◌-◌, ◌^◌, ◌<◌, ◌≤◌, ◌==◌, ◌++◌, Bool, true, false, cond, List, [], ◌∷◌, length, drop, Option, Some, None, refl, ap, sym, subst, ◌∙◌, arith, inl, inr, append_assoc, slice_index}
+use Rattle.std.proofs.Common.{◌≡◌, ◌≢◌, ℕ, zero, suc, ◌+◌, ◌-◌, ◌^◌, ◌<◌, ◌≤◌, ◌++◌, true, false, List, [], ◌∷◌, length, drop, Option, Some, None, refl, ap, sym, subst, ◌∙◌, arith, inl, inr, append_assoc, slice_index}
 use mathlib.Core.Path.{fun_ext}
 use Rattle.std.specs.Prelude.{slice_get}
 use Rattle.std.specs.List.{AllByRecursion}
@@ -10,16 +10,16 @@ use Rattle.std.proofs.lemmas.Option.{same_Some, slice_get_within}
 use Rattle.exb_model.specs.declared.setup.Timed.{Timed}
 use Rattle.exb_model.specs.Input.{moment_of, second_of, seconds_after}
 use Rattle.exb_schedule.specs.Playing.{letters_in}
-use Rattle.exb_shelf.specs.Files.{Files, SameFiles}
+use Rattle.exb_shelf.specs.Files.{Files}
 use Rattle.exb_shelf.specs.Shelf.{Id, writing}
-use Rattle.exb_merge.specs.declared.agenda.Agenda.{Agenda}
 use Rattle.exb_merge.specs.declared.agenda.NetNext.{NetNext}
 use Rattle.exb_merge.specs.declared.programme.Next.{Next}
 use Rattle.exb_merge.specs.declared.programme.Next.TheVariants as next
 use Rattle.exb_merge.specs.declared.programme.Programme.{Programme}
-use Rattle.exb_merge.specs.NetAgendas.{AreAllReplays, ComesTo, IsAgenda, IsFirstOf, IsOfBridge, all_ids, all_to_play, due_of, dues_left, programmes_in}
+use Rattle.exb_merge.specs.NetAgendas.{AreAllReplays, ComesTo, IsFirstOf, IsOfBridge, all_ids, all_to_play, due_of, dues_left}
 use Rattle.exb_merge.specs.Programmes.{IsOf, what}
 use Rattle.exb_merge.specs.Replays.{HasPort, ReadsOn, standings}
+use Rattle.exb_merge.proofs.Onward.{ports_before}
 use Rattle.exb_merge.specs.Streams.{Stream}
 use Rattle.exb_nets.specs.Nets.{Net}
 use Rattle.exb_nets.specs.NetHistory.{Due, dues}
@@ -30,13 +30,12 @@ use Rattle.exb_net.specs.declared.node.Node.{Node}
 use Rattle.exb_net.proofs.Places.{is_there}
 use Rattle.exb_outputs.specs.Apart.{AreApart}
 use Rattle.exb_outputs.specs.Plans.{Planned}
-use Rattle.exb_outputs.specs.Writing.{IsReady, ids_of}
+use Rattle.exb_outputs.specs.Writing.{ids_of}
 use Rattle.exb_outputs.proofs.Keeping.{apart-read}
 use Rattle.exb_net_run.specs.declared.desk.Desk.{Desk}
 use Rattle.exb_net_run.specs.declared.game.NetGame.{NetGame}
 use Rattle.exb_net_run.specs.Desks.{AreReady}
 use Rattle.exb_net_run.specs.UnderWay.{AreOfRests, IsAllTold, IsAt, IsCutOff, IsDue, IsFew, IsGoing, IsPaid, IsWithin, LeadsOn, NetRun, ReadsOthers, commands_in, letters_at, letters_for, letters_of}
-use Rattle.exb_net_run.proofs.Coming.{ports-before}
 use Rattle.exb_net_run.proofs.Going.{cut-noted}
 use Rattle.exb_net_run.proofs.Steps.{clock-on, ends}
 
@@ -219,7 +218,7 @@ pub ports-on : (old : List Programme) (d : NetNext) (ps : List Programme) → Co
 ports-on old d ps comes b q (p, is, has) = elim (cases_eq b d.bridge) [
   | inl same ↦
       let own : comes.is ≡ p = same_Some comes.is p (sym comes.is_there ∙ subst (λ (k : ℕ). slice_get ps k ≡ Some p) same is) in
-      (comes.was, subst (λ (k : ℕ). slice_get old k ≡ Some comes.was) (sym same) comes.was_there, ports-before comes.was d.next comes.is comes.coming.is q (subst (λ (z : Programme). HasPort q (standings z.captures)) (sym own) has))
+      (comes.was, subst (λ (k : ℕ). slice_get old k ≡ Some comes.was) (sym same) comes.was_there, ports_before comes.was d.next comes.is comes.coming.is q (subst (λ (z : Programme). HasPort q (standings z.captures)) (sym own) has))
   | inr ne ↦ (p, sym (comes.others b ne) ∙ is, has)
 ]
 

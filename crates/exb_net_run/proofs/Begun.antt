@@ -1,8 +1,7 @@
 -- A net that is opened: what its bridges told can be noted, and then it goes on.
-use Rattle.std.proofs.Common.{◌≡◌, ℕ, zero, suc, ◌+◌, ◌*◌, ◌^◌, ◌<◌, ◌≤◌, ◌++◌, List, [], ◌∷◌, length, map, All, Option, Some, None, refl, ap, sym, subst, ◌∙◌, arith, inl, inr}
-use Rattle.std.specs.Prelude.{slice_get, sum_by}
+use Rattle.std.proofs.Common.{◌≡◌, ℕ, ◌<◌, List, [], length, All, Some, None, refl, ap, sym, subst, ◌∙◌, arith, inl, inr}
+use Rattle.std.specs.Prelude.{slice_get}
 use Rattle.std.proofs.lemmas.Option.{slice_get_within}
-use Rattle.exb_machine.specs.Stepping.{Stepped}
 use Rattle.exb_machine.specs.Worlds.{Left}
 use Rattle.exb_resting.specs.Flight.Showing.{left_at}
 use Rattle.exb_schedule.specs.Worlds.{network_of}
@@ -10,22 +9,15 @@ use Rattle.exb_shelf.specs.Files.{Files}
 use Rattle.exb_shelf.specs.Shelf.{Id}
 use Rattle.exb_merge.specs.declared.programme.Programme.{Programme}
 use Rattle.exb_merge.specs.NetAgendas.{all_to_play, dues_left}
-use Rattle.exb_merge.specs.Replays.{left_in}
-use Rattle.exb_nets.specs.Nets.{Net}
 use Rattle.exb_wiring.specs.Delivering.{HaveBegun, OpenedNetsRun}
-use Rattle.exb_wiring.specs.Playing.{AreOpened, Dones}
 use Rattle.exb_wiring.specs.UnderWay.{IsNew, OpenedNetsAreNew}
 use Rattle.exb_net.specs.declared.net.Net.{Net as Bridges}
-use Rattle.exb_net.specs.declared.node.Node.{Node}
 use Rattle.exb_net.specs.Nets.{IsPlaying, Opens, no_dones}
-use Rattle.exb_net.proofs.Places.{is_there}
 use Rattle.exb_outputs.specs.Plans.{Planned}
-use Rattle.exb_writers.specs.Counts.{GoTogether}
 use Rattle.exb_writers.proofs.PortCounts.{none_together}
-use Rattle.exb_net_run.specs.declared.desk.Desk.{Desk}
 use Rattle.exb_net_run.specs.declared.game.NetGame.{NetGame}
 use Rattle.exb_net_run.specs.Desks.{AllGoTogether, AreAllFronts, AreMore, AreNoted, AreReady, CanNoteAll, OnlyAllPlanned, OnlyWritesAll, plans_in}
-use Rattle.exb_net_run.specs.UnderWay.{CanBegin, GoesOn, GoesOnAt, IsCutOff, IsFew, IsGoing, IsLow, NetRun}
+use Rattle.exb_net_run.specs.UnderWay.{CanBegin, GoesOn, IsCutOff, IsFew, IsGoing, IsLow, NetRun}
 use Rattle.exb_net_run.proofs.Bounds.{can-note}
 use Rattle.exb_net_run.proofs.Going.{ToldStays, fronts_of, leads_stay, others_kept}
 use Rattle.exb_net_run.proofs.Noted.{plan_at, plans-long}

@@ -1,5 +1,5 @@
 -- How much a bridge has told and sent: all of it can be written and counted.
-use Rattle.std.proofs.Common.{◌≡◌, ℕ, zero, suc, ◌+◌, ◌*◌, ◌^◌, ◌<◌, ◌≤◌, ◌==◌, ◌++◌, Bool, true, cond, List, [], ◌∷◌, length, All, get_or, filter, refl, ap, sym, subst, ◌∙◌, arith}
+use Rattle.std.proofs.Common.{◌≡◌, ℕ, zero, suc, ◌*◌, ◌^◌, ◌<◌, ◌≤◌, ◌==◌, ◌++◌, Bool, true, cond, List, [], ◌∷◌, length, All, get_or, filter, ap, sym, subst, ◌∙◌, arith}
 use Rattle.std.specs.Prelude.{sum_by}
 use Rattle.std.proofs.lemmas.List.Sums.{sum_by-cons}
 use Rattle.exb_model.specs.declared.event.Event.{Event}
@@ -20,8 +20,7 @@ use Rattle.exb_outputs.specs.Plans.{Planned}
 use Rattle.exb_outputs.specs.Sent.{capture_size}
 use Rattle.exb_outputs.proofs.Places.{external_low, few_external}
 use Rattle.exb_writers.specs.declared.counted.Counted.{Counted}
-use Rattle.exb_writers.specs.Counts.{CanCount, GoTogether, IsCounted, counts_so_far}
-use Rattle.exb_writers.specs.Leaving.{CanBeWritten}
+use Rattle.exb_writers.specs.Counts.{GoTogether, IsCounted, counts_so_far}
 use Rattle.exb_writers.proofs.Counting.{LeftExternal, count_events, count_events-left, hit_once, length_by_port}
 use Rattle.exb_writers.proofs.PortCounts.{drops_few, ignored_few, octets_few, ports-can, relayed_few}
 use Rattle.exb_writers.proofs.Telling.{counts-more}

@@ -1,5 +1,5 @@
 -- The end of a net: what was written and counted of its bridges is what the net calls for.
-use Rattle.std.proofs.Common.{◌≡◌, ◌≢◌, ℕ, zero, suc, ◌+◌, ◌*◌, ◌^◌, ◌<◌, ◌≤◌, ◌++◌, Bool, true, false, List, [], ◌∷◌, length, map, All, get_or, Option, Some, None, refl, ap, sym, subst, ◌∙◌, arith, inr}
+use Rattle.std.proofs.Common.{◌≡◌, ◌≢◌, ℕ, zero, suc, ◌+◌, ◌*◌, ◌^◌, ◌<◌, ◌≤◌, true, false, List, [], ◌∷◌, length, map, All, Option, Some, None, refl, ap, sym, subst, ◌∙◌, arith, inr}
 use Rattle.std.specs.Prelude.{option_map, slice_get, sum_by}
 use Rattle.std.specs.List.{range_with_len}
 use Rattle.std.proofs.lemmas.Bool.{false≢true}
@@ -8,21 +8,19 @@ use Rattle.std.proofs.lemmas.List.Sums.{sum_by-cons}
 use Rattle.std.proofs.lemmas.Option.{same_Some, slice_get-map, slice_get_within}
 use Rattle.exb_model.specs.FlatBridge.{flat}
 use Rattle.exb_model.specs.History.{History, ◌then◌}
-use Rattle.exb_model.specs.Input.{basis_of, tree_of}
 use Rattle.exb_model.specs.Ports.{below}
-use Rattle.exb_model.specs.Texts.{Counts, capture_text, counts, journal_text, summary_line, with_left}
-use Rattle.exb_model.specs.Tree.{Shape, IsTree, external_ports, is_external}
+use Rattle.exb_model.specs.Texts.{Counts, capture_text, counts, summary_line}
+use Rattle.exb_model.specs.Tree.{Shape, external_ports, is_external}
 use Rattle.exb_counters.specs.declared.counters.Counters.{Counters}
 use Rattle.exb_counters.specs.Counters.{count_text}
 use Rattle.exb_machine.specs.Runs.Passed.{passed_over}
 use Rattle.exb_machine.specs.Stepping.{Stepped}
-use Rattle.exb_machine.specs.Worlds.{Left}
 use Rattle.exb_resting.specs.Flight.Showing.{left_at}
 use Rattle.exb_shelf.specs.Files.{Files}
 use Rattle.exb_shelf.specs.Shelf.{Id}
 use Rattle.exb_text.specs.declared.output.Output.{Output}
 use Rattle.exb_text.specs.declared.output.Output.TheVariants as output
-use Rattle.exb_text.specs.Tallies.{FitsTally, counts_of, nothing_counted}
+use Rattle.exb_text.specs.Tallies.{counts_of, nothing_counted}
 use Rattle.exb_nets.specs.Nets.{Net}
 use Rattle.exb_nets.specs.NetHistory.{Histories, basis_in, dues}
 use Rattle.exb_wiring.specs.Counting.{CountsGoOn}
@@ -30,9 +28,8 @@ use Rattle.exb_wiring.specs.Laws.{ArePlayedEagerly, IsShown, NetsArePlayedEagerl
 use Rattle.exb_wiring.specs.Playing.{Dones, tree_in}
 use Rattle.exb_outputs.specs.declared.outputs.Outputs.{Outputs}
 use Rattle.exb_outputs.specs.Plans.{Planned, IsMade, kind_at, output_count}
-use Rattle.exb_outputs.specs.Sent.{AreCountedAt, HasSent, capture_size}
+use Rattle.exb_outputs.specs.Sent.{HasSent, capture_size}
 use Rattle.exb_outputs.proofs.ByKind.{kind_is}
-use Rattle.exb_outputs.proofs.Places.{external_low, few_external}
 use Rattle.exb_outputs.proofs.Sizes.{counted_of}
 use Rattle.exb_writers.specs.Counts.{AreCounted, counts_so_far, counts_text, counts_with}
 use Rattle.exb_writers.specs.Texts.{output_text}
@@ -42,7 +39,7 @@ use Rattle.exb_net.proofs.Places.{is_there}
 use Rattle.exb_net_run.specs.declared.desk.Desk.{Desk}
 use Rattle.exb_net_run.specs.declared.game.NetGame.{NetGame}
 use Rattle.exb_net_run.specs.Desks.{AreAllFronts, AreNoted, AreWhole, CanEndAll, IsWhole, OnlyAllPlanned, plans_in, tallies_in, text_of}
-use Rattle.exb_net_run.specs.Summing.{added, counts_in, net_summary}
+use Rattle.exb_net_run.specs.Summing.{added, counts_in}
 use Rattle.exb_net_run.specs.UnderWay.{AreDesks, HasWritten, IsAllTold, IsCutOff, IsFew, NetRun}
 use Rattle.exb_net_run.proofs.Bounds.{few-frames, own, sizes-fit}
 use Rattle.exb_net_run.proofs.Noted.{desk_at, plan_at}

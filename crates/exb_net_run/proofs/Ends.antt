@@ -1,35 +1,29 @@
 -- What a net leaves, whether it was played to its end or not.
-use Rattle.std.proofs.Common.{◌≡◌, ℕ, ◌<◌, ◌++◌, Bool, true, List, [], ◌∷◌, length, map, Option, Some, None, refl, ap, sym, ◌∙◌, subst, arith, inl, inr}
+use Rattle.std.proofs.Common.{◌≡◌, ℕ, ◌<◌, ◌++◌, Bool, true, List, [], length, map, Option, Some, None, refl, ap, ◌∙◌, subst, arith, inl, inr}
 use Rattle.std.specs.Prelude.{slice_get}
 use Rattle.std.proofs.lemmas.Option.{slice_get-map, slice_get_within}
-use Rattle.exb_model.specs.declared.event.Event.{Event}
 use Rattle.exb_model.specs.FlatBridge.{flat}
-use Rattle.exb_model.specs.History.{History, ◌then◌}
 use Rattle.exb_model.specs.Input.{basis_of, tree_of}
-use Rattle.exb_model.specs.Tree.{Shape, IsTree, is_external}
-use Rattle.exb_machine.specs.Stepping.{Stepped}
+use Rattle.exb_model.specs.Tree.{is_external}
 use Rattle.exb_resting.specs.Flight.Showing.{left_at}
 use Rattle.exb_nets.specs.Nets.{Net, IsNet}
-use Rattle.exb_nets.specs.NetHistory.{Due, Histories, NetEager, Goes, dues, openings}
+use Rattle.exb_nets.specs.NetHistory.{Due, Goes, openings}
 use Rattle.exb_nets.specs.Ending.{NetsHaveHistories}
 use Rattle.exb_nets.specs.Laws.{HistoriesGoOn}
-use Rattle.exb_nets.specs.Order.{AreHere, AreInOrder}
 use Rattle.exb_wiring.specs.Laws.{NetsArePlayed}
 use Rattle.exb_net.specs.Nets.{no_dones}
 use Rattle.exb_net_file.specs.declared.members.NetMember.{NetMember}
-use Rattle.exb_net_file.specs.Members.{prefix_of, tree_in}
-use Rattle.exb_outputs.specs.Names.{IsCut}
-use Rattle.exb_outputs.specs.Plans.{Planned, kind_at, output_count, output_name}
+use Rattle.exb_net_file.specs.Members.{tree_in}
+use Rattle.exb_outputs.specs.Plans.{Planned}
 use Rattle.exb_outputs.proofs.Places.{external_low}
 use Rattle.exb_shelf.specs.Files.{Files}
 use Rattle.exb_text.specs.declared.output.Output.{Output}
 use Rattle.exb_outputs.specs.Writing.{first_text}
 use Rattle.exb_writers.specs.Texts.{output_text}
-use Rattle.exb_net_run.specs.Desks.{AreAllFronts, AreFronts, IsWhole, OnlyAllPlanned}
 use Rattle.exb_net_run.specs.Nets.{plan_with}
 use Rattle.exb_net_run.specs.Outputs.{AreNetFronts, IsNetPlayed}
 use Rattle.exb_net_run.specs.Setting.{AreCutAs}
-use Rattle.exb_net_run.specs.UnderWay.{HasWritten, IsCutAmid, IsCutOff, IsUnopened, NetRun}
+use Rattle.exb_net_run.specs.UnderWay.{HasWritten, IsCutAmid, IsCutOff, IsUnopened}
 use Rattle.exb_net_run.proofs.Held.{cut_texts, fronts_written, only_outputs, texts_begin, told_of, whole_texts, written_texts}
 
 -- the trees of a net are those of its bridges

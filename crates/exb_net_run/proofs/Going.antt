@@ -1,5 +1,5 @@
 -- A net goes on by one event: what is known of it stays known, with one event more.
-use Rattle.std.proofs.Common.{◌≡◌, ◌≢◌, ℕ, zero, suc, ◌+◌, ◌-◌, ◌*◌, ◌^◌, ◌<◌, ◌≤◌, ◌==◌, ◌++◌, Bool, true, false, cond, List, [], ◌∷◌, length, map, All, get_or, Option, Some, None, refl, ap, sym, subst, ◌∙◌, arith, inl, inr, append_assoc}
+use Rattle.std.proofs.Common.{◌≡◌, ◌≢◌, ℕ, zero, suc, ◌+◌, ◌*◌, ◌^◌, ◌<◌, ◌≤◌, ◌==◌, ◌++◌, Bool, true, cond, List, [], ◌∷◌, length, map, All, Option, Some, refl, ap, sym, subst, ◌∙◌, arith, inl, inr}
 use Rattle.std.specs.Prelude.{slice_get, sum_by}
 use Rattle.std.specs.List.{AllByRecursion}
 use Rattle.std.proofs.lemmas.Bool.{cases_eq, eq-eqb, ne_eqb}
@@ -8,14 +8,12 @@ use Rattle.std.proofs.lemmas.List.Elements.{All-append}
 use Rattle.std.proofs.lemmas.Option.{same_Some, slice_get_within}
 use Rattle.exb_model.specs.declared.setup.Timed.{Timed}
 use Rattle.exb_model.specs.FlatBridge.{Sent}
-use Rattle.exb_model.specs.Input.{Coming, Ordered, Captured, given_by, moment_of, second_of, seconds_after}
+use Rattle.exb_model.specs.Input.{given_by, moment_of, seconds_after}
 use Rattle.exb_model.specs.Setup.{NamesExternal}
-use Rattle.exb_model.specs.Tree.{is_external}
 use Rattle.exb_machine.specs.Runs.Passed.{StepsTellPassed}
 use Rattle.exb_machine.specs.Runs.Sessions.{Each}
 use Rattle.exb_machine.specs.Stepping.{Stepped}
 use Rattle.exb_machine.specs.Worlds.{Left}
-use Rattle.exb_network.specs.Networks.{Network}
 use Rattle.exb_resting.specs.Flight.Showing.{left_at}
 use Rattle.exb_schedule.specs.Worlds.{network_of}
 use Rattle.exb_shelf.specs.Files.{Files, bytes_of}
@@ -24,15 +22,15 @@ use Rattle.exb_merge.specs.declared.agenda.NetNext.{NetNext}
 use Rattle.exb_merge.specs.declared.programme.Next.{Next}
 use Rattle.exb_merge.specs.declared.programme.Next.TheVariants as next
 use Rattle.exb_merge.specs.declared.programme.Programme.{Programme}
-use Rattle.exb_merge.specs.NetAgendas.{AreAllReplays, ComesTo, all_ids, all_to_play, due_of, dues_left}
-use Rattle.exb_merge.specs.Programmes.{IsComing, IsFrom, IsOf, size_of, what}
-use Rattle.exb_merge.specs.Replays.{HasPort, Standing, gone_on, left_in, number_of, standings}
+use Rattle.exb_merge.specs.NetAgendas.{AreAllReplays, all_ids, all_to_play, due_of, dues_left}
+use Rattle.exb_merge.specs.Programmes.{IsOf, size_of, what}
+use Rattle.exb_merge.specs.Replays.{Standing, gone_on, left_in, number_of, standings}
+use Rattle.exb_merge.proofs.Onward.{number_other, number_own, ports_before, second_low}
 use Rattle.exb_merge.specs.Streams.{Stream}
-use Rattle.exb_nets.specs.Nets.{Net, is_wired}
-use Rattle.exb_nets.specs.NetHistory.{Due, due_moment, due_second}
-use Rattle.exb_nets.specs.Order.{AreHere, AreInOrder, IsNext, taken_after, taken_by}
-use Rattle.exb_wiring.specs.Delivering.{AreRun}
-use Rattle.exb_wiring.specs.Playing.{AreOpened, Dones, Plays, PlaysOne, tree_in}
+use Rattle.exb_nets.specs.Nets.{Net}
+use Rattle.exb_nets.specs.NetHistory.{Due, due_second}
+use Rattle.exb_nets.specs.Order.{IsNext, taken_after, taken_by}
+use Rattle.exb_wiring.specs.Playing.{Dones, Plays, PlaysOne, tree_in}
 use Rattle.exb_wiring.specs.UnderWay.{AreOneMore, IsOneMore, LeftAt, orders_at, orders_in, records_at, records_in, records_of}
 use Rattle.exb_net.specs.declared.net.Net.{Net as Bridges}
 use Rattle.exb_net.specs.declared.node.Node.{Node}
@@ -50,7 +48,7 @@ use Rattle.exb_net_run.specs.declared.game.NetGame.{NetGame}
 use Rattle.exb_net_run.specs.Desks.{AllGoTogether, AreAllFronts, AreFronts, AreMore, AreNoted, AreReady, CanNoteAll, OnlyAllPlanned, OnlyWritesAll, plans_in, text_of}
 use Rattle.exb_net_run.specs.UnderWay.{GoesOn, GoesOnAt, IsCutOff, IsDue, IsFew, IsGoing, IsLow, LeadsOn, NetRun, ReadsOthers, came_by, last_of, taken_in}
 use Rattle.exb_net_run.proofs.Bounds.{can-note}
-use Rattle.exb_net_run.proofs.Coming.{all-earlier, number-other, number-own, ports-before, second-low, sum-place}
+use Rattle.exb_net_run.proofs.Coming.{all-earlier, sum-place}
 use Rattle.exb_net_run.proofs.Passing.{here_more, last_more, order_more, plays_more, taken_more}
 use Rattle.exb_net_run.proofs.Noting.{fronts_now, goes-same}
 use Rattle.exb_net_run.proofs.Noted.{desk_at, plan_at}
@@ -143,10 +141,10 @@ numbers-on a (next.Command number moment) e (numbered, within, more, same) q = (
 numbers-on a (next.Record c) e is q = elim (cases_eq c.port q) [
   | inl same ↦
       let own : number_of (standings e.captures) q ≡ suc (number_of (standings a.captures) q) =
-      ap (λ (ss : List Standing). number_of ss q) is.0.gone ∙ subst (λ (k : ℕ). number_of (gone_on c.port c.moment (standings a.captures)) k ≡ suc (number_of (standings a.captures) k)) same (number-own c.port c.moment (standings a.captures) is.0.port) in
+      ap (λ (ss : List Standing). number_of ss q) is.0.gone ∙ subst (λ (k : ℕ). number_of (gone_on c.port c.moment (standings a.captures)) k ≡ suc (number_of (standings a.captures) k)) same (number_own c.port c.moment (standings a.captures) is.0.port) in
       rw (eq-eqb c.port q same) (omega (arith, own))
   | inr other ↦
-      let own : number_of (standings e.captures) q ≡ number_of (standings a.captures) q = ap (λ (ss : List Standing). number_of ss q) is.0.gone ∙ number-other c.port c.moment q (standings a.captures) other in
+      let own : number_of (standings e.captures) q ≡ number_of (standings a.captures) q = ap (λ (ss : List Standing). number_of ss q) is.0.gone ∙ number_other c.port c.moment q (standings a.captures) other in
       rw (ne_eqb c.port q other) (omega (arith, own))
 ]
 
@@ -215,7 +213,7 @@ module _ {V : Type 0} {X : V → Type 0} (tells : Type 0) (r : NetRun) (now : Fi
         names = subst (λ (cs : List Timed). All (λ (c : Timed). NamesExternal (tree_in r.net d.bridge) c.command) cs) (sym coming.commands) at.names;
         few_commands = (let same = ap (λ (cs : List Timed). length cs) coming.commands in let few = at.few_commands in omega (arith, same, few));
         within = (let same = ap (λ (cs : List Timed). length cs) coming.commands in let low = within-on p.comes.was d.next p.comes.is coming.is at.within in omega (arith, same, low));
-        free = λ q has. at.free q (ports-before p.comes.was d.next p.comes.is coming.is q has);
+        free = λ q has. at.free q (ports_before p.comes.was d.next p.comes.is coming.is q has);
         taken = (let given = m.given in let here = order-here (due_of d) d.bridge refl in let own = at.taken in let after = taken-on p.comes.was d.next p.comes.is coming.is in omega (arith, given, here, own, after));
         next = λ q unwired.
             (let nexts = m.next q unwired in let here = record-here (due_of d) d.bridge q refl in let own = at.next q unwired in let after = numbers-on p.comes.was d.next p.comes.is coming.is q in omega (arith, nexts, here, own, after));
@@ -310,7 +308,7 @@ module _ {V : Type 0} {X : V → Type 0} (tells : Type 0) (r : NetRun) (now : Fi
     taken = taken-at;
     few = few-at;
     few_bytes = bytes;
-    last_is = (ends tells r now ids seconds second g d ps p, all-earlier (second * 1_000_000_000) (moment_of (what d.next)) ps (second-low (moment_of (what d.next)) second (sym p.second_is)) p.comes.rises);
+    last_is = (ends tells r now ids seconds second g d ps p, all-earlier (second * 1_000_000_000) (moment_of (what d.next)) ps (second_low (moment_of (what d.next)) second (sym p.second_is)) p.comes.rises);
   }
 
   pub plays-after : Plays r.net (p.going.ds ++ due_of d ∷ []) p.going.is.start e

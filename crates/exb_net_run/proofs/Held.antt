@@ -1,5 +1,5 @@
 -- The files of a bridge by their names: once all is written, and where writing ended early.
-use Rattle.std.proofs.Common.{◌≡◌, ℕ, zero, suc, ◌<◌, ◌++◌, Bool, true, List, [], ◌∷◌, length, take, map, Option, Some, None, refl, ap, sym, ◌∙◌, subst, inl, inr}
+use Rattle.std.proofs.Common.{◌≡◌, ℕ, zero, suc, ◌<◌, ◌++◌, Bool, true, List, [], ◌∷◌, length, take, map, Option, Some, None, refl, ap, sym, ◌∙◌, subst, inr}
 use Rattle.std.specs.Prelude.{flat_map, option_map, slice_get}
 use Rattle.std.proofs.lemmas.List.{append-nil, append_assoc}
 use Rattle.std.proofs.lemmas.Grind.{flat_map-append}
@@ -28,7 +28,7 @@ use Rattle.exb_text.specs.declared.output.Output.TheVariants as output
 use Rattle.exb_text.specs.Names.{IsOfPort, file_name}
 use Rattle.exb_writers.specs.Texts.{output_text}
 use Rattle.exb_net_run.specs.Desks.{AreFronts, IsOther, IsWhole, OnlyAllPlanned, text_of}
-use Rattle.exb_net_run.specs.Nets.{IsNetOutput, OnlyNetOutputs, plan_with}
+use Rattle.exb_net_run.specs.Nets.{OnlyNetOutputs, plan_with}
 use Rattle.exb_net_run.specs.Outputs.{IsFrontOf, IsWritten}
 
 -- ---- texts that go on

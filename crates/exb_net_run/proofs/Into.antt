@@ -1,6 +1,6 @@
 -- A net that was prepared can be played once its captures are open again.
-use Rattle.std.proofs.Common.{◌≡◌, ◌≢◌, ℕ, zero, suc, ◌+◌, ◌^◌, ◌<◌, ◌≤◌, Bool, true, false, List, [], ◌∷◌, drop, get_or, length, map, Option, Some, None, refl, ap, sym, ◌∙◌, subst, arith}
-use Rattle.std.specs.Prelude.{All, slice_get, sum_by}
+use Rattle.std.proofs.Common.{◌≡◌, ◌≢◌, ℕ, zero, suc, ◌+◌, ◌^◌, ◌<◌, ◌≤◌, Bool, true, false, List, [], ◌∷◌, drop, get_or, length, map, Some, refl, ap, sym, ◌∙◌, subst, arith}
+use Rattle.std.specs.Prelude.{All, slice_get}
 use Rattle.std.specs.List.{AllByRecursion}
 use Rattle.std.specs.declared.alloc.Global.{Global}
 use Rattle.std.specs.declared.vec.Vec.{Vec}
@@ -12,7 +12,6 @@ use Rattle.exb_merge.specs.declared.programme.Programme.{Programme}
 use Rattle.exb_merge.specs.NetAgendas.{all_ids}
 use Rattle.exb_merge.specs.Replays.{ReadsOn}
 use Rattle.exb_model.specs.declared.setup.Setup.{Setup}
-use Rattle.exb_model.specs.declared.setup.Timed.{Timed}
 use Rattle.exb_nets.specs.declared.wires.Wire.{Wire}
 use Rattle.exb_nets.specs.Nets.{Net, IsNet}
 use Rattle.exb_net.specs.declared.net.Net.{Net as Bridges}
@@ -29,7 +28,7 @@ use Rattle.exb_net_inputs.specs.Holding.{AreRead}
 use Rattle.exb_net_inputs.specs.Laws.{AreInputsOf}
 use Rattle.exb_net_inputs.specs.Opening.{ReadsMemberCapture}
 use Rattle.exb_outputs.specs.Apart.{AreApart}
-use Rattle.exb_outputs.specs.Plans.{Planned, output_count, output_name}
+use Rattle.exb_outputs.specs.Plans.{Planned}
 use Rattle.exb_schedule.specs.Playing.{letters_in}
 use Rattle.exb_shelf.specs.Files.{Files, SameFiles}
 use Rattle.exb_shelf.specs.Shelf.{Id, Opens}

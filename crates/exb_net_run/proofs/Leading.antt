@@ -1,14 +1,10 @@
 -- Before anything is taken, what is still to come of all bridges is what comes to the net.
-use Rattle.std.proofs.Common.{◌≡◌, ℕ, zero, suc, ◌+◌, ◌<◌, ◌≤◌, ◌==◌, Bool, true, false, List, [], ◌∷◌, ◌++◌, length, map, filter, max, Option, Some, None, refl, ap, sym, subst, ◌∙◌, arith}
-use Rattle.std.specs.Prelude.{All, filter_map, flat_map, option_map, slice_get}
-use Rattle.std.specs.List.{AllByRecursion}
+use Rattle.std.proofs.Common.{◌≡◌, ℕ, zero, suc, ◌≤◌, List, [], ◌∷◌, ◌++◌, length, map, Some, refl, ap, sym, subst, ◌∙◌, arith}
+use Rattle.std.specs.Prelude.{flat_map, slice_get}
 use Rattle.std.specs.declared.alloc.Global.{Global}
 use Rattle.std.specs.declared.vec.Vec.{Vec}
 use Rattle.std.proofs.lemmas.List.{length-map}
-use Rattle.exb_model.specs.Input.{Input, Record, arrivals_from, given_by, least_or, second_of}
-use Rattle.exb_model.specs.Ports.{all_ports}
-use Rattle.exb_capture.specs.Scans.{first_time, scanned_of}
-use Rattle.exb_capture.specs.declared.checking.Scanned.{Scanned}
+use Rattle.exb_model.specs.Input.{Input, Record, least_or}
 use Rattle.exb_shelf.specs.Files.{Files}
 use Rattle.exb_shelf.specs.Shelf.{Id}
 use Rattle.exb_tables.specs.declared.rows.Named.{Named}
@@ -16,63 +12,29 @@ use Rattle.exb_nets.specs.declared.wires.Wire.{Wire}
 use Rattle.exb_nets.specs.Nets.{Net}
 use Rattle.exb_nets.specs.NetHistory.{dues, start_of_all}
 use Rattle.exb_merge.specs.declared.programme.Programme.{Programme}
-use Rattle.exb_merge.specs.NetAgendas.{AreAllOf, AreAllReplays, AreBegunOf, AreOfNet, IsBegunOf, all_to_play, dues_left, first_seconds}
-use Rattle.exb_merge.specs.Streams.{Stream, arrivals_of, next_moment, stream_at, stream_of}
+use Rattle.exb_merge.specs.NetAgendas.{AreAllOf, AreAllReplays, AreBegunOf, AreOfNet, all_to_play, dues_left, first_seconds}
+use Rattle.exb_merge.specs.Streams.{Stream, stream_at}
 use Rattle.exb_inputs.specs.declared.checked.Checked.{Checked}
-use Rattle.exb_inputs.specs.Again.{stream_told}
-use Rattle.exb_inputs.specs.Checks.{AreChecked, IsToldOf}
+use Rattle.exb_inputs.specs.Again.{seconds_told, stream_told}
+use Rattle.exb_inputs.specs.Checks.{AreChecked}
 use Rattle.exb_inputs.specs.Inputs.{input_of, is_named, records_at}
-use Rattle.exb_inputs.proofs.Beginning.{IsTold, all-told, none-elsewhere, ports_in}
+use Rattle.exb_inputs.proofs.Beginning.{all-told, firsts-are, none-elsewhere, told-streams}
 use Rattle.exb_net_file.specs.declared.apart.NetRest.{NetRest}
 use Rattle.exb_net_file.specs.declared.members.NetMember.{NetMember}
 use Rattle.exb_net_file.specs.Apart.{rest_of}
 use Rattle.exb_net_inputs.specs.Checking.{AreMembersChecked}
 use Rattle.exb_net_run.specs.Nets.{input_in, net_of}
-use Rattle.exb_net_run.specs.Reopening.{AreReopened, seconds_of_all, seconds_told, start_of_told, streams_of}
+use Rattle.exb_net_run.specs.Reopening.{seconds_of_all, start_of_told, streams_of}
 use Rattle.exb_net_run.specs.Setting.{IsToBeOpened}
 use Rattle.exb_net_run.specs.UnderWay.{Begins, LeadsOn}
 use Rattle.exb_net_run.proofs.Reopened.{AreInTime}
 
 -- ---- one bridge
--- the first moment of its stream is the time that was told
-first_moment : (names : List Named) (file : Files) (c : Checked) → IsTold names file c → next_moment (arrivals_of (stream_told names file c)) ≡ c.told.first
-first_moment names file c t =
-    ap (λ (rs : List Record). next_moment (arrivals_from c.port 1 0 rs)) t.are ∙ by_records t.records ∙ sym (ap (λ (s : Scanned). s.first) t.told)
-  where
-    none_before : (n : ℕ) → max 0 n ≡ n
-    none_before n = omega arith
-
-    by_records : (rs : List Record) → next_moment (arrivals_from c.port 1 0 rs) ≡ first_time rs
-    by_records [] = refl
-    by_records (r ∷ rs) = ap Some (none_before r.time)
-
-abbrev second_first : Stream → Option ℕ
-second_first s = option_map second_of (next_moment (arrivals_of s))
-
--- one more in front, if there is one
-abbrev more : Option ℕ → List ℕ → List ℕ
-more None xs = xs
-more (Some x) xs = x ∷ xs
-
-firsts_are : (names : List Named) (file : Files) (cs : List Checked) → AllByRecursion (IsTold names file) cs → first_seconds (map (stream_told names file) cs) ≡ seconds_told cs
-firsts_are names file [] all = refl
-firsts_are names file (c ∷ cs) all =
-    by_first (second_first (stream_told names file c)) (option_map second_of c.told.first) (ap (option_map second_of) (first_moment names file c all.0)) (firsts_are names file cs all.1)
-  where
-    by_first : (a b : Option ℕ) → a ≡ b → first_seconds (map (stream_told names file) cs) ≡ seconds_told cs → more a (first_seconds (map (stream_told names file) cs)) ≡ more b (seconds_told cs)
-    by_first a b same rest = ap (λ (o : Option ℕ). more o (first_seconds (map (stream_told names file) cs))) same ∙ ap (more b) rest
-
-told_streams : (i : Input) (names : List Named) (file : Files) (cs : List Checked) → i.records ≡ records_at names file → map (stream_told names file) cs ≡ map (stream_at i) (ports_in cs)
-told_streams i names file [] same = refl
-told_streams i names file (c ∷ cs) same =
-    ap (λ (ss : List Stream). stream_told names file c ∷ ss) (told_streams i names file cs same)
-    ∙ ap (λ (r : ℕ → List Record). stream_of c.port (r c.port) ∷ map (stream_at i) (ports_in cs)) (sym same)
-
 all_of : (tells : Type 0) (i : Input) (names : List Named) (file : Files) (cs : List Checked) → i.records ≡ records_at names file → AreChecked tells names file cs → AreAllOf i (map (stream_told names file) cs)
 all_of tells i names file cs same checked = record {
   chosen = is_named names;
   none = λ q isnt. ap (λ (r : ℕ → List Record). r q) same ∙ none-elsewhere names file q isnt;
-  are = told_streams i names file cs same ∙ ap (map (stream_at i)) checked.ports;
+  are = told-streams i names file cs same ∙ ap (map (stream_at i)) checked.ports;
 }
 
 -- ---- all bridges
@@ -97,7 +59,7 @@ seconds_are tells file [] [] t all = refl
 seconds_are tells file [] (c ∷ cs) t all = absurd all
 seconds_are tells file (m ∷ ms) [] t all = absurd all
 seconds_are tells file (m ∷ ms) (c ∷ cs) t all =
-    ap (λ (xs : List ℕ). xs ++ flat_map first_seconds (streams_of (map rest_of ms) cs file)) (firsts_are m.topology.captures file c.items (all-told m.topology.captures file c.items (all.0.told t)))
+    ap (λ (xs : List ℕ). xs ++ flat_map first_seconds (streams_of (map rest_of ms) cs file)) (firsts-are m.topology.captures file c.items (all-told m.topology.captures file c.items (all.0.told t)))
     ∙ ap (λ (xs : List ℕ). seconds_told c.items ++ xs) (seconds_are tells file ms cs t all.1)
 
 -- each first record is in time

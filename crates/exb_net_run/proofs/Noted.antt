@@ -1,12 +1,12 @@
 -- Desks of several bridges on one shelf: what is done at one of them leaves the others as they are.
-use Rattle.std.proofs.Common.{◌≡◌, ◌≢◌, ℕ, zero, suc, ◌+◌, ◌<◌, ◌≤◌, Bool, true, false, cond, nat_lt, List, [], ◌∷◌, length, map, set, take, Some, None, refl, ap, sym, ◌∙◌, subst, arith, inl, inr}
+use Rattle.std.proofs.Common.{◌≡◌, ◌≢◌, ℕ, zero, suc, ◌+◌, ◌<◌, ◌≤◌, cond, nat_lt, List, [], ◌∷◌, length, set, take, Some, None, refl, ap, sym, ◌∙◌, subst, arith, inl, inr}
 use mathlib.Core.Path.{fun_ext}
 use Rattle.std.specs.Prelude.{slice_get}
 use Rattle.std.proofs.lemmas.Bool.{cases_eq, cases_lt, lt-ltb, le-ltb}
-use Rattle.std.proofs.lemmas.List.{map-set}
 use Rattle.std.proofs.lemmas.Option.{same_Some, slice_get_within}
 use Rattle.exb_machine.specs.Stepping.{Stepped}
 use Rattle.exb_network.specs.Networks.{Network}
+use Rattle.exb_schedule.specs.Worlds.{network_of}
 use Rattle.exb_shelf.specs.Files.{Files}
 use Rattle.exb_shelf.specs.Shelf.{Id}
 use Rattle.exb_outputs.specs.Plans.{Planned, kind_at, output_count, output_name}
@@ -19,10 +19,12 @@ use Rattle.exb_text.specs.declared.output.Output.{Output}
 use Rattle.exb_outputs.specs.Writing.{HasTexts, IsReady, pieces_of}
 use Rattle.exb_outputs.proofs.Cutting.{GoesOnAs}
 use Rattle.exb_wiring.specs.Playing.{Dones}
-use Rattle.exb_net.proofs.Places.{set_here, set_there}
+use Rattle.exb_net.specs.declared.node.Node.{Node}
+use Rattle.exb_net.specs.Marks.{AreQuietFrom}
+use Rattle.exb_net.proofs.Places.{is_there, set_here, set_there}
 use Rattle.exb_net_run.specs.declared.desk.Desk.{Desk}
-use Rattle.exb_net_run.specs.Desks.{AreAllFronts, AreFronts, AreNoted, ArePlansApart, AreReady, AreWhole, IsMore, IsNoted, IsWhole, OnlyAllPlanned, OnlyWritesAll, plans_in, tallies_in, text_of}
-use Rattle.exb_net_run.proofs.Noting.{fronts_now, goes-on, goes-same, texts_stay}
+use Rattle.exb_net_run.specs.Desks.{AreAllFronts, AreFronts, AreMore, AreNoted, ArePlansApart, AreReady, AreWhole, IsMore, IsNoted, IsWhole, OnlyAllPlanned, OnlyWritesAll, plans_in, tallies_in, text_of}
+use Rattle.exb_net_run.proofs.Noting.{fronts_now, goes-on, goes-same, quiet-noted, texts_stay}
 
 -- ---- plans of desks
 pub plan_at : (ds : List Desk) (b : ℕ) (d : Desk) → slice_get ds b ≡ Some d → slice_get (plans_in ds) b ≡ Some d.plan
@@ -110,6 +112,23 @@ noted_more tells f g ds i d e told dones apart here only noted own = record {
   each = each_but (λ b x. IsNoted tells f x (upto i told dones b)) (λ b x. IsNoted tells g x (upto (i + 1) told dones b)) ds i d e here noted.each
       (λ b x ne is old. subst (IsNoted tells g x) (sym (upto_other i b told dones ne)) (noted_stays tells f g x (upto i told dones b) (λ t. others_stay ds apart i d here f g (only t) b x.plan (plan_at ds b x is) ne) old))
       (subst (IsNoted tells g e) (sym (upto_low (i + 1) i told dones (omega arith))) (own (subst (IsNoted tells f d) (upto_high i i told dones (omega arith)) (noted.each i d here))));
+}
+
+-- so much is noted up to a later place too, where the bridges between told nothing
+pub noted_skip : {V : Type 0} {X : V → Type 0} (nodes : List (Node V X)) (tells : Type 0) (f : Files) (ds : List Desk) (i j : ℕ) (told dones : Dones) → i ≤ j → j ≤ length nodes → AreQuietFrom i j nodes → AreMore told dones nodes →
+    AreNoted tells f ds (upto i told dones) → AreNoted tells f ds (upto j told dones)
+noted_skip nodes tells f ds i j told dones high within quiet more noted = record {
+  each = λ b d is. elim (cases_lt b i) [
+    | inl low ↦ subst (IsNoted tells f d) (upto_low i b told dones low ∙ sym (upto_low j b told dones (omega (arith, low, high)))) (noted.each b d is)
+    | inr from ↦
+        let was = subst (IsNoted tells f d) (upto_high i b told dones (omega (arith, from))) (noted.each b d is) in
+        elim (cases_lt b j) [
+          | inl low ↦
+              let x = is_there nodes b (omega (arith, low, within)) in
+              subst (IsNoted tells f d) (sym (upto_low j b told dones low)) (quiet-noted (told b) (dones b) (network_of x.0.world) (more.each b x.0 x.1) tells f d (quiet.each b x.0 (omega (arith, from)) low x.1) was)
+          | inr past ↦ subst (IsNoted tells f d) (sym (upto_high j b told dones (omega (arith, past)))) was
+        ]
+  ];
 }
 
 -- and each desk can be written

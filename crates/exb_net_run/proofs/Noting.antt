@@ -1,12 +1,12 @@
 -- What a bridge did, in its files and counts: with what it did since.
-use Rattle.std.proofs.Common.{◌≡◌, ◌<◌, ◌++◌, ◌⊎◌, inl, inr, Bool, ℕ, suc, List, [], ◌∷◌, take, get_or, flat_map, length, Some, refl, ap, sym, ◌∙◌, subst, arith, append_assoc}
+use Rattle.std.proofs.Common.{◌≡◌, ◌<◌, ◌++◌, inl, inr, Bool, ℕ, suc, List, [], ◌∷◌, take, get_or, flat_map, Some, refl, ap, sym, ◌∙◌, subst, append_assoc}
 use Rattle.std.proofs.lemmas.List.{append-nil}
 use Rattle.exb_model.specs.declared.event.Event.{Event}
 use Rattle.exb_model.specs.Texts.{record_text}
 use Rattle.exb_machine.specs.Stepping.{Stepped}
 use Rattle.exb_machine.specs.Worlds.{Left as Leaving}
 use Rattle.exb_network.specs.declared.log.Left.{Left}
-use Rattle.exb_network.specs.Networks.{Network}
+use Rattle.exb_network.specs.Networks.{IsQuiet, Network}
 use Rattle.exb_network.specs.Worlds.{all_left}
 use Rattle.exb_resting.specs.Flight.Showing.{left_at}
 use Rattle.exb_shelf.specs.Files.{Files}
@@ -58,10 +58,6 @@ fronts_cut plan pieces f g text whole goes held cut j low = elim (cut.each j low
   | inr front ↦ front
 ]
 
-nothing : {A : Type 0} (xs : List A) → length xs ≡ 0 → xs ≡ []
-nothing [] none = refl
-nothing (x ∷ xs) none = absurd (omega (arith, none))
-
 -- ---- what was told more
 module _ (told done : Stepped) (n : Network) (more : IsMore told done n) where
   spelled : (o : Output) → text_so_far (told.events ++ n.log.events) (told.left ++ all_left n.log.left) [] [] o ≡ text_of done [] o
@@ -93,11 +89,11 @@ module _ (told done : Stepped) (n : Network) (more : IsMore told done n) where
       (subst (λ (xs : List Leaving). IsCounted plan c (told.events ++ n.log.events) (told.passed ++ n.log.passed) xs) (sym more.left) is))
 
   -- where it is nothing
-  pub quiet-noted : (tells : Type 0) (f : Files) (d : Desk) → length n.log.events ≡ 0 → length n.log.passed ≡ 0 → length n.log.left ≡ 0 → IsNoted tells f d told → IsNoted tells f d done
-  quiet-noted tells f d no_events no_passed no_left is =
-      let events : told.events ≡ done.events = sym (more.events ∙ ap (λ (es : List Event). told.events ++ es) (nothing n.log.events no_events) ∙ append-nil told.events) in
-      let passed : told.passed ≡ done.passed = sym (more.passed ∙ ap (λ (ps : List Bool). told.passed ++ ps) (nothing n.log.passed no_passed) ∙ append-nil told.passed) in
-      let left : told.left ≡ done.left = sym (more.left ∙ ap (λ (xs : List Left). told.left ++ all_left xs) (nothing n.log.left no_left) ∙ append-nil told.left) in
+  pub quiet-noted : (tells : Type 0) (f : Files) (d : Desk) → IsQuiet n → IsNoted tells f d told → IsNoted tells f d done
+  quiet-noted tells f d quiet is =
+      let events : told.events ≡ done.events = sym (more.events ∙ ap (λ (es : List Event). told.events ++ es) quiet.events ∙ append-nil told.events) in
+      let passed : told.passed ≡ done.passed = sym (more.passed ∙ ap (λ (ps : List Bool). told.passed ++ ps) quiet.passed ∙ append-nil told.passed) in
+      let left : told.left ≡ done.left = sym (more.left ∙ ap (λ (xs : List Left). told.left ++ all_left xs) quiet.left ∙ append-nil told.left) in
       record {
         counted =
             subst (λ (es : List Event). IsCounted d.plan d.counted es done.passed done.left) events

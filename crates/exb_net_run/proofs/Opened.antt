@@ -1,5 +1,5 @@
 -- What was prepared stays so while captures are opened to be read; and where nothing was played the files hold fronts.
-use Rattle.std.proofs.Common.{◌≡◌, ℕ, List, [], ap, ◌∙◌, subst, inl}
+use Rattle.std.proofs.Common.{ℕ, List, [], ap, ◌∙◌, subst, inl}
 use Rattle.std.specs.Prelude.{slice_get}
 use Rattle.exb_merge.specs.declared.programme.Programme.{Programme}
 use Rattle.exb_nets.specs.Order.{AreTimely}

@@ -1,6 +1,6 @@
 -- A bridge more whose captures were opened again.
-use Rattle.std.proofs.Common.{◌≡◌, ◌≢◌, ℕ, zero, suc, ◌+◌, ◌<◌, ◌≤◌, Bool, true, false, List, [], ◌∷◌, ◌++◌, length, map, take, get_or, Some, Result, Err, refl, ap, sym, subst, ◌∙◌, arith, inl, inr}
-use Rattle.std.specs.Prelude.{flat_map, slice_get}
+use Rattle.std.proofs.Common.{◌≡◌, ◌≢◌, ℕ, ◌+◌, ◌<◌, ◌≤◌, true, false, List, [], ◌∷◌, ◌++◌, length, map, take, get_or, Some, Result, Err, ap, sym, subst, ◌∙◌, arith, inl, inr}
+use Rattle.std.specs.Prelude.{slice_get}
 use Rattle.std.specs.List.{AllByRecursion}
 use Rattle.std.specs.declared.alloc.Global.{Global}
 use Rattle.std.specs.declared.vec.Vec.{Vec}
@@ -8,7 +8,7 @@ use Rattle.std.proofs.lemmas.Bool.{cases_Bool, false≢true}
 use Rattle.std.proofs.lemmas.Grind.{flat_map-append}
 use Rattle.std.proofs.lemmas.List.{append-nil, length-take-le, take_all, take_more}
 use Rattle.exb_shelf.specs.Files.{Files, SameFiles, bytes_of}
-use Rattle.exb_shelf.specs.Shelf.{Id, IsReadingOf, Opens}
+use Rattle.exb_shelf.specs.Shelf.{Id, Opens}
 use Rattle.exb_shelf.proofs.IdLemmas.{opens_then, opens_weaker}
 use Rattle.exb_merge.specs.declared.programme.Programme.{Programme}
 use Rattle.exb_merge.specs.NetAgendas.{AreAllReplays, all_ids}
@@ -18,7 +18,6 @@ use Rattle.exb_inputs.specs.declared.checked.Checked.{Checked}
 use Rattle.exb_inputs.specs.declared.fault.Fault.{Fault}
 use Rattle.exb_inputs.specs.Again.{stream_told}
 use Rattle.exb_inputs.specs.Shelving.{ReadsCapture}
-use Rattle.exb_inputs.proofs.Outcomes.{files_same}
 use Rattle.exb_net_file.specs.declared.apart.NetRest.{NetRest}
 use Rattle.exb_net_run.specs.Reopening.{AreReopened, IsOpenedAgain, ReadsRest, streams_of}
 use Rattle.exb_net_run.proofs.Programmed.{reopened_long, reopened_push, streams_push}

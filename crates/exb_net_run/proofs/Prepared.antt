@@ -1,6 +1,6 @@
 -- A net that was read and whose files were made can be played.
-use Rattle.std.proofs.Common.{◌≡◌, ◌≢◌, ℕ, zero, suc, ◌+◌, ◌<◌, ◌≤◌, ◌++◌, Bool, true, false, List, [], ◌∷◌, get_or, length, map, Option, Some, None, Ok, refl, ap, sym, ◌∙◌, subst, arith, inl, inr, codes}
-use Rattle.std.specs.Prelude.{All, nat_lt, slice_get, sum_by}
+use Rattle.std.proofs.Common.{◌≡◌, ℕ, zero, suc, ◌+◌, ◌<◌, ◌≤◌, Bool, false, List, [], ◌∷◌, get_or, length, map, Option, Some, refl, ap, sym, ◌∙◌, subst, arith, codes}
+use Rattle.std.specs.Prelude.{nat_lt, slice_get, sum_by}
 use Rattle.std.specs.declared.alloc.Global.{Global}
 use Rattle.std.specs.declared.vec.Vec.{Vec}
 use Rattle.std.proofs.lemmas.Bool.{ltb-false}
@@ -10,8 +10,8 @@ use Rattle.std.proofs.lemmas.Option.{get_or_from_slice_get, slice_get-map, slice
 use Rattle.exb_inputs.specs.declared.checked.Checked.{Checked}
 use Rattle.exb_keys.specs.declared.faults.KeyFault.TheVariants as fault
 use Rattle.exb_model.specs.Input.{Input, tree_of}
-use Rattle.exb_model.specs.Setup.{IsValid, shape_of}
-use Rattle.exb_model.specs.Tree.{Shape, IsTree, external_ports}
+use Rattle.exb_model.specs.Setup.{IsValid}
+use Rattle.exb_model.specs.Tree.{IsTree, external_ports}
 use Rattle.exb_model.specs.declared.setup.Setup.{Setup}
 use Rattle.exb_nets.specs.declared.wires.Wire.{Wire}
 use Rattle.exb_nets.specs.Nets.{Net, IsNet}
@@ -19,21 +19,21 @@ use Rattle.exb_wiring.specs.Playing.{tree_in}
 use Rattle.exb_net.specs.Nets.{IsSetupOf, no_dones}
 use Rattle.exb_net_file.specs.declared.apart.NetParts.{NetParts}
 use Rattle.exb_net_file.specs.declared.members.NetMember.{NetMember}
-use Rattle.exb_net_file.specs.Apart.{IsTakenApart, rest_of, setup_in}
+use Rattle.exb_net_file.specs.Apart.{IsTakenApart, setup_in}
 use Rattle.exb_net_file.specs.Members.{ports_together}
 use Rattle.exb_net_file.specs.Sound.{BridgesWriteApart, IsInputOf, IsMadeOf}
 use Rattle.exb_net_file.proofs.Nets.{past}
 use Rattle.exb_net_inputs.specs.Checking.{AreMembersChecked}
 use Rattle.exb_net_inputs.specs.Holding.{AreRead}
 use Rattle.exb_outputs.specs.Plans.{Planned}
-use Rattle.exb_outputs.specs.Writing.{HasTexts, first_text, pieces_of}
+use Rattle.exb_outputs.specs.Writing.{first_text, pieces_of}
 use Rattle.exb_outputs.proofs.OutputLemmas.{kinds_same}
 use Rattle.exb_shelf.specs.Files.{Files}
 use Rattle.exb_shelf.specs.Shelf.{Id}
 use Rattle.exb_topology.proofs.Checking.{refuse_ok}
 use Rattle.exb_writers.proofs.Telling.{text-first}
 use Rattle.exb_net_run.specs.declared.desk.Desk.{Desk}
-use Rattle.exb_net_run.specs.Desks.{AreNoted, IsNoted, plans_in, text_of}
+use Rattle.exb_net_run.specs.Desks.{IsNoted, text_of}
 use Rattle.exb_net_run.specs.Nets.{input_in, net_of, plan_with}
 use Rattle.exb_net_run.specs.Setting.{AreSet, IsPrepared, IsSet, run_of}
 use Rattle.exb_net_run.specs.UnderWay.{AreDesks}

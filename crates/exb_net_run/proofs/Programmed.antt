@@ -1,42 +1,37 @@
 -- The programmes of all bridges, before anything is taken: what they begin with, and that all that comes is still to come.
-use Rattle.std.proofs.Common.{◌≡◌, ◌≢◌, ℕ, zero, suc, ◌+◌, ◌<◌, ◌≤◌, ◌^◌, ◌*◌, ◌==◌, ◌||◌, ◌&&◌, Bool, true, false, List, [], ◌∷◌, ◌++◌, length, map, filter, take, get_or, max, Option, Some, None, Ok, refl, ap, sym, subst, ◌∙◌, arith, codes, cond, inl, inr, if◌then◌else◌}
-use Rattle.std.specs.Prelude.{All, AllPairs, filter_map, flat_map, is_some, nat_lt, option_map, slice_get, sum_by}
-use Rattle.std.specs.List.{AllByRecursion, list_any}
+use Rattle.std.proofs.Common.{◌≡◌, ◌≢◌, ℕ, zero, suc, ◌+◌, ◌≤◌, ◌*◌, ◌==◌, ◌||◌, Bool, true, false, List, [], ◌∷◌, ◌++◌, length, map, filter, get_or, Option, Some, None, refl, ap, sym, subst, ◌∙◌, arith, codes, cond, inl, inr, if◌then◌else◌}
+use Rattle.std.specs.Prelude.{All, AllPairs, is_some, nat_lt, slice_get, sum_by}
+use Rattle.std.specs.List.{list_any}
 use Rattle.std.specs.declared.alloc.Global.{Global}
 use Rattle.std.specs.declared.vec.Vec.{Vec}
 use Rattle.std.proofs.lemmas.Bool.{and_parts, cases_Bool, eqb-true, false≢true, ltb-false}
 use Rattle.std.proofs.lemmas.List.{length-map}
 use Rattle.std.proofs.lemmas.List.Sums.{sum_by-cons}
-use Rattle.std.proofs.lemmas.Option.{get_or_from_slice_get, slice_get-get_or, slice_get-map, slice_get_within}
+use Rattle.std.proofs.lemmas.Option.{slice_get-get_or}
 use Rattle.exb_model.specs.declared.setup.Timed.{Timed}
-use Rattle.exb_model.specs.Input.{Input, Record, arrivals_from, given_by, least_or, second_of, tree_of}
+use Rattle.exb_model.specs.Input.{Input, Record, given_by, tree_of}
 use Rattle.exb_model.specs.Ports.{all_ports}
 use Rattle.exb_model.specs.Setup.{NamesExternal, shape_of}
-use Rattle.exb_model.specs.Tree.{Shape, external_ports, is_external}
+use Rattle.exb_model.specs.Tree.{external_ports, is_external}
 use Rattle.exb_keys.specs.declared.faults.KeyFault.TheVariants as fault
 use Rattle.exb_topology.specs.Sound.{IsSound}
 use Rattle.exb_topology.proofs.Checking.{refuse_ok}
 use Rattle.exb_tables.specs.declared.rows.Named.{Named}
-use Rattle.exb_capture.specs.Scans.{first_time, scanned_of}
-use Rattle.exb_capture.specs.declared.checking.Scanned.{Scanned}
 use Rattle.exb_shelf.specs.Files.{Files}
 use Rattle.exb_shelf.specs.Shelf.{Id, Opens}
 use Rattle.exb_shelf.proofs.IdLemmas.{opens_weaker}
 use Rattle.exb_nets.specs.declared.wires.End.{End}
 use Rattle.exb_nets.specs.declared.wires.Wire.{Wire}
-use Rattle.exb_nets.specs.Nets.{IsEnd, IsNet, Net, across, ends_of, far_end, first_or, is_at, is_wired}
-use Rattle.exb_nets.specs.NetHistory.{dues, start_of_all}
-use Rattle.exb_wiring.specs.Playing.{tree_in as tree_at}
+use Rattle.exb_nets.specs.Nets.{IsEnd, Net, ends_of, far_end, is_at, is_wired}
 use Rattle.exb_merge.specs.declared.programme.Programme.{Programme}
-use Rattle.exb_merge.specs.NetAgendas.{AreAllOf, AreAllReplays, AreBegunOf, AreOfNet, IsBegunOf, all_ids, all_to_play, dues_left, first_seconds}
 use Rattle.exb_merge.specs.Replays.{HasPort, Standing, left_in, number_of, standings}
-use Rattle.exb_merge.specs.Streams.{Stream, arrivals_of, next_moment, stream_at, stream_of}
+use Rattle.exb_merge.specs.Streams.{Stream}
 use Rattle.exb_inputs.specs.declared.checked.Checked.{Checked}
-use Rattle.exb_inputs.specs.Again.{first_standing, stream_told}
-use Rattle.exb_inputs.specs.Checks.{AreChecked, IsToldOf, most_bytes}
-use Rattle.exb_inputs.specs.Inputs.{input_of, is_named, name_of, records_at}
+use Rattle.exb_inputs.specs.Again.{stream_told}
+use Rattle.exb_inputs.specs.Checks.{AreChecked, most_bytes}
+use Rattle.exb_inputs.specs.Inputs.{input_of, is_named, name_of}
 use Rattle.exb_inputs.specs.Shelving.{ReadsCapture}
-use Rattle.exb_inputs.proofs.Beginning.{IsTold, all-told, none-elsewhere, numbers-one, ports_in}
+use Rattle.exb_inputs.proofs.Beginning.{numbers-one}
 use Rattle.exb_inputs.proofs.FaultLemmas.{named_by}
 use Rattle.exb_inputs.proofs.Ports.{named-port}
 use Rattle.exb_net_file.specs.declared.apart.NetRest.{NetRest}
@@ -53,10 +48,10 @@ use Rattle.exb_net_inputs.proofs.Lists.{both_at}
 use Rattle.exb_net_inputs.proofs.Opened.{all_get}
 use Rattle.exb_net_run.specs.Nets.{input_in, net_of, no_input}
 use Rattle.exb_net_run.specs.Opening.{HasCaptureAt}
-use Rattle.exb_net_run.specs.Reopening.{AreReopened, IsReopened, ReadsRest, seconds_of_all, seconds_told, start_of_told, streams_of}
+use Rattle.exb_net_run.specs.Reopening.{AreReopened, IsReopened, ReadsRest, streams_of}
 use Rattle.exb_net_run.specs.Setting.{IsToBeOpened}
 use Rattle.exb_net_run.specs.Shelving.{IsOfCaptures}
-use Rattle.exb_net_run.specs.UnderWay.{AreOfRests, Begins, BeginsAt, LeadsOn}
+use Rattle.exb_net_run.specs.UnderWay.{AreOfRests, Begins, BeginsAt}
 
 -- ---- places
 mapped_at : {A B : Type 0} (f : A → B) (xs : List A) (b : ℕ) (y : B) → slice_get (map f xs) b ≡ Some y → (x : A) × (slice_get xs b ≡ Some x) × (f x ≡ y)

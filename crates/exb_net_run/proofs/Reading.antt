@@ -1,5 +1,5 @@
 -- The captures of a net while its files are made and written: none has the name of one, so they stay as they were checked.
-use Rattle.std.proofs.Common.{◌≡◌, ◌≢◌, ℕ, zero, suc, ◌+◌, ◌<◌, ◌≤◌, ◌++◌, Bool, true, false, cond, List, [], ◌∷◌, get_or, length, map, take, Option, Some, None, Result, Ok, Err, refl, ap, sym, ◌∙◌, subst, arith, inl, inr, codes}
+use Rattle.std.proofs.Common.{◌≡◌, ◌≢◌, ℕ, zero, suc, ◌<◌, ◌++◌, Bool, true, false, cond, List, [], ◌∷◌, get_or, length, map, take, Option, Some, None, Result, Ok, refl, ap, sym, ◌∙◌, subst, arith, codes}
 use Rattle.std.specs.Prelude.{All, is_some, nat_lt, slice_get}
 use Rattle.std.specs.List.{list_any}
 use Rattle.std.specs.Str.{bytes_eq}
@@ -14,14 +14,12 @@ use Rattle.std.specs.declared.vec.Vec.{Vec}
 use Rattle.exb_capture.specs.Captures.{capture_records, records_or_none}
 use Rattle.exb_inputs.specs.declared.checked.Checked.{Checked}
 use Rattle.exb_inputs.specs.Checks.{AreChecked, IsGood, IsToldOf}
-use Rattle.exb_inputs.specs.Inputs.{bytes_at, bytes_named, input_from, input_of, is_named, name_of, records_at}
+use Rattle.exb_inputs.specs.Inputs.{bytes_named, input_of, name_of, records_at}
 use Rattle.exb_keys.specs.Faults.{Refusal, ◌>>=◌, in_element}
 use Rattle.exb_keys.specs.declared.faults.KeyFault.TheVariants as fault
 use Rattle.exb_keys.proofs.Went.{went}
-use Rattle.exb_model.specs.Input.{Input, Record}
 use Rattle.exb_model.specs.Tree.{Shape, external_ports}
 use Rattle.exb_nets.specs.declared.wires.Wire.{Wire}
-use Rattle.exb_nets.specs.Nets.{Net}
 use Rattle.exb_net_file.specs.declared.members.NetMember.{NetMember}
 use Rattle.exb_net_file.specs.declared.rows.NetWire.{NetWire}
 use Rattle.exb_net_file.specs.Members.{files_ok, is_output_of_net, outputs_in, ports_together, prefix_of, tree_in}

@@ -1,18 +1,19 @@
 -- One bridge's captures are opened again: its faults as those of the net, and what is known of its programme.
-use Rattle.std.proofs.Common.{◌≡◌, ◌≢◌, ℕ, zero, suc, ◌+◌, ◌<◌, ◌≤◌, ◌^◌, ◌*◌, Bool, true, false, List, [], ◌∷◌, ◌++◌, length, map, take, min, Option, Some, None, refl, ap, sym, subst, ◌∙◌, arith, inl, inr, ◌⊎◌}
-use Rattle.std.specs.Prelude.{All, IfSome, filter_map, flat_map, option_map, slice_get}
+use Rattle.std.proofs.Common.{◌≡◌, ℕ, zero, suc, ◌<◌, ◌≤◌, ◌^◌, ◌*◌, true, List, [], ◌∷◌, ◌++◌, Some, sym, subst, ◌∙◌, arith, inl, inr, ◌⊎◌}
+use Rattle.std.specs.Prelude.{All, IfSome, slice_get}
 use Rattle.std.specs.List.{AllByRecursion}
 use Rattle.std.specs.declared.alloc.Global.{Global}
 use Rattle.std.specs.declared.vec.Vec.{Vec}
-use Rattle.exb_model.specs.Input.{least_or, second_of}
 use Rattle.exb_shelf.specs.Shelf.{Id, Opens}
 use Rattle.exb_inputs.specs.declared.checked.Checked.{Checked}
 use Rattle.exb_inputs.specs.declared.fault.Fault.{Fault}
 use Rattle.exb_inputs.specs.declared.fault.Fault.TheVariants.{Usage, Missing, Topology as BadTopology, Capture, Changed, Net, Member, MemberCapture, MemberChanged, Output, TooLarge, BadLine, Illegal, Read, Write, Memory}
+use Rattle.exb_inputs.specs.Again.{AreSince, seconds_told}
 use Rattle.exb_inputs.specs.Reading.{IsChange, IsOfPlay}
+use Rattle.exb_inputs.proofs.Beginning.{least-low, seconds-low, since-told, start-low}
 use Rattle.exb_net_inputs.specs.Refusing.{member_fault}
 use Rattle.exb_net_run.specs.Answers.{IsOfNetPlay}
-use Rattle.exb_net_run.specs.Reopening.{AreSince, seconds_of_all, seconds_told, start_of_told}
+use Rattle.exb_net_run.specs.Reopening.{seconds_of_all, start_of_told}
 use Rattle.exb_net_run.specs.Shelving.{IsNetChange}
 
 -- ---- lists
@@ -107,33 +108,6 @@ play_named own x y name q byte of (inl is) e = named own x name q byte of (sym i
 play_named own x y name q byte of (inr memory) e = let no : Memory ≡ MemberChanged name q byte = sym memory ∙ e in absurd (cc)
 
 -- ---- the start
-below_all : (m k : ℕ) (xs : List ℕ) → m ≤ k → AllByRecursion (λ x. k ≤ x) xs → AllByRecursion (λ x. m ≤ x) xs
-below_all m k xs low all = all_weaker (λ x. k ≤ x) (λ x. m ≤ x) xs (λ x own. omega (arith, low, own)) all
-
-least_low : (d : ℕ) (xs : List ℕ) → AllByRecursion (λ x. least_or d xs ≤ x) xs
-least_low d [] = tt
-least_low d (n ∷ ns) = (omega arith, below_all (min n (least_or n ns)) (least_or n ns) ns (omega arith) (least_low n ns))
-
--- one more in front, if there is one
-abbrev more : Option ℕ → List ℕ → List ℕ
-more None xs = xs
-more (Some x) xs = x ∷ xs
-
-since_told : (m : ℕ) (cs : List Checked) → AllByRecursion (λ x. m ≤ x) (seconds_told cs) → AllByRecursion (λ (c : Checked). IfSome c.told.first (λ first. m ≤ second_of first)) cs
-since_told m [] all = tt
-since_told m (c ∷ cs) all = by_told c.told.first (since_told m cs) all
-  where
-    by_told : (o : Option ℕ) → (AllByRecursion (λ x. m ≤ x) (seconds_told cs) → AllByRecursion (λ (d : Checked). IfSome d.told.first (λ first. m ≤ second_of first)) cs) →
-        AllByRecursion (λ x. m ≤ x) (more (option_map second_of o) (seconds_told cs)) →
-        IfSome o (λ first. m ≤ second_of first) × AllByRecursion (λ (d : Checked). IfSome d.told.first (λ first. m ≤ second_of first)) cs
-    by_told None later rest = (tt, later rest)
-    by_told (Some first) later rest = (rest.0, later rest.1)
-
-all_listed : {X : Type 0} (P : X → Type 0) (xs : List X) → AllByRecursion P xs → All P xs
-all_listed P [] all k d low = absurd (omega (arith, low))
-all_listed P (x ∷ xs) all zero d low = all.0
-all_listed P (x ∷ xs) all (suc k) d low = all_listed P xs all.1 k d (omega (arith, low))
-
 of_bridge : (m : ℕ) (cs : List (Vec Checked Global)) (b : ℕ) (c : Vec Checked Global) → AllByRecursion (λ x. m ≤ x) (seconds_of_all cs) → slice_get cs b ≡ Some c → AllByRecursion (λ x. m ≤ x) (seconds_told c.items)
 of_bridge m [] b c all is = absurd (cc)
 of_bridge m (d ∷ cs) zero c all is = let e : d ≡ c = cc in subst (λ (k : Vec Checked Global). AllByRecursion (λ x. m ≤ x) (seconds_told k.items)) e (all_front (λ x. m ≤ x) (seconds_told d.items) (seconds_of_all cs) all)
@@ -141,22 +115,7 @@ of_bridge m (d ∷ cs) (suc b) c all is = of_bridge m cs b c (all_back (λ x. m 
 
 -- it isn't behind the first record of any bridge
 pub since_start : (cs : List (Vec Checked Global)) (b : ℕ) (c : Vec Checked Global) → slice_get cs b ≡ Some c → AreSince (start_of_told cs) c.items
-since_start cs b c is = all_listed (λ (d : Checked). IfSome d.told.first (λ first. start_of_told cs ≤ second_of first)) c.items
-    (since_told (start_of_told cs) c.items (of_bridge (start_of_told cs) cs b c (least_low 0 (seconds_of_all cs)) is))
-
--- and it is below 2^32 seconds
-start_low : (xs : List ℕ) (d : ℕ) → d < 2 ^ 32 → AllByRecursion (λ x. x < 2 ^ 32) xs → least_or d xs < 2 ^ 32
-start_low [] d low all = low
-start_low (x ∷ xs) d low all = (let own = all.0 in omega (arith, own))
-
-seconds_low : (cs : List Checked) → All (λ (c : Checked). IfSome c.told.first (λ first. first < 2 ^ 32 * 1_000_000_000)) cs → AllByRecursion (λ x. x < 2 ^ 32) (seconds_told cs)
-seconds_low [] all = tt
-seconds_low (c ∷ cs) all = by_told c.told.first (all 0 c (omega arith)) (seconds_low cs (λ k d low. all (suc k) d (omega (arith, low))))
-  where
-    by_told : (o : Option ℕ) → IfSome o (λ first. first < 2 ^ 32 * 1_000_000_000) → AllByRecursion (λ x. x < 2 ^ 32) (seconds_told cs) →
-        AllByRecursion (λ x. x < 2 ^ 32) (more (option_map second_of o) (seconds_told cs))
-    by_told None is rest = rest
-    by_told (Some first) is rest = (omega (arith, is), rest)
+since_start cs b c is = since-told (start_of_told cs) c.items (of_bridge (start_of_told cs) cs b c (least-low 0 (seconds_of_all cs)) is)
 
 -- each bridge's captures are in time
 abbrev pub AreInTime : List (Vec Checked Global) → Type 0
@@ -164,7 +123,8 @@ AreInTime cs = AllByRecursion (λ (c : Vec Checked Global). All (λ (d : Checked
 
 all_low : (cs : List (Vec Checked Global)) → AreInTime cs → AllByRecursion (λ x. x < 2 ^ 32) (seconds_of_all cs)
 all_low [] all = tt
-all_low (c ∷ cs) all = all_append (λ x. x < 2 ^ 32) (seconds_told c.items) (seconds_of_all cs) (seconds_low c.items all.0) (all_low cs all.1)
+all_low (c ∷ cs) all = all_append (λ x. x < 2 ^ 32) (seconds_told c.items) (seconds_of_all cs) (seconds-low c.items all.0) (all_low cs all.1)
 
+-- and it is below 2^32 seconds
 pub start_fits : (cs : List (Vec Checked Global)) → AreInTime cs → start_of_told cs < 2 ^ 32
-start_fits cs all = start_low (seconds_of_all cs) 0 (omega arith) (all_low cs all)
+start_fits cs all = start-low (seconds_of_all cs) 0 (omega arith) (all_low cs all)

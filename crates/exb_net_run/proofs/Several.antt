@@ -1,12 +1,9 @@
 -- Several plans on one shelf: what is made and written under one of them leaves the files and ids of the others as they are.
-use Rattle.std.proofs.Common.{◌≡◌, ◌≢◌, ℕ, zero, suc, ◌<◌, ◌≤◌, ◌++◌, List, [], ◌∷◌, length, map, set, slice_index, Bool, true, false, Option, Some, None, refl, ap, sym, ◌∙◌, subst, arith, inl, inr}
-use Rattle.std.specs.Prelude.{slice_get, All, AllPairs}
+use Rattle.std.proofs.Common.{◌≡◌, ◌≢◌, ℕ, zero, suc, ◌<◌, ◌++◌, List, [], ◌∷◌, length, set, slice_index, Bool, true, Option, Some, None, refl, ap, sym, ◌∙◌, subst, arith, inl, inr}
+use Rattle.std.specs.Prelude.{slice_get}
 use Rattle.std.proofs.lemmas.Bool.{cases_eq, cases_lt}
-use Rattle.std.proofs.lemmas.Option.{slice_get-map, slice_get_within}
 use Rattle.exb_shelf.specs.Files.{Files}
-use Rattle.exb_shelf.specs.Shelf.{Id, Opens, writing}
-use Rattle.exb_text.specs.declared.output.Output.{Output}
-use Rattle.exb_text.specs.Names.{file_name}
+use Rattle.exb_shelf.specs.Shelf.{Id, Opens}
 use Rattle.exb_net_file.specs.declared.members.NetMember.{NetMember}
 use Rattle.exb_net_file.specs.Sound.{BridgesWriteApart}
 use Rattle.exb_net_file.specs.Words.{is_name}
@@ -15,7 +12,7 @@ use Rattle.exb_outputs.specs.Plans.{OnlyPlanned, Planned, kind_at, output_count,
 use Rattle.exb_outputs.specs.Writing.{IsReady, ids_of}
 use Rattle.exb_outputs.proofs.ByKind.{kind_is}
 use Rattle.exb_machine.specs.Stepping.{Stepped}
-use Rattle.exb_net_run.specs.Desks.{AreFronts, ArePlansApart, IsOther, OnlyAllPlanned}
+use Rattle.exb_net_run.specs.Desks.{AreFronts, OnlyAllPlanned}
 use Rattle.exb_net_run.specs.Nets.{plan_with}
 
 -- ---- ids

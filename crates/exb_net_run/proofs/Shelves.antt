@@ -1,5 +1,5 @@
 -- What calls that play a net leave of the shelf, one after another; and which faults can come while files are written.
-use Rattle.std.proofs.Common.{◌≡◌, ◌⊎◌, inl, inr, ℕ, List, [], ◌∷◌, Result, Ok, Err, refl, ap, sym, subst, ◌∙◌}
+use Rattle.std.proofs.Common.{◌≡◌, inl, inr, ℕ, List, [], ◌∷◌, Result, Ok, Err, refl, sym, subst, ◌∙◌}
 use Rattle.std.specs.Prelude.{IfErr, IsErrOf}
 use Rattle.std.specs.List.{AllByRecursion}
 use Rattle.exb_shelf.specs.Files.{Files}
@@ -7,7 +7,6 @@ use Rattle.exb_shelf.specs.Shelf.{Id}
 use Rattle.exb_inputs.specs.declared.fault.Fault.{Fault}
 use Rattle.exb_inputs.specs.declared.fault.Fault.TheVariants.{MemberChanged, Memory, Write}
 use Rattle.exb_inputs.specs.Shelving.{OnlyReads}
-use Rattle.exb_merge.specs.Replays.{ReadsOn}
 use Rattle.exb_outputs.specs.Plans.{Planned}
 use Rattle.exb_outputs.specs.Shelving.{IsOfWriting}
 use Rattle.exb_outputs.proofs.Keeping.{reads-none, reads-then}

@@ -1,15 +1,14 @@
 -- The least second of any first record, bridge after bridge.
-use Rattle.std.proofs.Common.{◌≡◌, ℕ, ◌+◌, ◌<◌, ◌≤◌, List, [], ◌∷◌, ◌++◌, length, take, get_or, Option, None, refl, ap, sym, subst, ◌∙◌, arith}
-use Rattle.std.specs.Prelude.{flat_map, unwrap_or}
+use Rattle.std.proofs.Common.{◌≡◌, ℕ, ◌+◌, ◌<◌, ◌≤◌, List, [], ◌∷◌, ◌++◌, length, take, get_or, Option, None, refl, ap, sym, subst, ◌∙◌}
+use Rattle.std.specs.Prelude.{unwrap_or}
 use Rattle.std.specs.declared.alloc.Global.{Global}
 use Rattle.std.specs.declared.vec.Vec.{Vec}
 use Rattle.std.proofs.lemmas.Grind.{flat_map-append}
 use Rattle.std.proofs.lemmas.List.{append-nil, take_all, take_more}
-use Rattle.exb_model.specs.Input.{least_or}
 use Rattle.exb_inputs.specs.declared.checked.Checked.{Checked}
-use Rattle.exb_inputs.specs.Again.{earliest_told}
+use Rattle.exb_inputs.specs.Again.{earliest_told, seconds_told}
 use Rattle.exb_inputs.proofs.Beginning.{IsLeastOf, earliest-least, least-end}
-use Rattle.exb_net_run.specs.Reopening.{seconds_of_all, seconds_told, start_of_told}
+use Rattle.exb_net_run.specs.Reopening.{seconds_of_all, start_of_told}
 
 none_taken : {A : Type 0} (xs : List A) → take 0 xs ≡ []
 none_taken [] = refl

@@ -1,16 +1,14 @@
 -- What comes next can be given to its bridge; and the programmes go on behind it.
-use Rattle.std.proofs.Common.{◌≡◌, ◌≢◌, ℕ, zero, suc, ◌+◌, ◌-◌, ◌*◌, ◌^◌, ◌<◌, ◌≤◌, ◌==◌, ◌++◌, Bool, true, false, cond, List, [], ◌∷◌, length, map, Option, Some, None, refl, ap, sym, subst, ◌∙◌, arith, inl, inr}
-use Rattle.std.specs.Prelude.{All, slice_get, sum_by}
-use Rattle.std.specs.List.{AllByRecursion}
-use Rattle.std.proofs.lemmas.Bool.{cases_eq, eq-eqb, ne_eqb}
+use Rattle.std.proofs.Common.{◌≡◌, ℕ, zero, suc, ◌+◌, ◌-◌, ◌*◌, ◌^◌, ◌<◌, ◌≤◌, ◌==◌, true, false, List, map, Option, Some, None, refl, ap, sym, subst, ◌∙◌, arith}
+use Rattle.std.specs.Prelude.{All, slice_get}
 use Rattle.std.proofs.lemmas.Option.{same_Some, slice_get_within}
 use Rattle.exb_model.specs.declared.command.Command.{Command}
 use Rattle.exb_model.specs.declared.setup.Timed.{Timed}
 use Rattle.exb_model.specs.History.{command_of}
-use Rattle.exb_model.specs.Input.{Coming, Ordered, Captured, basis_of, given_by, moment_of, second_of, seconds_after}
+use Rattle.exb_model.specs.Input.{given_by, moment_of, seconds_after}
 use Rattle.exb_model.specs.Setup.{NamesExternal}
-use Rattle.exb_model.specs.Tree.{Shape, is_external}
-use Rattle.exb_machine.specs.Allowing.{Can, MayArrive}
+use Rattle.exb_model.specs.Tree.{Shape}
+use Rattle.exb_machine.specs.Allowing.{Can}
 use Rattle.exb_machine.specs.Stepping.{Stepped}
 use Rattle.exb_machine.specs.Worlds.{World, Step, Arrive, Order, Tick}
 use Rattle.exb_network.specs.Networks.{tree_of, world_of}
@@ -22,13 +20,13 @@ use Rattle.exb_merge.specs.declared.agenda.NetNext.{NetNext}
 use Rattle.exb_merge.specs.declared.programme.Next.{Next}
 use Rattle.exb_merge.specs.declared.programme.Next.TheVariants as next
 use Rattle.exb_merge.specs.declared.programme.Programme.{Programme}
-use Rattle.exb_merge.specs.NetAgendas.{ComesTo, due_of}
-use Rattle.exb_merge.specs.Programmes.{IsComing, IsFrom, IsOf, what}
-use Rattle.exb_merge.specs.Replays.{HasPort, left_in, number_of, standings}
-use Rattle.exb_nets.specs.Nets.{Net, is_wired}
-use Rattle.exb_nets.specs.NetHistory.{Due, basis_in, due_second}
+use Rattle.exb_merge.specs.NetAgendas.{due_of}
+use Rattle.exb_merge.specs.Programmes.{IsOf, what}
+use Rattle.exb_merge.proofs.Onward.{command_is, second_high}
+use Rattle.exb_nets.specs.Nets.{Net}
+use Rattle.exb_nets.specs.NetHistory.{basis_in}
 use Rattle.exb_net_file.specs.declared.apart.NetRest.{NetRest}
-use Rattle.exb_wiring.specs.Playing.{Dones, IsStepFor, MayPass, PlaysOne, pass, tree_in}
+use Rattle.exb_wiring.specs.Playing.{Dones, IsStepFor, PlaysOne, pass, tree_in}
 use Rattle.exb_wiring.specs.Delivering.{HavePassed}
 use Rattle.exb_net.specs.declared.net.Net.{Net as Bridges}
 use Rattle.exb_net.specs.declared.node.Node.{Node}
@@ -37,7 +35,6 @@ use Rattle.exb_net.specs.Nets.{Handled, IsPlaying, Passes}
 use Rattle.exb_net.proofs.Places.{all_by, is_there, of_all}
 use Rattle.exb_net_run.specs.declared.game.NetGame.{NetGame}
 use Rattle.exb_net_run.specs.UnderWay.{AreOfRests, CanGive, GoesOnAt, IsDue, IsFree, IsLast, IsSince, IsStepOf, NetRun}
-use Rattle.exb_net_run.proofs.Coming.{command-is, second-high}
 use Rattle.exb_net_run.proofs.Passing.{pass_given}
 
 -- ---- the step of what comes
@@ -86,7 +83,7 @@ step-for n b cs (next.Command number moment) step given is =
     let k : ℕ = number - 1 in
     let own : suc (number - 1) ≡ number = (let low = is.0 in omega (arith, low)) in
     let c : Timed = is.1.0 in
-    (c.command, ap (command_of (basis_in n b)) (sym own) ∙ command-is (n.input b) cs (number - 1) c given is.1.1, is.1.2)
+    (c.command, ap (command_of (basis_in n b)) (sym own) ∙ command_is (n.input b) cs (number - 1) c given is.1.1, is.1.2)
 step-for n b cs (next.Record c) step given is = is
 
 -- ---- what comes next
@@ -110,7 +107,7 @@ module _ {V : Type 0} {X : V → Type 0} (tells : Type 0) (r : NetRun) (now : Fi
   clock-by : (l : Option ℕ) (clock : ℕ) → IsLast p.going.goes.start l p.old → IsSince p.going.goes.start l clock → seconds ≡ seconds_after l second → clock + seconds + p.going.goes.start ≤ second
   clock-by None clock last since is = (let b = begins in omega (arith, since, is, b))
   clock-by (Some l) clock last since is =
-      let later = second-high (moment_of (what d.next)) l (p.comes.fell (l * 1_000_000_000) last.1) in
+      let later = second_high (moment_of (what d.next)) l (p.comes.fell (l * 1_000_000_000) last.1) in
       let own = p.second_is in
       omega (arith, since, is, later, own)
 

@@ -1,6 +1,5 @@
 -- One turn of a net: seconds pass, and what comes is given.
-use Rattle.std.proofs.Common.{◌≡◌, ℕ, ◌+◌, ◌^◌, ◌<◌, ◌≤◌, ◌∙◌, List, length, Some, arith, sym}
-use Rattle.std.specs.Prelude.{All, slice_get}
+use Rattle.std.proofs.Common.{◌≡◌, ℕ, ◌≤◌, List, length, arith}
 use Rattle.exb_shelf.specs.Files.{Files}
 use Rattle.exb_shelf.specs.Shelf.{Id}
 use Rattle.exb_merge.specs.declared.agenda.NetNext.{NetNext}
@@ -11,7 +10,6 @@ use Rattle.exb_wiring.specs.Delivering.{HavePassed, SecondsPass}
 use Rattle.exb_wiring.specs.Playing.{Dones, PlaysOne, pass}
 use Rattle.exb_wiring.specs.UnderWay.{AreOneMore, EventsAddOne}
 use Rattle.exb_net.specs.declared.net.Net.{Net as Bridges}
-use Rattle.exb_net.specs.declared.node.Node.{Node}
 use Rattle.exb_net.specs.Nets.{Handled, IsPlaying, Passes}
 use Rattle.exb_net_run.specs.declared.game.NetGame.{NetGame}
 use Rattle.exb_net_run.specs.UnderWay.{AreOfRests, CanGive, IsDue, NetRun}

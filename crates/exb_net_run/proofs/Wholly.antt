@@ -1,12 +1,12 @@
 -- What a call that makes files and plays leaves, by what each part of it leaves.
-use Rattle.std.proofs.Common.{◌≡◌, ℕ, Bool, List, length, map, Result, Ok, Err, ap, sym, subst, ◌∙◌, ◌⊎◌, inl, inr}
+use Rattle.std.proofs.Common.{ℕ, Bool, List, Result, Ok, Err}
 use Rattle.std.specs.Prelude.{IfOk, OnErr}
 use Rattle.exb_inputs.specs.declared.fault.Fault.{Fault}
 use Rattle.exb_net_file.specs.declared.members.NetMember.{NetMember}
 use Rattle.exb_outputs.specs.Shelving.{IsOfWriting}
 use Rattle.exb_shelf.specs.Shelf.{Id, Opens}
 use Rattle.exb_net_inputs.specs.Opening.{ReadsMemberCapture}
-use Rattle.exb_net_run.specs.Opening.{MakesNet, WritesNetOutput, net_names}
+use Rattle.exb_net_run.specs.Opening.{MakesNet, net_names}
 use Rattle.exb_net_run.proofs.Sets.{not_late}
 use Rattle.exb_net_run.proofs.Turns.{turn_then_read}
 

@@ -1,5 +1,5 @@
 -- The net that a file and its topologies make, and the files that its bridges write.
-use Rattle.std.specs.Prelude.{◌≡◌, ℕ, Bool, false, List, [], Option, Some, None, length, map, slice_get}
+use Rattle.std.specs.Prelude.{◌≡◌, ℕ, Bool, List, [], Option, Some, None, length, slice_get}
 use Rattle.exb_model.specs.Input.{Input}
 use Rattle.exb_nets.specs.declared.wires.Wire.{Wire}
 use Rattle.exb_nets.specs.Nets.{Net}

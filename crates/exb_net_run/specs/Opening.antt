@@ -1,5 +1,5 @@
 -- Which files a net opens, and in which order: its file, the topologies, the captures, the files that it makes, and the captures again.
-use Rattle.std.specs.Prelude.{⊤, ◌≡◌, ◌≢◌, ◌<◌, ◌≤◌, ◌+◌, ◌⊎◌, ℕ, Bool, true, false, List, Some, Result, Ok, Err, IsErrOf, String, flat_map, length, map, slice_get, string_bytes}
+use Rattle.std.specs.Prelude.{⊤, ◌≡◌, ◌<◌, ◌≤◌, ◌⊎◌, ℕ, Bool, true, false, List, Some, Result, Ok, Err, IsErrOf, String, flat_map, length, map, slice_get}
 use Rattle.std.specs.declared.alloc.Global.{Global}
 use Rattle.exb_model.specs.Ports.{below}
 use Rattle.exb_nets.specs.declared.wires.Wire.{Wire}

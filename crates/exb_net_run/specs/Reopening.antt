@@ -1,9 +1,9 @@
 -- The captures of bridges are opened again: when the net begins, and what each bridge's programme is then.
-use Rattle.std.specs.Prelude.{⊤, ◌≡◌, ◌≤◌, ◌+◌, false, ℕ, List, [], ◌∷◌, All, IfSome, Some, filter_map, flat_map, map, option_map, slice_get, sum_by}
+use Rattle.std.specs.Prelude.{⊤, ◌≡◌, ◌≤◌, ◌+◌, false, ℕ, List, [], ◌∷◌, Some, flat_map, map, slice_get, sum_by}
 use Rattle.std.specs.List.{AllByRecursion}
 use Rattle.std.specs.declared.alloc.Global.{Global}
 use Rattle.std.specs.declared.vec.Vec.{Vec}
-use Rattle.exb_model.specs.Input.{least_or, second_of}
+use Rattle.exb_model.specs.Input.{least_or}
 use Rattle.exb_merge.specs.declared.programme.Programme.{Programme}
 use Rattle.exb_merge.specs.Replays.{AreReplays, ids_in, left_in, standings}
 use Rattle.exb_merge.specs.Streams.{Stream}
@@ -11,24 +11,16 @@ use Rattle.exb_shelf.specs.Files.{Files}
 use Rattle.exb_shelf.specs.Shelf.{Id}
 use Rattle.exb_net_file.specs.declared.apart.NetRest.{NetRest}
 use Rattle.exb_inputs.specs.declared.checked.Checked.{Checked}
-use Rattle.exb_inputs.specs.Again.{first_standing, stream_told}
+use Rattle.exb_inputs.specs.Again.{first_standing, seconds_told, stream_told}
 use Rattle.exb_inputs.specs.Shelving.{ReadsCapture}
 
--- the seconds of the first records of some captures, of those that have any
-abbrev pub seconds_told : List Checked → List ℕ
-seconds_told cs = filter_map (λ (c : Checked). option_map second_of c.told.first) cs
-
--- and of the captures of all bridges
+-- the whole seconds of the first records of all bridges' captures, of those that have any
 abbrev pub seconds_of_all : List (Vec Checked Global) → List ℕ
 seconds_of_all cs = flat_map (λ (c : Vec Checked Global). seconds_told c.items) cs
 
 -- the second from which commands count: the least of them, or 0
 abbrev pub start_of_told : List (Vec Checked Global) → ℕ
 start_of_told cs = least_or 0 (seconds_of_all cs)
-
--- no first record was told before this second
-abbrev pub AreSince : ℕ → List Checked → Type 0
-AreSince second cs = All (λ c. IfSome c.told.first (λ first. second ≤ second_of first)) cs
 
 -- a bridge's programme before anything is taken: all its commands, and each capture at its first record
 pub record IsReopened (start : ℕ) (r : NetRest) (checked : List Checked) (p : Programme) : Type 0 where

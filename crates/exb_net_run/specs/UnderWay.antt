@@ -2,12 +2,12 @@
 use Rattle.std.specs.Prelude.{◌≡◌, ◌≤◌, ◌<◌, ◌+◌, ◌-◌, ◌⊎◌, ◌*◌, ◌^◌, ◌==◌, if◌then◌else◌, true, false, ℕ, List, [], ◌∷◌, ◌++◌, Option, Some, None, length, map, slice_get, sum_by, drop, All}
 use Rattle.std.specs.List.{AllByRecursion}
 use Rattle.exb_model.specs.declared.setup.Timed.{Timed}
-use Rattle.exb_model.specs.Input.{Arrival, Coming, Ordered, Captured, given_by, moment_of, second_of, seconds_after}
+use Rattle.exb_model.specs.Input.{given_by, moment_of, second_of, seconds_after}
 use Rattle.exb_model.specs.Setup.{NamesExternal}
 use Rattle.exb_model.specs.Tree.{IsTree, external_ports, is_external}
 use Rattle.exb_machine.specs.Allowing.{Can}
 use Rattle.exb_machine.specs.Stepping.{Stepped}
-use Rattle.exb_machine.specs.Worlds.{Left, Step, Arrive, Order, Tick}
+use Rattle.exb_machine.specs.Worlds.{Left, Step, Arrive, Order}
 use Rattle.exb_network.specs.Networks.{tree_of, world_of}
 use Rattle.exb_resting.specs.Flight.Showing.{left_at}
 use Rattle.exb_resting.specs.Rest.Playing.{counted_in}
@@ -16,12 +16,11 @@ use Rattle.exb_schedule.specs.Worlds.{network_of}
 use Rattle.exb_shelf.specs.Files.{Files}
 use Rattle.exb_shelf.specs.Shelf.{Id}
 use Rattle.exb_merge.specs.Arrivals.{arrival_with}
-use Rattle.exb_merge.specs.declared.agenda.Agenda.{Agenda}
 use Rattle.exb_merge.specs.declared.agenda.NetNext.{NetNext}
 use Rattle.exb_merge.specs.declared.programme.Next.{Next}
 use Rattle.exb_merge.specs.declared.programme.Next.TheVariants as next
 use Rattle.exb_merge.specs.declared.programme.Programme.{Programme}
-use Rattle.exb_merge.specs.NetAgendas.{AreAllReplays, ComesTo, IsAgenda, all_ids, all_to_play, due_of, dues_left, programmes_in}
+use Rattle.exb_merge.specs.NetAgendas.{AreAllReplays, ComesTo, all_ids, all_to_play, due_of, dues_left}
 use Rattle.exb_merge.specs.Programmes.{IsFrom, what}
 use Rattle.exb_merge.specs.Replays.{HasPort, left_in, number_of, standings}
 use Rattle.exb_merge.specs.Streams.{Stream}

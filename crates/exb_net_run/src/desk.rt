@@ -1,5 +1,5 @@
 //! What one bridge of a net writes and counts.
-ghost use Rattle.std.specs.Prelude.{◌≡◌, ◌∷◌, true, ℕ, List, [], All, length, IfErr, OnErr, OnOk};
+ghost use Rattle.std.specs.Prelude.{◌≡◌, ◌∷◌, ℕ, List, [], All, IfErr, OnErr, OnOk};
 ghost use Rattle.exb_machine.specs.Stepping.{Stepped};
 ghost use Rattle.exb_model.specs.FlatBridge.{Sent};
 ghost use Rattle.exb_shelf.specs.Files.{Files};
@@ -20,13 +20,13 @@ use exb_inputs::Fault;
 use exb_outputs::{Outputs, Plan};
 use exb_schedule::World;
 use exb_shelf::Shelf;
-use exb_text::Tally;
+use exb_text::{LineRoom, Tally};
 use exb_writers::{Counted, write_counters, write_events, write_left};
 
 /// Room for a line of a journal and for one of counters.
 #[derive(Drop)]
 pub(crate) struct Room {
-    pub(crate) line: String,
+    pub(crate) line: LineRoom,
     pub(crate) text: Vec<u8>,
 }
 
@@ -64,13 +64,6 @@ fn write_new<S: Shelf>(
     write_left(shelf, plan, outputs, world.left())
 }
 
-/// Whether a bridge told nothing, and nothing left it, since its world was cleared.
-fn is_quiet(world: &World) -> bool
-    ensures { result ≡ true → (length (network_of world.now).log.events ≡ 0) × (length (network_of world.now).log.passed ≡ 0) × (length (network_of world.now).log.left ≡ 0) }
-{
-    world.events().is_empty() && world.passed().is_empty() && world.left().is_empty()
-}
-
 /// Writes and counts what a bridge told, and what left it, since its world was cleared.
 pub(crate) fn note<S: Shelf>(
     shelf: &mut S,
@@ -90,9 +83,6 @@ pub(crate) fn note<S: Shelf>(
     ensures causes { IfErr result IsOfWriting }
     ensures faults { CountsFaults result (S.faults shelf.old) (S.faults shelf.new) }
 {
-    if is_quiet(world) {
-        return Ok(());
-    }
     write_new(shelf, room, &desk.plan, &mut desk.outputs, world)?;
     desk.counted
         .note(world.events(), world.passed(), world.left().len());

@@ -1,16 +1,15 @@
 //! A net under way: its bridges, what is written of them, and what is counted.
-ghost use Rattle.std.specs.Prelude.{◌≡◌, ◌+◌, ◌<◌, ◌≤◌, ◌^◌, ℕ, List, [], Some, None, All, length, map, slice_get, IfErr, IfNone, IfOk, IfSome, IsErrOf, OnErr, OnOk, string_bytes};
+ghost use Rattle.std.specs.Prelude.{◌≡◌, ◌+◌, ◌<◌, ◌≤◌, ◌^◌, ℕ, List, Some, None, All, length, slice_get, IfErr, IfOk, IfSome, IsErrOf, OnErr, OnOk, string_bytes};
 ghost use Rattle.exb_model.specs.Input.{seconds_after};
 ghost use Rattle.exb_model.specs.Texts.{summary_line};
-ghost use Rattle.exb_machine.specs.Stepping.{Stepped};
 ghost use Rattle.exb_merge.specs.Arrivals.{arrival_with};
-ghost use Rattle.exb_merge.specs.NetAgendas.{AreAllReplays, ComesTo, IsAgenda, IsFirstOf, all_ids, all_to_play, dues_left, programmes_in};
+ghost use Rattle.exb_merge.specs.NetAgendas.{AreAllReplays, ComesTo, IsAgenda, IsFirstOf, all_ids, programmes_in};
 ghost use Rattle.exb_merge.specs.declared.programme.Programme.{Programme};
 ghost use Rattle.exb_merge.specs.Streams.{Stream};
 ghost use Rattle.exb_nets.specs.Nets.{Net as Wired};
 ghost use Rattle.exb_wiring.specs.Playing.{Dones};
 ghost use Rattle.exb_net.specs.Lists.{AreEach};
-ghost use Rattle.exb_net.specs.Nets.{Handled, IsPlaying, Opens};
+ghost use Rattle.exb_net.specs.Nets.{Handled, IsPlaying};
 ghost use Rattle.exb_schedule.specs.Playing.{arrived};
 ghost use Rattle.exb_schedule.specs.Worlds.{fate_in};
 ghost use Rattle.exb_text.specs.Tallies.{FitsTally, counts_of};
@@ -39,6 +38,7 @@ use exb_wiring::laws::{
     seconds_pass,
 };
 use std::alloc::Global;
+use std::mem;
 
 /// A second in nanoseconds.
 const NANOSECONDS: u64 = 1_000_000_000;
@@ -75,18 +75,16 @@ fn seconds_since(last: Option<u64>, second: u64) -> u32
 }
 
 /// Takes what comes next; None exactly where nothing is left. A capture of a bridge that is another one than the one that was checked is
-/// a fault of that bridge.
+/// a fault of that bridge. A record's bytes come in `buffer`, which is written anew.
 fn next_due<S: Shelf>(
     alloc: Global,
     shelf: &mut S,
-    piece: &mut [u8],
     rests: &[NetRest],
     agenda: &mut Agenda<'_>,
+    buffer: &mut Vec<u8>,
 ) -> Result<Option<NetNext>, Fault>
     requires agenda { IsAgenda (S.ids shelf.old) agenda.old }
-    requires piece { 0 < length piece.old }
     requires rests { length (programmes_in agenda.old) ≤ length rests.now }
-    ensures piece { length piece.new ≡ length piece.old }
     ensures agenda { OnOk result (IsAgenda (S.ids shelf.new) agenda.new) }
     ensures coming { IfOk result (λ due. IfSome due (λ d. ComesTo (programmes_in agenda.old) d (programmes_in agenda.new))) }
     ensures order { S.tells → IfOk result (λ due. (streams : List (List Stream)) → AreAllReplays (S.file shelf.old) (S.ids shelf.old) (programmes_in agenda.old) streams
@@ -98,7 +96,7 @@ fn next_due<S: Shelf>(
     ensures causes { IfErr result IsOfNetPlay }
     ensures faults { CountsFaults result (S.faults shelf.old) (S.faults shelf.new) }
 {
-    match agenda.next(alloc, shelf, piece) {
+    match agenda.next(shelf, mem::replace(buffer, Vec::new(alloc))) {
         Ok(due) => Ok(due),
         Err(failure) => {
             let fault = Fault::from(failure.fault);
@@ -110,8 +108,13 @@ fn next_due<S: Shelf>(
     }
 }
 
-/// Gives what comes to its bridge, and plays what follows.
-fn give(net: &mut Net, rests: &[NetRest], due: NetNext) -> Result<(), WorldFault>
+/// Gives what comes to its bridge, and plays what follows. A record's buffer is given back.
+fn give(
+    net: &mut Net,
+    rests: &[NetRest],
+    due: NetNext,
+    buffer: &mut Vec<u8>,
+) -> Result<(), WorldFault>
     requires can { (n : Wired) × ((s : Dones) × ((told : Dones) × CanGive n s told rests.now due net.old)) }
     requires fates { All (λ x. left (fate_in x.world) < 2 ^ 57) net.old.nodes.items }
     requires pays { (x : _) → slice_get net.old.nodes.items due.bridge ≡ Some x → left (fate_in x.world) + letters_at rests.now due due.bridge < 2 ^ 57 }
@@ -121,7 +124,12 @@ fn give(net: &mut Net, rests: &[NetRest], due: NetNext) -> Result<(), WorldFault
 {
     let bridge = due.bridge;
     match due.next {
-        Next::Record(came) => net.arrive(bridge, &arrival(came)),
+        Next::Record(came) => {
+            let frame = arrival(came);
+            let given = net.arrive(bridge, &frame);
+            *buffer = frame.bytes.into_vec();
+            given
+        }
         Next::Command { number, .. } => {
             let commands = rests[bridge as usize].commands.as_slice();
             net.command(bridge, &commands[number as usize - 1])
@@ -129,7 +137,7 @@ fn give(net: &mut Net, rests: &[NetRest], due: NetNext) -> Result<(), WorldFault
     }
 }
 
-/// Writes and counts what all bridges told, and what left them, since they were cleared.
+/// Writes and counts what all bridges told, and what left them, since they were cleared; those alone are looked at to which something came.
 fn note_all<S: Shelf>(
     shelf: &mut S,
     room: &mut Room,
@@ -149,8 +157,10 @@ fn note_all<S: Shelf>(
     ensures causes { IfErr result IsOfWriting }
     ensures faults { CountsFaults result (S.faults shelf.old) (S.faults shelf.new) }
 {
-    for bridge in 0..desks.len() {
+    let mut from = 0;
+    'noting: while let Some(bridge) = net.first_touched(from) {
         note(shelf, room, &mut desks[bridge], net.world(bridge as u8))?;
+        from = bridge + 1;
     }
     Ok(())
 }
@@ -210,13 +220,14 @@ impl NetGame {
         Ok(())
     }
 
-    /// Lets seconds pass, plays what comes then, and writes and counts what happens.
+    /// Lets seconds pass, plays what comes then, and writes and counts what happens. A record's buffer is given back.
     fn turn<S: Shelf>(
         &mut self,
         shelf: &mut S,
         rests: &[NetRest],
         seconds: u32,
         due: NetNext,
+        buffer: &mut Vec<u8>,
     ) -> Result<(), Fault>
         requires due { (r : NetRun) × ((second : ℕ) × ((ps : List Programme) × (IsDue S.tells r (S.file shelf.old) (S.ids shelf.old) seconds second self.old due ps × (AreOfRests rests.now ps × IsPaid self.old.net.nodes.items (λ x. left (fate_in x.world)) rests.now due ps)))) }
         ensures plans { plans_in self.new.desks.items ≡ plans_in self.old.desks.items }
@@ -236,7 +247,7 @@ impl NetGame {
         if self.net.tick(seconds).is_err() {
             return Err(Fault::Memory);
         }
-        if give(&mut self.net, rests, due).is_err() {
+        if give(&mut self.net, rests, due, buffer).is_err() {
             return Err(Fault::Memory);
         }
         self.note(shelf)
@@ -247,12 +258,10 @@ impl NetGame {
         &mut self,
         alloc: Global,
         shelf: &mut S,
-        piece: &mut [u8],
         rests: &[NetRest],
         agenda: &mut Agenda<'_>,
     ) -> Result<(), Fault>
         requires agenda { IsAgenda (S.ids shelf.old) agenda.old }
-        requires piece { 0 < length piece.old }
         requires rests { AreOfRests rests.now (programmes_in agenda.old) }
         requires going { (r : NetRun) × IsGoing S.tells r (S.file shelf.old) (S.ids shelf.old) None self.old (programmes_in agenda.old) }
         requires budget { IsWithin self.old.net.nodes.items (λ x. left (fate_in x.world)) (programmes_in agenda.old) }
@@ -272,10 +281,11 @@ impl NetGame {
     {
         agendas_stay();
         let mut last: Option<u64> = None;
-        'events: while let Some(due) = next_due(alloc, shelf, piece, rests, agenda)? {
+        let mut buffer = Vec::new(alloc);
+        'events: while let Some(due) = next_due(alloc, shelf, rests, agenda, &mut buffer)? {
             let second = due.next.moment() / NANOSECONDS;
             let seconds = seconds_since(last, second);
-            self.turn(shelf, rests, seconds, due)?;
+            self.turn(shelf, rests, seconds, due, &mut buffer)?;
             last = Some(second);
         }
         Ok(())
@@ -302,12 +312,10 @@ impl NetGame {
         &mut self,
         alloc: Global,
         shelf: &mut S,
-        piece: &mut [u8],
         rests: &[NetRest],
         agenda: &mut Agenda<'_>,
     ) -> Result<String, Fault>
         requires agenda { IsAgenda (S.ids shelf.old) agenda.old }
-        requires piece { 0 < length piece.old }
         requires rests { AreOfRests rests.now (programmes_in agenda.old) }
         requires going { (r : NetRun) × IsGoing S.tells r (S.file shelf.old) (S.ids shelf.old) None self.old (programmes_in agenda.old) }
         requires budget { IsWithin self.old.net.nodes.items (λ x. left (fate_in x.world)) (programmes_in agenda.old) }
@@ -325,7 +333,7 @@ impl NetGame {
     {
         nets_are_played_eagerly();
         counts_go_on();
-        self.play_all(alloc, shelf, piece, rests, agenda)?;
+        self.play_all(alloc, shelf, rests, agenda)?;
         self.end(alloc, shelf)
     }
 
@@ -334,12 +342,10 @@ impl NetGame {
         &mut self,
         alloc: Global,
         shelf: &mut S,
-        piece: &mut [u8],
         rests: &[NetRest],
         agenda: &mut Agenda<'_>,
     ) -> Result<String, Fault>
         requires agenda { IsAgenda (S.ids shelf.old) agenda.old }
-        requires piece { 0 < length piece.old }
         requires rests { AreOfRests rests.now (programmes_in agenda.old) }
         requires begins { (r : NetRun) × CanBegin S.tells r (S.file shelf.old) (S.ids shelf.old) self.old (programmes_in agenda.old) }
         requires budget { IsWithin self.old.net.nodes.items (λ x. left (fate_in x.world)) (programmes_in agenda.old) }
@@ -363,6 +369,6 @@ impl NetGame {
             return Err(Fault::Memory);
         }
         self.note(shelf)?;
-        self.play_on(alloc, shelf, piece, rests, agenda)
+        self.play_on(alloc, shelf, rests, agenda)
     }
 }

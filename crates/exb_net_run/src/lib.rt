@@ -11,6 +11,5 @@ mod desk;
 mod game;
 mod opening;
 mod play;
-mod reopening;
 
 pub use play::play_net;

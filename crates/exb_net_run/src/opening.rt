@@ -12,6 +12,7 @@ ghost use Rattle.exb_net_file.specs.declared.members.NetMember.{NetMember};
 ghost use Rattle.exb_net_file.specs.Apart.{IsTakenApart, rest_of};
 ghost use Rattle.exb_net_inputs.specs.Holding.{AreRead};
 ghost use Rattle.exb_net_inputs.specs.Opening.{ReadsMemberCapture};
+ghost use Rattle.exb_inputs.specs.Again.{AreSince};
 ghost use Rattle.exb_inputs.specs.Checks.{AreChecked};
 ghost use Rattle.exb_inputs.specs.Inputs.{is_named};
 ghost use Rattle.exb_inputs.specs.Shelving.{CountsFaults, ReadsCapture};
@@ -26,15 +27,14 @@ ghost use Rattle.exb_net_run.specs.Desks.{OnlyAllPlanned};
 ghost use Rattle.exb_net_run.specs.Answers.{IsOfNetPlay};
 ghost use Rattle.exb_net_run.specs.Nets.{net_of, plan_with};
 ghost use Rattle.exb_net_run.specs.Opening.{HasCaptureAt, MakesNet, WritesNetOutput};
-ghost use Rattle.exb_net_run.specs.Reopening.{AreSince, IsOpenedAgain, start_of_told};
+ghost use Rattle.exb_net_run.specs.Reopening.{IsOpenedAgain, start_of_told};
 ghost use Rattle.exb_net_run.specs.Setting.{AreCutAs, AreSet, GoesFrom, IsSet, IsToBeOpened, plan_under};
 ghost use Rattle.exb_net_run.specs.Shelving.{IsNetChange, IsOfCaptures};
 ghost use Rattle.exb_net_run.specs.UnderWay.{AreOfRests, Begins, LeadsOn};
 
 use crate::desk::Desk;
-use crate::reopening::reopen_all;
 use exb_fate::Fate;
-use exb_inputs::{Checked, Fault, earliest_in};
+use exb_inputs::{Checked, Fault, earliest_in, open_all};
 use exb_merge::laws::{agendas_stay, dues_of_all, net_start_is_least};
 use exb_merge::{Agenda, Programme};
 use exb_model::memory::NoMemory;
@@ -133,13 +133,11 @@ fn start_of_all(checked: &[Vec<Checked>]) -> u64
 fn open_bridge<'a, S: Shelf>(
     alloc: Global,
     shelf: &mut S,
-    piece: &mut [u8],
     rest: &'a NetRest,
     checked: &[Checked],
     start: u64,
     agenda: &mut Agenda<'a>,
 ) -> Result<(), Fault>
-    requires piece { 0 < length piece.old }
     requires checked { AreChecked S.tells rest.now.captures (S.file shelf.old) checked.now }
     requires start { start < 2 ^ 32 }
     requires since { AreSince start checked.now }
@@ -148,7 +146,6 @@ fn open_bridge<'a, S: Shelf>(
     requires agenda { IsAgenda (S.ids shelf.old) agenda.old }
     requires room { length (programmes_in agenda.old) < 256 }
     requires given { AllByRecursion (λ k. (S.ids shelf.old k).given ≡ true) (all_ids (programmes_in agenda.old)) }
-    ensures piece { length piece.new ≡ length piece.old }
     ensures agenda { OnOk result (IsAgenda (S.ids shelf.new) agenda.new) }
     ensures programme { OnOk result ((p : Programme) × (programmes_in agenda.new ≡ programmes_in agenda.old ++ p ∷ [])
         × IsOpenedAgain S.tells start rest.now checked.now (S.file shelf.old) (S.file shelf.new) (S.ids shelf.old) (S.ids shelf.new) p) }
@@ -160,7 +157,7 @@ fn open_bridge<'a, S: Shelf>(
     ensures faults { CountsFaults result (S.faults shelf.old) (S.faults shelf.new) }
 {
     agendas_stay();
-    match reopen_all(alloc, shelf, piece, rest.captures.as_slice(), checked) {
+    match open_all(alloc, shelf, rest.captures.as_slice(), checked) {
         Ok(captures) => {
             let programme = Programme::new(captures, rest.commands.as_slice(), start);
             agenda.add(programme)?;
@@ -174,13 +171,10 @@ fn open_bridge<'a, S: Shelf>(
 pub(crate) fn open_agenda<'a, S: Shelf>(
     alloc: Global,
     shelf: &mut S,
-    piece: &mut [u8],
     rests: &'a [NetRest],
     checked: &[Vec<Checked>],
 ) -> Result<Agenda<'a>, Fault>
-    requires piece { 0 < length piece.old }
     requires read { (ms : List NetMember) × ((ws : List Wire) × IsToBeOpened S.tells ms ws rests.now (S.file shelf.old) checked.now) }
-    ensures piece { length piece.new ≡ length piece.old }
     ensures agenda { IfOk result (IsAgenda (S.ids shelf.new)) }
     ensures rests { IfOk result (λ agenda. AreOfRests rests.now (programmes_in agenda)) }
     ensures fresh { IfOk result (λ agenda. AllByRecursion (λ k. (S.ids shelf.old k).given ≡ false) (all_ids (programmes_in agenda))) }
@@ -206,7 +200,7 @@ pub(crate) fn open_agenda<'a, S: Shelf>(
     for bridge in 0..rests.len() {
         let rest = &rests[bridge];
         let captures = checked[bridge].as_slice();
-        open_bridge(alloc, shelf, piece, rest, captures, start, &mut agenda)?;
+        open_bridge(alloc, shelf, rest, captures, start, &mut agenda)?;
     }
     Ok(agenda)
 }

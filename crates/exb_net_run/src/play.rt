@@ -1,5 +1,5 @@
 //! The whole call.
-ghost use Rattle.std.specs.Prelude.{◌≡◌, ◌<◌, ◌≤◌, ◌+◌, ◌^◌, ◌⊎◌, ℕ, Bool, List, All, IfErr, IfOk, IsErrOf, OnErr, OnOk, length, map, string_bytes};
+ghost use Rattle.std.specs.Prelude.{◌<◌, ◌≤◌, ◌+◌, ◌^◌, ◌⊎◌, ℕ, Bool, List, All, IfErr, IfOk, IsErrOf, OnErr, length, map, string_bytes};
 ghost use Rattle.exb_inputs.specs.declared.fault.Fault.{Fault};
 ghost use Rattle.exb_inputs.specs.Shelving.{CountsFaults};
 ghost use Rattle.exb_merge.specs.NetAgendas.{IsAgenda, all_ids, programmes_in};
@@ -13,7 +13,6 @@ ghost use Rattle.exb_net_inputs.specs.Opening.{ReadsMemberCapture};
 ghost use Rattle.exb_schedule.specs.Worlds.{fate_in};
 ghost use Rattle.exb_shelf.specs.Files.{Files, SameFiles};
 ghost use Rattle.exb_shelf.specs.Shelf.{IsReading, Opens};
-ghost use Rattle.exb_text.specs.declared.output.Output.{Output};
 ghost use Rattle.exb_writers.specs.Counts.{IsSummary};
 ghost use Rattle.exb_net_run.specs.Answers.{AreFrontsOfNet, IsNetFailure, IsOfNet, IsOfNetPlay, NetPlayed, NetStops, OnlyNetAsked};
 ghost use Rattle.exb_net_run.specs.Desks.{OnlyAllPlanned, plans_in};
@@ -36,7 +35,8 @@ use exb_net_file::{NetParts, NetRest, take_apart};
 use exb_net_inputs::laws::{inputs_are_of_members, nets_have_one_cause};
 use exb_net_inputs::{NetInputs, check_members, read_net};
 use exb_nets::laws::{histories_go_on, nets_have_histories};
-use exb_shelf::{PIECE, Shelf, room};
+use exb_shelf::Shelf;
+use exb_text::LineRoom;
 use exb_wiring::laws::nets_are_played;
 use std::alloc::Global;
 
@@ -44,14 +44,12 @@ use std::alloc::Global;
 fn play_agenda<S: Shelf>(
     alloc: Global,
     shelf: &mut S,
-    piece: &mut [u8],
     rests: &[NetRest],
     agenda: &mut Agenda<'_>,
     net: Net,
     desks: Vec<Desk>,
 ) -> Result<String, Fault>
     requires agenda { IsAgenda (S.ids shelf.old) agenda.old }
-    requires piece { 0 < length piece.old }
     requires rests { AreOfRests rests.now (programmes_in agenda.old) }
     requires can { (r : NetRun) × CanPlay S.tells r (S.file shelf.old) (S.ids shelf.old) net desks.items (programmes_in agenda.old) }
     requires budget { IsWithin net.nodes.items (λ x. left (fate_in x.world)) (programmes_in agenda.old) }
@@ -71,11 +69,11 @@ fn play_agenda<S: Shelf>(
         net,
         desks,
         room: Room {
-            line: String::new(alloc),
+            line: LineRoom::new(alloc),
             text: Vec::new(alloc),
         },
     };
-    let played = game.play(alloc, shelf, piece, rests, agenda);
+    let played = game.play(alloc, shelf, rests, agenda);
     // By a call, since a block's end is far longer to prove where it lets worlds go.
     drop(game);
     played
@@ -108,23 +106,12 @@ fn play_into<S: Shelf>(
 {
     inputs_are_of_members();
     nets_are_timely();
-    let Ok(mut piece) = room(alloc, PIECE) else {
-        return Err(Fault::Memory);
-    };
     let rests = parts.rests.as_slice();
-    let mut agenda = open_agenda(alloc, shelf, piece.as_mut_slice(), rests, checked)?;
+    let mut agenda = open_agenda(alloc, shelf, rests, checked)?;
     let Ok(net) = Net::new(alloc, &parts.setup, fates) else {
         return Err(Fault::Memory);
     };
-    play_agenda(
-        alloc,
-        shelf,
-        piece.as_mut_slice(),
-        rests,
-        &mut agenda,
-        net,
-        desks,
-    )
+    play_agenda(alloc, shelf, rests, &mut agenda, net, desks)
 }
 
 /// Plays a net that was read, and of which the captures were checked.

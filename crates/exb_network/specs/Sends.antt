@@ -27,8 +27,8 @@ pub record CanSend (x : SendTo) : Type 0 where
 -- the frame may leave, with the priority of its own VLAN tag
 pub record HasPassed (x : Passed) : Type 0 where
   pub kind : can_leave (kind_of x.arrived.bytes.now) ≡ true
-  pub pcp : x.pcp < 8
-  pub own : priority x.pcp x.dei ≡ priority_of (kind_of x.arrived.bytes.now)
+  pub pcp : x.tag.pcp < 8
+  pub own : priority x.tag.pcp x.tag.dei ≡ priority_of (kind_of x.arrived.bytes.now)
 
 -- the first event is that of a frame that was relayed
 abbrev pub is_relay_first : List Event → Bool

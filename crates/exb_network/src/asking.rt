@@ -13,12 +13,13 @@ ghost use Rattle.exb_machine.specs.Runs.Asks.{CanGo};
 ghost use Rattle.exb_machine.specs.Runs.Sessions.{AreLow, Each};
 ghost use Rattle.exb_network.specs.Worlds.{world_in, IsAt, Does};
 
-use crate::forms::{channel_tag, put_tagged};
+use crate::forms::channel_tag;
 use crate::log::{Post, add_events, note_out};
 use crate::sending::hung_on;
 use crate::site::{Buffers, Core, Room, Site};
 use exb_changing::Asked;
 use exb_ecp::Pdu;
+use exb_frame::etag::tag_into;
 use exb_link::Word;
 use exb_model::address::Mac;
 use exb_model::buffers::ControlBuf;
@@ -125,7 +126,7 @@ fn put_deeper(
         return Ok(());
     };
     let mut buffer = post.store.buffer(post.alloc);
-    put_tagged(frame, &channel_tag(channel), &mut buffer)?;
+    tag_into(frame, &channel_tag(channel), &mut buffer)?;
     put(site, place, below, Bytes::from_vec(buffer), core, post)
 }
 

@@ -1,54 +1,21 @@
-//! The bytes of a frame with or without an E-TAG, of any length.
-ghost use Rattle.std.specs.Prelude.{◌≡◌, ◌≤◌, ◌++◌, [], OnOk, length};
-ghost use Rattle.exb_model.specs.ETags.{TagFits, tagged, stripped};
+//! The forms in which an extender sends a frame, of any length.
+ghost use Rattle.std.specs.Prelude.{◌≡◌, OnOk};
 ghost use Rattle.exb_frame.specs.TagValues.{tag_of};
 ghost use Rattle.exb_extender.specs.Forwarding.{channel_tag};
 ghost use Rattle.exb_extender.specs.Sending.{CanBeGiven, bytes_in};
 
 use exb_extender::Form;
-use exb_frame::etag::ETag;
+use exb_frame::etag::{ETag, strip_into, tag_into};
 use exb_model::memory::NoMemory;
 
-/// Puts bytes behind others.
+/// A frame as it is, in place of what was in `into`.
 #[inline(always)]
-fn put(bytes: &[u8], into: &mut Vec<u8>) -> Result<(), NoMemory>
-    ensures { OnOk result (into.new.items ≡ into.old.items ++ bytes.now) }
-{
-    into.extend_from_slice(bytes)?;
-    Ok(())
-}
-
-/// Empties a buffer, and makes room for so many bytes.
-#[inline(always)]
-fn begin(size: usize, into: &mut Vec<u8>) -> Result<(), NoMemory>
-    ensures { into.new.items ≡ [] }
+fn put_whole(frame: &[u8], into: &mut Vec<u8>) -> Result<(), NoMemory>
+    ensures { OnOk result (into.new.items ≡ frame.now) }
 {
     into.clear();
-    into.reserve(size)?;
+    into.extend_from_slice(frame)?;
     Ok(())
-}
-
-/// A frame with an E-TAG put in at byte 12, in place of what was in `into`.
-pub(crate) fn put_tagged(frame: &[u8], tag: &ETag, into: &mut Vec<u8>) -> Result<(), NoMemory>
-    requires long { 12 ≤ length frame.now }
-    requires fits { TagFits (tag_of tag.now) }
-    ensures { OnOk result (into.new.items ≡ tagged frame.now (tag_of tag.now)) }
-{
-    begin(frame.len().saturating_add(8), into)?;
-    put(&frame[..12], into)?;
-    put(&tag.write(), into)?;
-    put(&frame[12..], into)
-}
-
-/// A frame without the eight bytes at byte 12, in place of what was in `into`.
-#[inline(always)]
-pub(crate) fn put_stripped(frame: &[u8], into: &mut Vec<u8>) -> Result<(), NoMemory>
-    requires { 20 ≤ length frame.now }
-    ensures { OnOk result (into.new.items ≡ stripped frame.now) }
-{
-    begin(frame.len(), into)?;
-    put(&frame[..12], into)?;
-    put(&frame[20..], into)
 }
 
 /// The E-TAG that names a channel (IEEE 802.1BR): priority 0, and no port from which the frame came.
@@ -71,11 +38,8 @@ pub(crate) fn put_form(frame: &[u8], form: &Form, into: &mut Vec<u8>) -> Result<
     ensures { OnOk result (into.new.items ≡ bytes_in frame.now form.now) }
 {
     match form {
-        Form::AsIs => {
-            into.clear();
-            put(frame, into)
-        }
-        Form::Stripped => put_stripped(frame, into),
-        Form::Tagged { channel } => put_tagged(frame, &channel_tag(*channel), into),
+        Form::AsIs => put_whole(frame, into),
+        Form::Stripped => strip_into(frame, into),
+        Form::Tagged { channel } => tag_into(frame, &channel_tag(*channel), into),
     }
 }

@@ -55,7 +55,8 @@ impl Log {
         }
     }
 
-    /// Forgets what happened. Its lists keep their memory, and the store keeps that of the frames that left.
+    /// Forgets what happened. Its lists keep their memory, and the store keeps that of the frames that were relayed and of those
+    /// that left.
     pub(crate) fn clear(&mut self, store: &mut Store)
         ensures events { self.new.events ≡ [] }
         ensures passed { self.new.passed ≡ [] }
@@ -63,10 +64,21 @@ impl Log {
         ensures lines { self.new.lines ≡ [] }
         ensures tracing { self.new.tracing ≡ self.old.tracing }
     {
-        self.events.clear();
+        keep_events(&mut self.events, store);
         self.passed.clear();
         self.lines.clear();
         keep_all(&mut self.left, store);
+    }
+}
+
+/// Forgets events, and keeps the buffers of frames that were relayed.
+fn keep_events(events: &mut List<Event>, store: &mut Store)
+    ensures { events.new ≡ [] }
+{
+    while let Some(event) = events.pop() {
+        if let Event::Relay { bytes, .. } = event {
+            store.keep(bytes);
+        }
     }
 }
 
@@ -129,6 +141,7 @@ fn copy_events(alloc: Global, events: &[Event], to: &mut List<Event>) -> Result<
 }
 
 /// Puts events behind others. Where there were none these are moved, and not copied; and so is the last one.
+#[inline(always)]
 pub(crate) fn add_events(
     alloc: Global,
     events: &mut List<Event>,
@@ -140,6 +153,19 @@ pub(crate) fn add_events(
         mem::swap(events, to);
         return Ok(());
     }
+    add_behind(alloc, events, to)
+}
+
+/// Puts events behind others: copies of all but the last one, which is moved.
+#[cold]
+#[inline(never)]
+fn add_behind(
+    alloc: Global,
+    events: &mut List<Event>,
+    to: &mut List<Event>,
+) -> Result<(), NoMemory>
+    ensures { OnOk result (to.new ≡ to.old ++ events.old) }
+{
     let Some(last) = events.pop() else {
         return Ok(());
     };

@@ -16,30 +16,26 @@ ghost use Rattle.exb_network.specs.Sites.{limits_in};
 ghost use Rattle.exb_network.specs.Worlds.{world_in, IsAt, Does, HasLeft, KeepsTrace};
 
 use crate::arrivals::Arrived;
-use crate::forms::{put_stripped, put_tagged};
 use crate::hearing::hear;
 use crate::log::{Left, Post, add_events, note_out};
 use crate::sending::hung_on;
-use crate::site::{Buffers, Core, Room, Site};
+use crate::site::{Core, Room, Site};
 use exb_control::{Ingress, Outbox, SendTo};
-use exb_frame::egress::egress_into;
-use exb_frame::etag::{E_TAG_TYPE, ETag};
+use exb_frame::egress::{VlanTag, egress_into, tagged_egress_into};
+use exb_frame::etag::{E_TAG_TYPE, ETag, strip_in_place, strip_into};
 use exb_link::{Stamp, Word};
 use exb_model::bytes::{Bytes, are_bytes, number_at};
 use exb_model::event::Event;
 use exb_model::list::List;
 use exb_model::memory::NoMemory;
 use exb_model::port::PortId;
-use exb_model::vlan::Vid;
 use exb_relay::laws::spaces_number;
 
-/// A frame that passed at its port in a VLAN, with the priority of its VLAN tag (`pcp` is below 8).
+/// A frame that passed at its port, and the VLAN tag with which it leaves tagged ports: its VLAN, and its own priority.
 #[derive(Clone, Copy)]
 struct Passed<'a> {
     arrived: Arrived<'a>,
-    vid: Vid,
-    pcp: u8,
-    dei: bool,
+    tag: VlanTag,
 }
 
 /// A frame leaves at a port of the bridge.
@@ -104,34 +100,26 @@ fn send(
     site: &Site,
     passed: &Passed,
     send: &SendTo,
-    buffers: &mut Buffers,
     core: &mut Core,
     post: &mut Post,
 ) -> Result<(), NoMemory>
     requires at { IsAt site.now core.old }
     requires passed { HasPassed passed.now }
     requires send { CanSend send.now }
-    ensures { OnOk result (Does (sends_in site.now.tree (arrival_of passed.now.arrived) passed.now.vid send.now (world_in core.old)) site.now core.new post.old.log post.new.log) }
+    ensures { OnOk result (Does (sends_in site.now.tree (arrival_of passed.now.arrived) passed.now.tag.vid send.now (world_in core.old)) site.now core.new post.old.log post.new.log) }
 {
     let frame = passed.arrived.bytes;
-    egress_into(
-        frame,
-        send.kind,
-        passed.pcp,
-        passed.dei,
-        passed.vid,
-        &mut buffers.frame,
-    );
+    let mut buffer = post.store.buffer(post.alloc);
     match &send.tag {
         None => {
             let moment = passed.arrived.moment;
-            let bytes = post.store.copy(post.alloc, buffers.frame.as_slice())?;
+            egress_into(frame, send.kind, &passed.tag, &mut buffer)?;
+            let bytes = Bytes::from_vec(buffer);
             leave(send.bridge_port, moment, bytes, post)
         }
         Some(tag) => {
             let stamp = passed.arrived.stamp();
-            let mut buffer = post.store.buffer(post.alloc);
-            put_tagged(buffers.frame.as_slice(), tag, &mut buffer)?;
+            tagged_egress_into(frame, send.kind, &passed.tag, tag, &mut buffer)?;
             let bytes = Bytes::from_vec(buffer);
             put_word(site, send.bridge_port, bytes, stamp, core, post)
         }
@@ -143,17 +131,16 @@ fn send_all(
     site: &Site,
     passed: &Passed,
     sends: &[SendTo],
-    buffers: &mut Buffers,
     core: &mut Core,
     post: &mut Post,
 ) -> Result<(), NoMemory>
     requires at { IsAt site.now core.old }
     requires passed { HasPassed passed.now }
     requires sends { All CanSend sends.now }
-    ensures { OnOk result (Does (each (sends_in site.now.tree (arrival_of passed.now.arrived) passed.now.vid) sends.now (world_in core.old)) site.now core.new post.old.log post.new.log) }
+    ensures { OnOk result (Does (each (sends_in site.now.tree (arrival_of passed.now.arrived) passed.now.tag.vid) sends.now (world_in core.old)) site.now core.new post.old.log post.new.log) }
 {
     for one in sends {
-        send(site, passed, one, buffers, core, post)?;
+        send(site, passed, one, core, post)?;
     }
     Ok(())
 }
@@ -216,6 +203,7 @@ fn learn(
     let _ = site;
     let frame = arrived.bytes;
     are_bytes(frame);
+    post.store.lend(&mut outbox.spare);
     match core
         .control
         .frame(arrived.port, arrived.index, arrived.moment, frame, outbox)
@@ -248,19 +236,14 @@ pub(crate) fn come(
                     moment: arrived.moment,
                     bytes: arrived.bytes,
                 },
-                vid: *vid,
-                pcp: *pcp,
-                dei: *dei,
+                tag: VlanTag {
+                    pcp: *pcp,
+                    dei: *dei,
+                    vid: *vid,
+                },
             };
             let sends = room.outbox.sends.as_slice();
-            send_all(
-                site,
-                &passed,
-                sends,
-                &mut room.buffers,
-                core,
-                &mut room.post,
-            )
+            send_all(site, &passed, sends, core, &mut room.post)
         }
     }
 }
@@ -319,18 +302,19 @@ fn take_control(
         return Ok(());
     };
     let mut inner = room.post.store.buffer(room.post.alloc);
-    put_stripped(frame, &mut inner)?;
+    strip_into(frame, &mut inner)?;
     hear(site, number, inner.as_slice(), room, core)?;
     room.post.store.keep(Bytes::from_vec(inner));
     Ok(())
 }
 
-/// A data word comes to a cascade port of the bridge: its frame comes from the port whose channel it has.
+/// A data word comes to a cascade port of the bridge: its frame comes from the port whose channel it has. The E-TAG is taken
+/// out where it stands.
 #[inline(always)]
 fn take_data(
     site: &Site,
     bridge_port: u8,
-    word: &Word,
+    word: Word,
     room: &mut Room,
     core: &mut Core,
 ) -> Result<(), NoMemory>
@@ -338,10 +322,9 @@ fn take_data(
     requires from1 { 1 ≤ bridge_port }
     requires to64 { bridge_port ≤ 64 }
     requires cascade { is_cascade site.now.tree (bridge_port - 1) ≡ true }
-    ensures { OnOk result (Does (comes_from site.now.tree (holder_by (world_in core.old) (bridge_port - 1) (read_etag word.now.bytes)) word.now.stamp (stripped word.now.bytes) (world_in core.old)) site.now core.new room.old.post.log room.new.post.log) }
+    ensures { OnOk result (Does (comes_from site.now.tree (holder_by (world_in core.old) (bridge_port - 1) (read_etag word.bytes)) word.stamp (stripped word.bytes) (world_in core.old)) site.now core.new room.old.post.log room.new.post.log) }
 {
-    let frame = word.bytes.as_slice();
-    let Some(port) = holder(site, core, bridge_port, frame) else {
+    let Some(port) = holder(site, core, bridge_port, word.bytes.as_slice()) else {
         return Ok(());
     };
     let Some(stamp) = word.stamp else {
@@ -350,16 +333,17 @@ fn take_data(
     if !site.tree().is_external(port) {
         return Ok(());
     }
-    let mut inner = room.post.store.buffer(room.post.alloc);
-    put_stripped(frame, &mut inner)?;
+    let mut buffer = word.bytes.into_vec();
+    strip_in_place(&mut buffer);
+    let (_, frame) = buffer.as_slice().split_at(8);
     let arrived = Arrived {
         port,
         index: stamp.index,
         moment: stamp.moment,
-        bytes: inner.as_slice(),
+        bytes: frame,
     };
     come(site, &arrived, room, core)?;
-    room.post.store.keep(Bytes::from_vec(inner));
+    room.post.store.keep(Bytes::from_vec(buffer));
     Ok(())
 }
 
@@ -369,7 +353,7 @@ pub(crate) fn take(
     site: &Site,
     bridge_port: u8,
     below: u8,
-    word: &Word,
+    word: Word,
     room: &mut Room,
     core: &mut Core,
 ) -> Result<(), NoMemory>
@@ -378,12 +362,14 @@ pub(crate) fn take(
     requires to64 { bridge_port ≤ 64 }
     requires hangs { HangsOn site.now.tree below (bridge_port - 1) }
     requires asks { AsksWell site.now.tree (limits_in site.now) (world_in core.old).control }
-    ensures { OnOk result (Does (bridge_takes site.now.tree (limits_in site.now) (bridge_port - 1) below word.now (world_in core.old)) site.now core.new room.old.post.log room.new.post.log) }
+    ensures { OnOk result (Does (bridge_takes site.now.tree (limits_in site.now) (bridge_port - 1) below word (world_in core.old)) site.now core.new room.old.post.log room.new.post.log) }
 {
     site.tree().is_tree();
     if word.is_control() {
         let frame = word.bytes.as_slice();
-        take_control(site, bridge_port, below, frame, room, core)
+        take_control(site, bridge_port, below, frame, room, core)?;
+        room.post.store.keep(word.bytes);
+        Ok(())
     } else {
         take_data(site, bridge_port, word, room, core)
     }

@@ -16,7 +16,7 @@ use crate::orders::{all_extenders, deepest_first, downward_places, upward_places
 use crate::store::Store;
 use exb_control::{Control, Outbox};
 use exb_extender::Sends;
-use exb_model::buffers::{ControlBuf, FrameBuf};
+use exb_model::buffers::ControlBuf;
 use exb_model::memory::NoMemory;
 use exb_model::port::{DEVICES, PortId};
 use exb_model::setup::{Place, Setup};
@@ -205,8 +205,6 @@ pub(crate) struct Buffers {
     pub(crate) message: ControlBuf,
     /// A control frame.
     pub(crate) control: ControlBuf,
-    /// A frame as it leaves the bridge.
-    pub(crate) frame: FrameBuf,
 }
 
 /// What is lent to every step: where calls write what they give, which each call replaces, and what has happened.
@@ -234,7 +232,6 @@ impl Room {
             buffers: Buffers {
                 message: ControlBuf::new(),
                 control: ControlBuf::new(),
-                frame: FrameBuf::new(),
             },
             post: Post {
                 alloc,

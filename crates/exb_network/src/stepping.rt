@@ -45,9 +45,7 @@ fn take_up(
     let port = site.on(number);
     if port.device() == 0 {
         let bridge_port = port.place() + 1;
-        relaying::take(site, bridge_port, number, &word, room, core)?;
-        room.post.store.keep(word.bytes);
-        Ok(())
+        relaying::take(site, bridge_port, number, word, room, core)
     } else {
         take_from_below(site, port, word, room, core)
     }

@@ -32,7 +32,7 @@ parts f s false false false true false hs hl hr hc e c = record { long = ltb-fal
 
 has_tag : (f : List ℕ) (s : Seen) → kind_of f ≡ s → Carries s → HasTag f s
 unfolding kind_of
-has_tag f s e c = parts f s (nat_lt (length f) 14) (nat_lt 9216 (length f)) (is_reserved f) (number_at f 12 == 33024) (nat_lt (length f) 18) refl refl refl refl e c
+has_tag f s e c = parts f s (nat_lt (length f) 14) (nat_lt 9216 (length f)) (is_reserved f) (number_at f 12 == 0x8100) (nat_lt (length f) 18) refl refl refl refl e c
 
 -- ---- twelve bytes, with one tail or another
 record AreAlike (xs ys zs : List ℕ) : Type 0 where
@@ -41,8 +41,8 @@ record AreAlike (xs ys zs : List ℕ) : Type 0 where
   source : source (xs ++ ys) ≡ source (xs ++ zs)
 
 record BeginsWithTag (xs ys : List ℕ) (n : ℕ) : Type 0 where
-  typed : number_at (xs ++ two_bytes 33024 ++ two_bytes n ++ ys) 12 ≡ 33024
-  tagged : number_at (xs ++ two_bytes 33024 ++ two_bytes n ++ ys) 14 ≡ n / 256 * 256 + n % 256
+  typed : number_at (xs ++ two_bytes 0x8100 ++ two_bytes n ++ ys) 12 ≡ 0x8100
+  tagged : number_at (xs ++ two_bytes 0x8100 ++ two_bytes n ++ ys) 14 ≡ n / 256 * 256 + n % 256
 
 record AreAddresses (xs : List ℕ) : Type 0 where
   alike : (ys zs : List ℕ) → AreAlike xs ys zs
@@ -80,7 +80,7 @@ tag_back pcp v false some few =
     let eligible : ((2 * pcp + 0) * 4096 + v) / 4096 % 2 ≡ 0 = omega arith in
     rw (vid, priority, eligible, ne_eqb v 4095 (λ e. omega arith), ne_eqb v 0 (λ e. omega arith)) refl
 
-kind_by : (g : List ℕ) (n : ℕ) → 18 ≤ length g → length g ≤ 9216 → is_reserved g ≡ false → number_at g 12 ≡ 33024 → number_at g 14 ≡ n → kind_of g ≡ kind_of_tag n
+kind_by : (g : List ℕ) (n : ℕ) → 18 ≤ length g → length g ≤ 9216 → is_reserved g ≡ false → number_at g 12 ≡ 0x8100 → number_at g 14 ≡ n → kind_of g ≡ kind_of_tag n
 unfolding kind_of
 kind_by g n long few free typed tagged =
     let short : nat_lt (length g) 14 ≡ false = le-ltb (length g) 14 (omega arith) in
@@ -90,11 +90,11 @@ kind_by g n long few free typed tagged =
 
 -- the frame with another tag
 abbrev retagged : List ℕ → ℕ → List ℕ
-retagged f n = take 12 f ++ two_bytes 33024 ++ two_bytes n ++ drop 16 f
+retagged f n = take 12 f ++ two_bytes 0x8100 ++ two_bytes n ++ drop 16 f
 
-egress_is : (f : List ℕ) (v : ℕ) (s : Seen) → kind_of f ≡ s → egress f kind.Tagged v ≡ take 12 f ++ two_bytes 33024 ++ two_bytes (priority_of s * 4096 + v) ++ body_after f s
+egress_is : (f : List ℕ) (v : ℕ) (s : Seen) → kind_of f ≡ s → egress f kind.Tagged v ≡ take 12 f ++ two_bytes 0x8100 ++ two_bytes (priority_of s * 4096 + v) ++ body_after f s
 unfolding egress
-egress_is f v s e = ap (λ (k : Seen). take 12 f ++ two_bytes 33024 ++ two_bytes (priority_of k * 4096 + v) ++ body_after f k) e
+egress_is f v s e = ap (λ (k : Seen). take 12 f ++ two_bytes 0x8100 ++ two_bytes (priority_of k * 4096 + v) ++ body_after f k) e
 
 retagged_keeps : (f : List ℕ) (v pcp : ℕ) (dei : Bool) (s : Seen) → 0 < v → v < 4095 → HasTag f s → egress f kind.Tagged v ≡ retagged f ((2 * pcp + (if dei then 1 else 0)) * 4096 + v) → KeepsTag f v pcp dei
 retagged_keeps f v pcp dei s some few has is =
@@ -103,11 +103,11 @@ retagged_keeps f v pcp dei s some few has is =
     let most : length f ≤ 9216 = has.few in
     let first : length (take 12 f) ≡ 12 = length-take-le 12 f (omega arith) in
     let addresses : AreAddresses (take 12 f) = twelve (take 12 f) first in
-    let tail : List ℕ = two_bytes 33024 ++ two_bytes n ++ drop 16 f in
+    let tail : List ℕ = two_bytes 0x8100 ++ two_bytes n ++ drop 16 f in
     let same : AreAlike (take 12 f) tail (drop 12 f) = addresses.alike tail (drop 12 f) in
     let tag : BeginsWithTag (take 12 f) (drop 16 f) n = addresses.tag (drop 16 f) n in
     let whole : take 12 f ++ drop 12 f ≡ f = take-append-drop 12 f in
-    let assoc : retagged f n ≡ take 12 f ++ tail = ap (λ (xs : List ℕ). xs ++ drop 16 f) (append_assoc (take 12 f) (two_bytes 33024) (two_bytes n)) ∙ append_assoc (take 12 f) (two_bytes 33024 ++ two_bytes n) (drop 16 f) in
+    let assoc : retagged f n ≡ take 12 f ++ tail = ap (λ (xs : List ℕ). xs ++ drop 16 f) (append_assoc (take 12 f) (two_bytes 0x8100) (two_bytes n)) ∙ append_assoc (take 12 f) (two_bytes 0x8100 ++ two_bytes n) (drop 16 f) in
     let size : length (retagged f n) ≡ length f = omega (arith, ap length assoc, first, length-append (take 12 f) tail, length-drop 16 f) in
     let back : n / 256 * 256 + n % 256 ≡ n = omega arith in
     let free : is_reserved (retagged f n) ≡ false = ap is_reserved assoc ∙ same.reserved ∙ ap is_reserved whole ∙ has.free in

@@ -1,5 +1,5 @@
 -- The kinds of files and their places.
-use Rattle.std.proofs.Common.{◌≡◌, ◌≢◌, ◌<◌, ◌≤◌, ◌+◌, ◌-◌, inl, inr, ℕ, Bool, true, false, Option, Some, None, if◌then◌else◌, List, length, get_or, refl, ap, sym, subst, ◌∙◌, arith, eq-eqb}
+use Rattle.std.proofs.Common.{◌≡◌, ◌≢◌, ◌<◌, ◌≤◌, ◌+◌, ◌-◌, inl, inr, ℕ, true, Option, Some, None, List, get_or, refl, ap, sym, subst, ◌∙◌, arith}
 use Rattle.std.proofs.lemmas.Bool.{cases_lt, lt-ltb, le-ltb}
 use Rattle.exb_model.specs.Tree.{Shape, IsTree, is_external}
 use Rattle.exb_shelf.proofs.FileLemmas.{Apart}

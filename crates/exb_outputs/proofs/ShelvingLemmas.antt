@@ -1,12 +1,10 @@
 -- What has changed by calls that write, one after the other.
-use Rattle.std.proofs.Common.{ℕ, refl, ◌∙◌, ◌≡◌, ◌⊎◌, inl, inr, true, List, [], ◌∷◌, Ok, Err, filter, map, sym, subst}
+use Rattle.std.proofs.Common.{ℕ, refl, ◌∙◌, ◌≡◌, inl, inr, sym}
 use Rattle.exb_shelf.specs.Files.{Files}
 use Rattle.exb_shelf.specs.Shelf.{Id}
 use Rattle.exb_shelf.proofs.IdLemmas.{opens_same, opens_then}
 use Rattle.exb_outputs.specs.Plans.{Planned}
 use Rattle.exb_outputs.specs.Shelving.{OnlyWrites, OnlyMakes, WritesPlanned, IsOfWriting}
-use Rattle.std.specs.List.{AllByRecursion}
-use Rattle.std.specs.Prelude.{IfErr}
 use Rattle.exb_inputs.specs.declared.fault.Fault.{Fault}
 use Rattle.exb_inputs.specs.declared.fault.Fault.TheVariants.{Changed, Memory, Write}
 

@@ -1,5 +1,5 @@
 -- What is counted of captures while they are written: records and bytes.
-use Rattle.std.specs.Prelude.{◌≡◌, ◌≢◌, ◌≤◌, ◌<◌, ◌+◌, ◌-◌, ◌*◌, ◌^◌, ◌==◌, ◌++◌, true, ℕ, List, [], ◌∷◌, length, map, if◌then◌else◌, slice_index}
+use Rattle.std.specs.Prelude.{◌≡◌, ◌≢◌, ◌≤◌, ◌<◌, ◌+◌, ◌*◌, ◌^◌, ◌==◌, ◌++◌, true, ℕ, List, [], ◌∷◌, length, map, if◌then◌else◌, slice_index}
 use Rattle.exb_model.specs.FlatBridge.{Sent}
 use Rattle.exb_model.specs.Tree.{is_external}
 use Rattle.exb_counters.specs.Counters.{octets_of}

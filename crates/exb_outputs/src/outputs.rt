@@ -9,6 +9,7 @@ ghost use Rattle.exb_inputs.specs.Shelving.{CountsFaults};
 ghost use Rattle.exb_outputs.specs.Shelving.{IsOfWriting, OnlyMakes, OnlyWrites, WritesPlanned};
 ghost use Rattle.exb_model.specs.FlatBridge.{Sent};
 ghost use Rattle.exb_model.specs.Texts.{record_text as record_of};
+ghost use Rattle.exb_model.specs.Tree.{is_external};
 ghost use Rattle.exb_text.specs.declared.output.Output.{Output};
 ghost use Rattle.exb_text.specs.declared.output.Output.TheVariants as output;
 ghost use Rattle.exb_outputs.specs.Sent.{GrowsAt, HasSent, SameCaptures, frames_at, records_of, sent_more, size_at, sizes_of};
@@ -130,6 +131,8 @@ pub fn create_all<S: Shelf>(alloc: Global, shelf: &mut S, plan: &Plan) -> Result
 }
 
 /// Writes what is not written yet of one output.
+#[cold]
+#[inline(never)]
 fn flush<S: Shelf>(shelf: &mut S, file: &mut Unfinished) -> Result<(), Fault>
     requires { IsWriting (S.ids shelf.old file.old.id) }
     ensures written { S.tells → OnOk result (Adds (S.file shelf.old) (S.file shelf.new) (S.ids shelf.old file.old.id).name file.old.piece.items) }
@@ -150,10 +153,37 @@ fn flush<S: Shelf>(shelf: &mut S, file: &mut Unfinished) -> Result<(), Fault>
 }
 
 /// Puts bytes behind a piece, and writes the piece where it is full.
-fn add<S: Shelf>(
+#[inline(always)]
+fn add<S: Shelf>(shelf: &mut S, file: &mut Unfinished, bytes: &[u8]) -> Result<(), Fault>
+    requires { IsWriting (S.ids shelf.old file.old.id) }
+    ensures kept_or_written { S.tells → OnOk result (
+        (SameFiles (S.file shelf.old) (S.file shelf.new) × (file.new.piece.items ≡ file.old.piece.items ++ bytes.now))
+        ⊎ (Adds (S.file shelf.old) (S.file shelf.new) (S.ids shelf.old file.old.id).name (file.old.piece.items ++ bytes.now) × (file.new.piece.items ≡ []))) }
+    ensures front { S.tells → OnErr result (AddsFront (S.file shelf.old) (S.file shelf.new) (S.ids shelf.old file.old.id).name (file.old.piece.items ++ bytes.now)) }
+    ensures id { file.new.id ≡ file.old.id }
+    ensures records { file.new.records ≡ file.old.records }
+    ensures counted { OnOk result (file.old.written + length file.old.piece.items + length bytes.now < 2 ^ 64
+        → file.new.written + length file.new.piece.items ≡ file.old.written + length file.old.piece.items + length bytes.now) }
+    ensures others { S.tells → (m : List ℕ) → m ≢ (S.ids shelf.old file.old.id).name → S.file shelf.new m ≡ S.file shelf.old m }
+    ensures kept { (j : ℕ) → S.ids shelf.new j ≡ S.ids shelf.old j }
+    ensures causes { IfErr result IsOfWriting }
+    ensures faults { CountsFaults result (S.faults shelf.old) (S.faults shelf.new) }
+{
+    if file.piece.extend_from_slice(bytes).is_err() {
+        return Err(Fault::Memory);
+    }
+    if file.piece.len() < PIECE {
+        return Ok(());
+    }
+    flush(shelf, file)
+}
+
+/// Puts a record behind a piece, by its head and its bytes, and writes the piece where it is full.
+#[inline(always)]
+fn add_record<S: Shelf>(
     shelf: &mut S,
     file: &mut Unfinished,
-    head: &[u8],
+    head: &[u8; 16],
     bytes: &[u8],
 ) -> Result<(), Fault>
     requires { IsWriting (S.ids shelf.old file.old.id) }
@@ -170,17 +200,15 @@ fn add<S: Shelf>(
     ensures causes { IfErr result IsOfWriting }
     ensures faults { CountsFaults result (S.faults shelf.old) (S.faults shelf.new) }
 {
-    if file.piece.extend_from_slice(head).is_err() || file.piece.extend_from_slice(bytes).is_err() {
+    if file.piece.extend_from_slice(head).is_err() {
         return Err(Fault::Memory);
     }
-    if file.piece.len() < PIECE {
-        return Ok(());
-    }
-    flush(shelf, file)
+    add(shelf, file, bytes)
 }
 
 impl Outputs {
     /// Puts a frame that left a port behind the port's capture, with the moment of its record in nanoseconds.
+    #[inline(always)]
     pub fn write_frame<S: Shelf>(
         &mut self,
         shelf: &mut S,
@@ -201,12 +229,38 @@ impl Outputs {
         ensures causes { IfErr result IsOfWriting }
         ensures faults { CountsFaults result (S.faults shelf.old) (S.faults shelf.new) }
     {
+        let head = record_text(moment, bytes.len() as u32);
+        self.write_record(shelf, plan, port, &head, bytes)
+    }
+
+    /// Puts a record behind the capture of a port: what stands before the bytes of its frame, and these.
+    #[inline(always)]
+    pub fn write_record<S: Shelf>(
+        &mut self,
+        shelf: &mut S,
+        plan: &Plan,
+        port: PortId,
+        head: &[u8; 16],
+        bytes: &[u8],
+    ) -> Result<(), Fault>
+        requires ready { IsReady plan.now (S.ids shelf.old) self.old }
+        requires external { is_external plan.now.tree port ≡ true }
+        requires low { port < 4160 }
+        ensures ready { IsReady plan.now (S.ids shelf.new) self.new }
+        ensures texts { S.tells → OnOk result ((orig : Files) (text : Output → List ℕ) → HasTexts plan.now (pieces_of self.old) orig (S.file shelf.old) text
+            → HasTexts plan.now (pieces_of self.new) orig (S.file shelf.new) (with_more text (output.Capture port) (head.now ++ bytes.now))) }
+        ensures cut { S.tells → OnErr result ((orig : Files) (text : Output → List ℕ) → HasTexts plan.now (pieces_of self.old) orig (S.file shelf.old) text
+            → AreCut plan.now orig (S.file shelf.new) (with_more text (output.Capture port) (head.now ++ bytes.now))) }
+        ensures sent { OnOk result ((moment : ℕ) (sent : ℕ → List Sent) → HasSent plan.now self.old sent → HasSent plan.now self.new (sent_more sent port (moment, bytes.now))) }
+        ensures only { OnlyWrites S.tells plan.now (S.file shelf.old) (S.file shelf.new) (S.ids shelf.old) (S.ids shelf.new) }
+        ensures causes { IfErr result IsOfWriting }
+        ensures faults { CountsFaults result (S.faults shelf.old) (S.faults shelf.new) }
+    {
         output_names_differ();
         let at = plan.place(port) as usize;
-        let head = record_text(moment, bytes.len() as u32);
         let file = &mut self.files[at];
         file.records = file.records.wrapping_add(1);
-        add(shelf, file, &head, bytes)
+        add_record(shelf, file, head, bytes)
     }
 
     /// Writes all that is not written yet.
@@ -228,6 +282,7 @@ impl Outputs {
     }
 
     /// Puts bytes behind the file of a kind that is asked for and is no capture.
+    #[inline(always)]
     pub fn write<S: Shelf>(
         &mut self,
         shelf: &mut S,
@@ -275,6 +330,7 @@ impl Outputs {
     }
 
     /// Puts bytes behind output `at`.
+    #[inline(always)]
     fn add_to<S: Shelf>(
         &mut self,
         shelf: &mut S,
@@ -296,6 +352,6 @@ impl Outputs {
     {
         output_names_differ();
         let at = at as usize;
-        add(shelf, &mut self.files[at], &[], bytes)
+        add(shelf, &mut self.files[at], bytes)
     }
 }

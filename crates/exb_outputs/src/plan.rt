@@ -143,6 +143,7 @@ impl Plan {
     }
 
     /// The place of the file of a kind that is no capture.
+    #[inline(always)]
     pub(crate) fn place_behind(&self, kind: Output) -> u16
         ensures value { result ≡ port_count self.now + place_behind self.now.options kind }
         ensures range { result ≤ 4416 }
@@ -159,6 +160,7 @@ impl Plan {
     }
 
     /// The place of a port's capture.
+    #[inline(always)]
     pub(crate) fn place(&self, port: PortId) -> u16
         ensures { result ≡ place_in self.now.tree port }
     {

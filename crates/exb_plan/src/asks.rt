@@ -61,7 +61,7 @@ fn message(step: Step, rows: &[GroupRow]) -> Request
 }
 
 // How many rows go into the next message.
-fn next(rows: &[GroupRow]) -> usize
+fn rows_in_message(rows: &[GroupRow]) -> usize
     ensures { result ≡ min (length rows.now) 64 }
 {
     if rows.len() < MOST { rows.len() } else { MOST }
@@ -78,7 +78,7 @@ pub(crate) fn put_messages(
 {
     let mut left = rows;
     while !left.is_empty() {
-        let (piece, rest) = left.split_at(next(left));
+        let (piece, rest) = left.split_at(rows_in_message(left));
         asks.push(AskAt {
             extender,
             request: message(step, piece),

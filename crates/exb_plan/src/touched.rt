@@ -273,7 +273,7 @@ fn add_before<V: View>(
 {
     match *command {
         Command::Static { vid, address, .. } => match config.entry(vid, address) {
-            Some(ports) => add_entry(parts, branches, view, vid, &ports),
+            Some(ports) => add_entry(parts, branches, view, vid, ports),
             None => Ok(()),
         },
         _ => add_all(parts, branches, view, config, command),

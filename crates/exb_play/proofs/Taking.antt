@@ -1,24 +1,24 @@
 -- What is taken from a programme, one after another.
-use Rattle.std.proofs.Common.{◌≡◌, ◌≢◌, ◌⊎◌, inl, inr, ℕ, true, false, zero, suc, ◌+◌, ◌-◌, ◌*◌, ◌^◌, ◌<◌, ◌≤◌, ◌==◌, Bool, List, [], ◌∷◌, ◌++◌, length, map, drop, take, filter, refl, ap, sym, subst, ◌∙◌, arith, eq-eqb, append_assoc, length-append}
-use Rattle.std.specs.Prelude.{Option, Some, None, IfSome, if◌then◌else◌, filter_map, slice_get}
+use Rattle.std.proofs.Common.{◌≡◌, inl, inr, ℕ, true, false, zero, suc, ◌+◌, ◌-◌, ◌*◌, ◌^◌, ◌<◌, ◌≤◌, ◌==◌, Bool, List, [], ◌∷◌, ◌++◌, length, map, drop, take, filter, refl, ap, sym, subst, ◌∙◌, arith, eq-eqb, append_assoc, length-append}
+use Rattle.std.specs.Prelude.{Some, if◌then◌else◌, filter_map, slice_get}
 use Rattle.std.specs.List.{AllByRecursion}
-use Rattle.std.proofs.lemmas.Bool.{cases_eq, eqb-true, ne_eqb}
+use Rattle.std.proofs.lemmas.Bool.{cases_eq, ne_eqb}
 use Rattle.std.proofs.lemmas.List.{append-nil}
 use Rattle.std.proofs.lemmas.List.Elements.{filter-append}
 use Rattle.exb_model.specs.declared.setup.Timed.{Timed}
 use Rattle.exb_model.specs.declared.command.Command.{Command}
 use Rattle.exb_model.specs.History.{command_of}
-use Rattle.exb_model.specs.Input.{Input, Given, Arrival, Coming, Ordered, Captured, Mode, Eager, Seeded, alone, arrival_in, basis_of, given_by, groups_in, moment_of, number_in, second_of, tree_of}
+use Rattle.exb_model.specs.Input.{Input, Arrival, Coming, Ordered, Captured, Mode, Eager, Seeded, alone, arrival_in, basis_of, given_by, groups_in, moment_of, number_in, second_of, tree_of}
 use Rattle.exb_model.specs.Tree.{is_external}
-use Rattle.exb_merge.specs.Agendas.{begins_in, commands_left, first_moment}
+use Rattle.exb_merge.specs.Agendas.{begins_in}
 use Rattle.exb_merge.specs.Arrivals.{arrival_with}
 use Rattle.exb_merge.specs.declared.programme.Next.{Next}
 use Rattle.exb_merge.specs.declared.programme.Next.TheVariants as next
 use Rattle.exb_merge.specs.declared.programme.Programme.{Programme}
-use Rattle.exb_merge.specs.declared.replays.Again.{Again}
 use Rattle.exb_merge.specs.declared.replays.Came.{Came}
-use Rattle.exb_merge.specs.Programmes.{IsComing, IsFrom, left_of, played_with, what}
-use Rattle.exb_merge.specs.Replays.{HasCome, HasPort, Standing, gone_on, ids_in, left_in, number_of, standings}
+use Rattle.exb_merge.specs.Programmes.{IsComing, IsFrom, left_of, what}
+use Rattle.exb_merge.specs.Replays.{HasCome, HasPort, gone_on, ids_in, left_in, number_of, standings}
+use Rattle.exb_merge.proofs.Onward.{command_is, from_earlier, has_before, number_other, number_own, second_high, second_low}
 use Rattle.exb_play.specs.UnderWay.{ComeAll, second_by}
 use Rattle.exb_play.proofs.Segmenting.{together}
 
@@ -81,59 +81,24 @@ pub comes-fewer : (a b : Programme) (d : Next) (ds : List Next) → ComeAll a (d
 comes-fewer a b d ds (n, one, rest) = let own = one.left in let later = comes-most n b ds rest in omega (arith, own, later)
 
 -- ---- moments
-none-earlier : (m k : ℕ) (xs : List Again) → m ≤ k → AllByRecursion (λ (s : Again). IfSome s.next (λ j. k ≤ j)) xs → AllByRecursion (λ (s : Again). IfSome s.next (λ j. m ≤ j)) xs
-none-earlier m k [] low all = tt
-none-earlier m k (x ∷ xs) low all = (by_next x.next all.0, none-earlier m k xs low all.1)
-  where
-    by_next : (o : Option ℕ) → IfSome o (λ j. k ≤ j) → IfSome o (λ j. m ≤ j)
-    by_next None is = tt
-    by_next (Some j) is = omega (arith, low, is)
-
--- from an earlier moment on
-from-earlier : (m k : ℕ) (p : Programme) → m ≤ k → IsFrom k p → IsFrom m p
-from-earlier m k p low from = record {
-  commands = by_first (first_moment (commands_left (played_with [] p))) from.commands;
-  captures = none-earlier m k p.captures.sources.items low from.captures;
-}
-  where
-    by_first : (o : Option ℕ) → IfSome o (λ j. k ≤ j) → IfSome o (λ j. m ≤ j)
-    by_first None is = tt
-    by_first (Some j) is = omega (arith, low, is)
-
-second-low : (m s : ℕ) → second_of m ≡ s → s * 1_000_000_000 ≤ m
-second-low m s is = omega (arith, is)
-
-second-high : (m l : ℕ) → l * 1_000_000_000 ≤ m → l ≤ second_of m
-second-high m l low = omega (arith, low)
-
 -- nothing that is left comes before the second of what was taken
 pub comes-from : (a b : Programme) (d : Next) (ds : List Next) (second : ℕ) → ComeAll a (d ∷ ds) b → second_by d ≡ second → AllByRecursion (λ x. second_by x ≡ second) ds →
     IsFrom (second * 1_000_000_000) b
 comes-from a b d [] second (n, one, is) own all =
-    from-earlier (second * 1_000_000_000) (moment_of (what d)) b (second-low (moment_of (what d)) second own)
+    from_earlier (second * 1_000_000_000) (moment_of (what d)) b (second_low (moment_of (what d)) second own)
     (subst (IsFrom (moment_of (what d))) is one.rises)
 comes-from a b d (e ∷ ds) second (n, one, rest) own all = comes-from n b e ds second rest all.0 all.1
 
 -- what comes is of no earlier second than this
 pub comes-later : (a n : Programme) (d : Next) (last : ℕ) → IsComing a d n → IsFrom (last * 1_000_000_000) a → last ≤ second_by d
-comes-later a n d last one from = second-high (moment_of (what d)) last (one.fell (last * 1_000_000_000) from)
+comes-later a n d last one from = second_high (moment_of (what d)) last (one.fell (last * 1_000_000_000) from)
 
 -- ---- the commands of what was taken
-got-map : {X Y : Type 0} (f : X → Y) (xs : List X) (k : ℕ) (x : X) → slice_get xs k ≡ Some x → slice_get (map f xs) k ≡ Some (f x)
-got-map f [] k x is = absurd (cc)
-got-map f (y ∷ xs) zero x is = ap Some (ap f (own is))
-  where
-    own : Some y ≡ Some x → y ≡ x
-    own e = cc
-got-map f (y ∷ xs) (suc k) x is = got-map f xs k x is
-
-command-is : (i : Input) (a : Programme) (number : ℕ) (c : Timed) → i.commands ≡ map given_by a.commands.now → number ≡ a.taken + 1 → slice_get a.commands.now a.taken ≡ Some c →
+numbered-command : (i : Input) (a : Programme) (number : ℕ) (c : Timed) → i.commands ≡ map given_by a.commands.now → number ≡ a.taken + 1 → slice_get a.commands.now a.taken ≡ Some c →
     command_of (basis_of i) number ≡ Some c.command
-command-is i a number c given next is =
+numbered-command i a number c given next is =
     let own : number ≡ suc a.taken = omega (arith, next) in
-    ap (command_of (basis_of i)) own
-    ∙ ap (λ (gs : List Given). slice_get (map (λ (g : Given). g.command) gs) a.taken) given
-    ∙ got-map (λ (g : Given). g.command) (map given_by a.commands.now) a.taken (given_by c) (got-map given_by a.commands.now a.taken c is)
+    ap (command_of (basis_of i)) own ∙ command_is i a.commands.now a.taken c given is
 
 -- they stand in a row, and are those of their numbers
 pub record HasCommands (i : Input) (a b : Programme) (ds : List Next) : Type 0 where
@@ -163,7 +128,7 @@ has-commands i a b (next.Command number moment ∷ ds) given (n, one, rest) =
     let (numbered, within, more, still) = one.is in
     let (c, found) = got-within a.commands.now a.taken within in
     let next : n.taken ≡ suc a.taken = omega (arith, more) in
-    let own = command-is i a number c given numbered found in
+    let own = numbered-command i a number c given numbered found in
     record {
       given = c ∷ later.given;
       row =
@@ -192,45 +157,6 @@ arrivals-fit a b (next.Record c ∷ ds) (n, one, rest) = (record { moment = one.
 -- ---- the places of arrivals among those of their ports
 abbrev pub at_port : ℕ → List Arrival → List Arrival
 at_port p came = filter (λ a. a.port == p) came
-
-number-own : (p m : ℕ) (ss : List Standing) → HasPort p ss → number_of (gone_on p m ss) p ≡ suc (number_of ss p)
-number-own p m [] has = absurd has
-number-own p m (s ∷ ss) has = by_test (s.port == p) refl (number-own p m ss) has
-  where
-    after : Standing
-    after = record { port = s.port; index = suc s.index; least = m }
-
-    by_test : (b : Bool) → (s.port == p) ≡ b → (HasPort p ss → number_of (gone_on p m ss) p ≡ suc (number_of ss p)) → HasPort p (s ∷ ss) →
-        number_of (if s.port == p then after ∷ ss else s ∷ gone_on p m ss) p ≡ suc (if s.port == p then s.index else number_of ss p)
-    by_test true e rest h = rw e (rw e refl)
-    by_test false e rest (inl same) = absurd (let differ : true ≡ false = sym (eq-eqb s.port p same) ∙ e in cc)
-    by_test false e rest (inr later) = rw e (rw e (rest later))
-
-number-other : (p m q : ℕ) (ss : List Standing) → p ≢ q → number_of (gone_on p m ss) q ≡ number_of ss q
-number-other p m q [] differ = refl
-number-other p m q (s ∷ ss) differ = by_test (s.port == p) refl (number-other p m q ss differ)
-  where
-    after : Standing
-    after = record { port = s.port; index = suc s.index; least = m }
-
-    by_test : (b : Bool) → (s.port == p) ≡ b → number_of (gone_on p m ss) q ≡ number_of ss q → number_of (if b then after ∷ ss else s ∷ gone_on p m ss) q ≡ (if s.port == q then s.index else number_of ss q)
-    by_test true e rest =
-        let other : (s.port == q) ≡ false = ne_eqb s.port q (λ same. differ (sym (eqb-true s.port p e) ∙ same)) in
-        ap (λ (b : Bool). if b then suc s.index else number_of ss q) other ∙ sym (ap (λ (b : Bool). if b then s.index else number_of ss q) other)
-    by_test false e rest = ap (λ (n : ℕ). if s.port == q then s.index else n) rest
-
-pub has-before : (p m q : ℕ) (ss : List Standing) → HasPort q (gone_on p m ss) → HasPort q ss
-has-before p m q [] has = absurd has
-has-before p m q (s ∷ ss) has = by_test (s.port == p) (has-before p m q ss) has
-  where
-    after : Standing
-    after = record { port = s.port; index = suc s.index; least = m }
-
-    by_test : (b : Bool) → (HasPort q (gone_on p m ss) → HasPort q ss) → HasPort q (if b then after ∷ ss else s ∷ gone_on p m ss) → HasPort q (s ∷ ss)
-    by_test true rest (inl same) = inl same
-    by_test true rest (inr later) = inr later
-    by_test false rest (inl same) = inl same
-    by_test false rest (inr later) = inr (rest later)
 
 -- one arrival more
 pub at-more : (q : ℕ) (before : List Arrival) (a : Arrival) (own : Bool) → (a.port == q) ≡ own → length (at_port q (before ++ a ∷ [])) ≡ length (at_port q before) + (if own then 1 else 0)
@@ -270,19 +196,19 @@ counted-more before c a n counted come q = elim (cases_eq c.port q) [
   | inl same ↦
       let own : number_of (standings n.captures) q ≡ suc (number_of (standings a.captures) q) =
       ap (λ (ss : List Standing). number_of ss q) come.gone
-      ∙ subst (λ (r : ℕ). number_of (gone_on c.port c.moment (standings a.captures)) r ≡ suc (number_of (standings a.captures) r)) same (number-own c.port c.moment (standings a.captures) come.port) in
+      ∙ subst (λ (r : ℕ). number_of (gone_on c.port c.moment (standings a.captures)) r ≡ suc (number_of (standings a.captures) r)) same (number_own c.port c.moment (standings a.captures) come.port) in
       let more = at-more q before (arrival_with c) true (eq-eqb c.port q same) in
       let was = counted q in
       omega (arith, own, more, was)
   | inr other ↦
-      let own : number_of (standings n.captures) q ≡ number_of (standings a.captures) q = ap (λ (ss : List Standing). number_of ss q) come.gone ∙ number-other c.port c.moment q (standings a.captures) other in
+      let own : number_of (standings n.captures) q ≡ number_of (standings a.captures) q = ap (λ (ss : List Standing). number_of ss q) come.gone ∙ number_other c.port c.moment q (standings a.captures) other in
       let more = at-more q before (arrival_with c) false (ne_eqb c.port q other) in
       let was = counted q in
       omega (arith, own, more, was)
 ]
 
 external-more : (i : Input) (c : Came) (a n : Programme) → AreExternal i a → HasCome (standings a.captures) c (standings n.captures) → AreExternal i n
-external-more i c a n external come q has = external q (has-before c.port c.moment q (standings a.captures) (subst (HasPort q) come.gone has))
+external-more i c a n external come q has = external q (has_before c.port c.moment q (standings a.captures) (subst (HasPort q) come.gone has))
 
 pub goes-behind : (i : Input) (before : List Arrival) (a b : Programme) (ds : List Next) → ComeAll a ds b → AreCounted before a → AreExternal i a → GoesOnBehind i before (arrivals_by ds) b
 goes-behind i before a b [] is counted external = record {

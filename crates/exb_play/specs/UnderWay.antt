@@ -107,10 +107,9 @@ pub record IsOpened (tells : Type 0) (m : Mode) (r : Run) (plan : Planned) (now 
   pub leads : tells → LeadsOn m r.input [] None now ids p
 
 -- ---- one segment more
--- a programme that can go on, and room for what is read at once
+-- a programme that can go on
 pub record CanFeed (ids : ℕ → Id) (f : Feed) : Type 0 where
   pub programme : IsProgramme ids f.programme
-  pub piece : 0 < length f.piece.items
 
 -- the second of what comes
 abbrev pub second_by : Next → ℕ

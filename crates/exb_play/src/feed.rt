@@ -1,6 +1,6 @@
 //! What comes in one segment: one event, or all of one second.
-ghost use Rattle.std.specs.Prelude.{◌≡◌, ◌++◌, ◌∷◌, [], true, false, map, length, IfOk, OnOk, IfErr, IfSome, IfNone, ℕ};
-ghost use Rattle.exb_model.specs.Input.{Captured, Eager};
+ghost use Rattle.std.specs.Prelude.{◌≡◌, ◌++◌, ◌∷◌, [], true, false, map, IfOk, OnOk, IfErr, IfSome, IfNone, ℕ};
+ghost use Rattle.exb_model.specs.Input.{Eager};
 ghost use Rattle.exb_merge.specs.Arrivals.{arrival_with};
 ghost use Rattle.exb_merge.specs.declared.programme.Next.{Next as Coming};
 ghost use Rattle.exb_merge.specs.Replays.{ids_in, HasPort, standings};
@@ -17,16 +17,17 @@ use exb_model::memory::NoMemory;
 use exb_schedule::Arrival;
 use exb_shelf::Shelf;
 use std::alloc::Global;
+use std::mem;
 
 /// A second in nanoseconds.
 const NANOSECONDS: u64 = 1_000_000_000;
 
-/// What is still to come, room for what is read of it at once, and what came of it for one segment.
+/// What is still to come, what came of it for one segment, and what came for the one before, of which the buffers are used again.
 #[derive(Drop)]
 pub(crate) struct Feed<'a> {
     pub(crate) programme: Programme<'a>,
-    pub(crate) piece: Vec<u8>,
     pub(crate) gathered: Vec<Arrival>,
+    pub(crate) played: Vec<Arrival>,
 }
 
 /// A record that came, as an arrival.
@@ -49,6 +50,14 @@ fn put(gathered: &mut Vec<Arrival>, came: Came) -> Result<(), NoMemory>
     Ok(())
 }
 
+/// A buffer to be written anew: that of an arrival that was played, or else one without room.
+fn spare(alloc: Global, played: &mut Vec<Arrival>) -> Vec<u8> {
+    match played.pop() {
+        Some(arrival) => arrival.bytes.into_vec(),
+        None => Vec::new(alloc),
+    }
+}
+
 impl Feed<'_> {
     /// Takes what comes first, and answers its second; None exactly where nothing is left.
     fn take_first<S: Shelf>(&mut self, alloc: Global, shelf: &mut S) -> Result<Option<u64>, Fault>
@@ -62,10 +71,8 @@ impl Feed<'_> {
         ensures causes { IfErr result IsOfPlay }
         ensures faults { CountsFaults result (S.faults shelf.old) (S.faults shelf.new) }
     {
-        match self
-            .programme
-            .next(alloc, shelf, self.piece.as_mut_slice())?
-        {
+        let buffer = spare(alloc, &mut self.played);
+        match self.programme.next(shelf, buffer)? {
             Some(Next::Record(came)) => {
                 let second = came.moment / NANOSECONDS;
                 put(&mut self.gathered, came)?;
@@ -94,8 +101,8 @@ impl Feed<'_> {
         ensures causes { IfErr result IsOfPlay }
         ensures faults { CountsFaults result (S.faults shelf.old) (S.faults shelf.new) }
     {
-        let piece = self.piece.as_mut_slice();
-        match self.programme.next_within(alloc, shelf, piece, second)? {
+        let buffer = spare(alloc, &mut self.played);
+        match self.programme.next_within(shelf, buffer, second)? {
             Some(Next::Record(came)) => {
                 put(&mut self.gathered, came)?;
                 Ok(true)
@@ -144,6 +151,7 @@ impl Feed<'_> {
         ensures causes { IfErr result IsOfPlay }
         ensures faults { CountsFaults result (S.faults shelf.old) (S.faults shelf.new) }
     {
+        mem::swap(&mut self.gathered, &mut self.played);
         self.gathered.clear();
         let Some(second) = self.take_first(alloc, shelf)? else {
             return Ok(None);

@@ -27,7 +27,7 @@ use exb_inputs::{Checked, Fault, open_all, start_of};
 use exb_merge::Programme;
 use exb_merge::laws::{merge_of_all, start_is_least};
 use exb_outputs::{Outputs, Plan, create_all};
-use exb_shelf::{PIECE, Shelf, room};
+use exb_shelf::Shelf;
 use exb_tables::Named;
 use std::alloc::Global;
 
@@ -67,16 +67,13 @@ fn play_into<S: Shelf>(
 {
     merge_of_all();
     start_is_least();
-    let Ok(mut piece) = room(alloc, PIECE) else {
-        return Err(Fault::Memory);
-    };
-    let captures = open_all(alloc, shelf, piece.as_mut_slice(), names, checked)?;
+    let captures = open_all(alloc, shelf, names, checked)?;
     let start = start_of(checked);
     let programme = Programme::new(captures, script.commands, start);
     let mut feed = Feed {
         programme,
-        piece,
         gathered: Vec::new(alloc),
+        played: Vec::new(alloc),
     };
     play_feed(
         alloc, shelf, plan, script, schedule, fate, outputs, &mut feed,

@@ -1,6 +1,8 @@
 -- Targets by how their ports are chosen.
-use Rattle.std.proofs.Common.{◌≡◌, ℕ, ◌≤◌, ◌==◌, ◌&&◌, Bool, true, false, cond, not, List, length, Option, Some, None, refl, sym, ap, inl, inr}
+use Rattle.std.proofs.Common.{◌≡◌, ℕ, ◌≤◌, ◌==◌, ◌&&◌, Bool, true, false, cond, not, List, length, Option, Some, None, refl, sym, ◌∙◌, ap, inl, inr}
 use Rattle.std.proofs.lemmas.Bool.{cases_lt, lt-ltb, and_parts}
+use Rattle.std.specs.Prelude.{option_map}
+use Rattle.exb_model.specs.declared.port_set.PortSet.{PortSet}
 use Rattle.exb_model.specs.declared.rules.StaticAt.{StaticAt}
 use Rattle.exb_model.specs.declared.vlan.Kind.{Kind}
 use Rattle.exb_model.specs.Frames.{kind_of, destination, is_group}
@@ -8,6 +10,7 @@ use Rattle.exb_model.specs.Configuration.{Bridge}
 use Rattle.exb_model.specs.Learning.{Look, passes}
 use Rattle.exb_model.specs.Targets.{static_for, is_chosen_by, is_chosen, both_isolated, target}
 use Rattle.exb_relay.specs.declared.choice.Choice.{Choice}
+use Rattle.exb_relay.specs.declared.choice.Choice.TheVariants as chosen
 use Rattle.exb_relay.specs.Choices.{choice_by, choice, is_chosen_in}
 
 by_parts : (e : Option StaticAt) (r : Option ℕ) (q : ℕ) → is_chosen_in (choice_by e r) q ≡ is_chosen_by e r q
@@ -17,6 +20,22 @@ by_parts None None q = refl
 
 pub chosen_same : (b : Bridge) (look : Look) (v : ℕ) (m : List ℕ) (q : ℕ) → is_chosen_in (choice b look v m) q ≡ is_chosen b look v m q
 chosen_same b look v m q = by_parts (static_for b.statics v m) (cond (is_group m) None (look v m)) q
+
+-- ---- the choice by what is looked up
+module _ (b : Bridge) (look : Look) (v : ℕ) (m : List ℕ) where
+  pub choice_listed : (ports : PortSet) → option_map (λ e. e.ports) (static_for b.statics v m) ≡ Some ports → choice b look v m ≡ chosen.Listed ports
+  choice_listed ports is = by_entry (static_for b.statics v m) is
+    where
+      by_entry : (e : Option StaticAt) → option_map (λ (e : StaticAt). e.ports) e ≡ Some ports → choice_by e (cond (is_group m) None (look v m)) ≡ chosen.Listed ports
+      by_entry (Some e) h = let y : e.ports ≡ ports = (let z : ◌≡◌ {A = Option PortSet} (Some e.ports) (Some ports) = h in cc) in ap (λ (s : PortSet). chosen.Listed s) y
+      by_entry None h = absurd (let z : ◌≡◌ {A = Option PortSet} None (Some ports) = h in cc)
+
+  pub choice_unlisted : (r : Option ℕ) → option_map (λ e. e.ports) (static_for b.statics v m) ≡ None → cond (is_group m) None (look v m) ≡ r → choice b look v m ≡ choice_by None r
+  choice_unlisted r none is = by_entry (static_for b.statics v m) none ∙ ap (λ (r : Option ℕ). choice_by None r) is
+    where
+      by_entry : (e : Option StaticAt) → option_map (λ (e : StaticAt). e.ports) e ≡ None → choice_by e (cond (is_group m) None (look v m)) ≡ choice_by None (cond (is_group m) None (look v m))
+      by_entry (Some e) h = absurd (let z : ◌≡◌ {A = Option PortSet} (Some e.ports) None = h in cc)
+      by_entry None h = refl
 
 -- how a frame of port p in VLAN v leaves at q, if it does, where its ports are chosen so
 abbrev pub target_of : Bridge → ℕ → ℕ → Choice → ℕ → Option Kind

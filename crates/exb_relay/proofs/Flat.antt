@@ -45,7 +45,7 @@ kind_vid f =
         | inl d ↦ rw (e, d) tt
         | inr d ↦ elim (cases_Bool (is_reserved f)) [
           | inl c ↦ rw (e, d, c) tt
-          | inr c ↦ elim (cases_Bool (number_at f 12 == 33024)) [
+          | inr c ↦ elim (cases_Bool (number_at f 12 == 0x8100)) [
             | inr a ↦ rw (e, d, c, a) tt
             | inl a ↦ elim (cases_Bool (nat_lt (length f) 18)) [
               | inl z ↦ rw (e, d, c, a, z) tt

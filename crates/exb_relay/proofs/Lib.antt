@@ -6,6 +6,9 @@ pub mod Words
 mod Leaving
 mod Flat
 mod Each
-mod BelowWords
 mod Steps
 mod Relaying
+mod BelowWords
+mod Ways
+mod Hearing
+mod Passing

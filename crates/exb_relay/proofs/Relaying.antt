@@ -1,6 +1,6 @@
 -- The parts of the relay's code.
 use Rattle.std.proofs.Common.{◌≡◌, ℕ, ◌+◌, ◌-◌, ◌<◌, ◌≤◌, ◌==◌, ◌&&◌, ◌++◌, cond, Bool, true, false, List, [], ◌∷◌, Some, None, refl, sym, ◌∙◌, ap, subst, arith, inl, inr, eq-eqb}
-use Rattle.std.specs.List.{flat_map, list_any}
+use Rattle.std.specs.List.{flat_map}
 use Rattle.std.proofs.lemmas.List.{append-nil}
 use Rattle.std.proofs.lemmas.Grind.{flat_map-append}
 use Rattle.std.proofs.lemmas.Bool.{cases_eq, cases_lt, ne_eqb, false≢true, false_from_ne_true}
@@ -8,8 +8,7 @@ use Rattle.exb_model.specs.declared.vlan.Kind.TheVariants.{Tagged, Untagged}
 use Rattle.exb_model.specs.declared.port_set.PortSet.{PortSet}
 use Rattle.exb_model.specs.Ports.{port_in, ports_of, below, all_ports}
 use Rattle.exb_model.specs.Tree.{Shape, IsTree, IsCascade, device, trunk, is_port, is_cascade, is_external, is_under}
-use Rattle.exb_model.specs.Refusals.{is_empty_set}
-use Rattle.exb_model.proofs.PortLemmas.{any_below-true, filter_below-agree, filter_below-none, below-more}
+use Rattle.exb_model.proofs.PortLemmas.{filter_below-agree, filter_below-none, below-more}
 use Rattle.exb_numbers.specs.Spaces.{Spaces, has_space}
 use Rattle.exb_relay.specs.declared.send.SendTo.{SendTo}
 use Rattle.exb_relay.specs.declared.source.Source.{Source}
@@ -17,7 +16,6 @@ use Rattle.exb_model.specs.Numbers.{Numbers}
 use Rattle.exb_relay.specs.Spaces.{HasSpaces}
 use Rattle.exb_relay.specs.Sends.{or_zero, ingress_at, local_send}
 use Rattle.exb_relay.specs.Words.{ingress_for, kind_among, set_below, set_word, member_sends}
-use Rattle.exb_relay.proofs.Lists.{listed_filter, none_listed}
 use Rattle.exb_relay.proofs.Under.{under_extended, under_home, under_trunk, none_low, none_under, under_cascade, hangs, home_low, extended_from, extended_external, external_port, external_free, external_below}
 
 module _ (t : Shape) (valid : IsTree t) where
@@ -51,32 +49,6 @@ module _ (t : Shape) (valid : IsTree t) where
   pub ports_below : (set : PortSet) (test : ℕ → Bool) (k : ℕ) → ((q : ℕ) → port_in set q ≡ (test q && is_under t k q)) → ports_of set ≡ set_below t k test
   unfolding ports_of
   ports_below set test k is = filter_below-agree _ _ 4160 (λ q l. is q)
-
-  pub empty_below : (set : PortSet) (test : ℕ → Bool) (k : ℕ) → ((q : ℕ) → port_in set q ≡ (test q && is_under t k q)) → ((q : ℕ) → port_in set q ≡ false) → set_below t k test ≡ []
-  empty_below set test k is none = filter_below-none _ 4160 (λ q. sym (is q) ∙ none q)
-
-  -- a port of a set is in its list
-  pub some_below : (set : PortSet) (test : ℕ → Bool) (k : ℕ) → ((q : ℕ) → port_in set q ≡ (test q && is_under t k q)) →
-      is_empty_set (set_below t k test) ≡ true → (q : ℕ) → port_in set q ≡ false
-  some_below set test k is empty q =
-      is q ∙ elim (cases_lt q 4160) [
-        | inl l ↦
-            let e = listed_filter (λ q. test q && is_under t k q) q all_ports in
-            let n = none_listed q (set_below t k test) empty in
-            let there = any_below-true (λ x. x == q) 4160 q l (eq-eqb q q refl) in
-            in_list there e n
-        | inr g ↦
-            let u : is_under t k q ≡ false = false_from_ne_true _ (λ z. let l = external_below t valid q (extended_external t q (under_extended t k q z)) in omega (arith, g, l)) in
-            rw u (and_false (test q))
-      ]
-    where
-      and_false : (c : Bool) → (c && false) ≡ false
-      and_false true = refl
-      and_false false = refl
-
-      in_list : list_any (λ x. x == q) all_ports ≡ true → list_any (λ x. x == q) (set_below t k test) ≡ (list_any (λ x. x == q) all_ports && (test q && is_under t k q)) →
-          list_any (λ x. x == q) (set_below t k test) ≡ false → (test q && is_under t k q) ≡ false
-      in_list there e n = sym (rw there at e) ∙ n
 
   pub no_set_below : (test : ℕ → Bool) (k : ℕ) → is_cascade t k ≡ false → set_below t k test ≡ []
   no_set_below test k n = filter_below-none _ 4160 (λ q. rw (none_under t valid k n q) (and_false (test q)))
@@ -117,7 +89,3 @@ module _ (t : Shape) (valid : IsTree t) where
         no_port c =
             let h = c.1 in
             false≢true (sym n ∙ subst (λ (x : ℕ). is_port t x ≡ true) h.at (valid.on_port c.0 h.extender h.there))
-
--- ---- one bridge port more
-pub list_more : (f : ℕ → List SendTo) (n : ℕ) → flat_map f (below (n + 1)) ≡ flat_map f (below n) ++ f n
-list_more f n = ap (flat_map f) (below-more n) ∙ (flat_map-append f (below n) (n ∷ []) ∙ ap (λ z. flat_map f (below n) ++ z) (append-nil (f n)))

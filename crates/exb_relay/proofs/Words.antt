@@ -43,7 +43,7 @@ pcp_small f bytes =
         | inl d ↦ rw (e, d) (omega arith)
         | inr d ↦ elim (cases_Bool (is_reserved f)) [
           | inl c ↦ rw (e, d, c) (omega arith)
-          | inr c ↦ elim (cases_Bool (number_at f 12 == 33024)) [
+          | inr c ↦ elim (cases_Bool (number_at f 12 == 0x8100)) [
             | inr a ↦ rw (e, d, c, a) (omega arith)
             | inl a ↦ elim (cases_Bool (nat_lt (length f) 18)) [
               | inl z ↦ rw (e, d, c, a, z) (omega arith)
@@ -59,10 +59,10 @@ unfolding egress
 egress_long f Untagged v l =
     let e = length-append (take 12 f) (body_after f (kind_of f)) in let d = length-take 12 f in omega (arith, e, d, l)
 egress_long f Tagged v l =
-    let a = (take 12 f ++ two_bytes 33024) ++ two_bytes (priority_of (kind_of f) * 4096 + v) in
+    let a = (take 12 f ++ two_bytes 0x8100) ++ two_bytes (priority_of (kind_of f) * 4096 + v) in
     let x = length-append a (body_after f (kind_of f)) in
-    let y = length-append (take 12 f ++ two_bytes 33024) (two_bytes (priority_of (kind_of f) * 4096 + v)) in
-    let z = length-append (take 12 f) (two_bytes 33024) in
+    let y = length-append (take 12 f ++ two_bytes 0x8100) (two_bytes (priority_of (kind_of f) * 4096 + v)) in
+    let z = length-append (take 12 f) (two_bytes 0x8100) in
     let d = length-take 12 f in
     omega (arith, x, y, z, d, l)
 

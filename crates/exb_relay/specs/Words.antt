@@ -1,14 +1,20 @@
 -- Sends by where their frame comes from.
-use Rattle.std.specs.Prelude.{◌≡◌, ℕ, ◌+◌, Bool, ◌==◌, ◌&&◌, not, if◌then◌else◌, List, [], ◌∷◌, ◌++◌, Option, Some, None, filter, flat_map, nat_lt}
+use Rattle.std.specs.Prelude.{◌≡◌, ℕ, ◌+◌, Bool, ◌==◌, ◌&&◌, ◌||◌, not, is_some, if◌then◌else◌, List, [], ◌∷◌, ◌++◌, Option, Some, None, filter, flat_map, nat_lt}
 use Rattle.exb_model.specs.declared.vlan.Kind.{Kind}
 use Rattle.exb_model.specs.declared.vlan.Kind.TheVariants.{Tagged, Untagged}
-use Rattle.exb_model.specs.Ports.{all_ports}
+use Rattle.exb_model.specs.declared.frame_kind.Seen.{Seen}
+use Rattle.exb_model.specs.declared.frame_kind.Seen.TheVariants as seen
+use Rattle.exb_model.specs.Ports.{port_in, all_ports}
 use Rattle.exb_model.specs.Frames.{kind_of}
 use Rattle.exb_model.specs.Tree.{Shape, device, trunk, is_under}
 use Rattle.exb_model.specs.Refusals.{is_kind, is_empty_set, bridge_ports}
-use Rattle.exb_model.specs.Configuration.{Bridge}
+use Rattle.exb_model.specs.Configuration.{Bridge, kind_in, is_known}
+use Rattle.exb_model.specs.Learning.{accepts_tagged, accepts_untagged}
 use Rattle.exb_model.specs.Targets.{both_isolated}
+use Rattle.exb_config.specs.declared.members.Members.{Members}
+use Rattle.exb_config.specs.Tables.{bridge_of}
 use Rattle.exb_frame.specs.declared.etag.ETag.{ETag}
+use Rattle.exb_relay.specs.declared.hearers.Hearers.{Hearers}
 use Rattle.exb_relay.specs.declared.send.SendTo.{SendTo}
 use Rattle.exb_relay.specs.declared.source.Source.{Source}
 use Rattle.exb_relay.specs.declared.source.Uplink.{Uplink}
@@ -34,7 +40,29 @@ pub record IsSource (t : Shape) (m : Numbers) (p : ℕ) (f : List ℕ) (s : Sour
   pub dei : s.dei ≡ dei_of (kind_of f)
   pub ingress : (k : ℕ) → ingress_for s.uplink k ≡ ingress_at t m p k
 
+-- ---- ingress
+-- the VLAN of a frame of that kind at port p, where the port accepts the kind
+abbrev pub claimed : Bridge → ℕ → Seen → Option ℕ
+claimed b p seen.Plain = if accepts_untagged (b.rule p).accept then Some (b.rule p).pvid else None
+claimed b p (seen.Priority pcp dei) = if accepts_untagged (b.rule p).accept then Some (b.rule p).pvid else None
+claimed b p (seen.Tagged pcp dei v) = if accepts_tagged (b.rule p).accept then Some v else None
+claimed b p _ = None
+
+-- VLAN v is in the table, and the filter of port p lets it in
+abbrev pub is_let_in : Bridge → ℕ → ℕ → Bool
+is_let_in b p v = is_known b v && (not (b.rule p).filter || is_some (b.member v p))
+
 -- ---- members
+-- these are the members of VLAN v
+abbrev pub AreMembers : Bridge → ℕ → Members → Type 0
+AreMembers b v m = (q : ℕ) → kind_in m.tagged m.untagged q ≡ b.member v q
+
+-- a port is one of the hearers of a kind
+abbrev pub is_hearer : Hearers → Kind → ℕ → Bool
+is_hearer h kind q =
+    ((bridge_of h.config.now).present q && port_in h.chosen.now q && is_kind kind (kind_in h.members.now.tagged h.members.now.untagged q))
+    && not (h.isolated && ((bridge_of h.config.now).rule q).isolated)
+
 -- the kind of a port that is in one of two sets
 abbrev pub kind_among : (ℕ → Bool) → (ℕ → Bool) → ℕ → Option Kind
 kind_among tagged untagged q = if tagged q then Some Tagged else (if untagged q then Some Untagged else None)

@@ -1,11 +1,8 @@
 //! How the ports of a frame are chosen.
 ghost use Rattle.std.specs.Prelude.{◌≡◌, if◌then◌else◌, None};
 ghost use Rattle.exb_model.specs.Frames.{is_group};
-ghost use Rattle.exb_config.specs.Tables.{bridge_of};
 ghost use Rattle.exb_learn.specs.Entries.{look_of};
-ghost use Rattle.exb_relay.specs.Choices.{choice};
 
-use exb_config::Config;
 use exb_learn::Learned;
 use exb_model::address::Mac;
 use exb_model::port::PortId;
@@ -13,7 +10,7 @@ use exb_model::port_set::PortSet;
 use exb_model::vlan::Vid;
 
 /// The ports of which the targets of a frame are taken (IEEE 802.1Q, clause 8.6): those of a static entry, else
-/// the learned port of its destination, else all.
+/// the learned port of its destination, else all. Contracts speak of it; no frame makes one.
 #[derive(Clone, Copy, Debug, PartialEq, Eq)]
 pub enum Choice {
     All,
@@ -22,25 +19,12 @@ pub enum Choice {
 }
 
 /// The port that was learned for an individual address; none for a group's.
-fn learned_port(learned: &Learned, vid: Vid, address: Mac) -> Option<PortId>
+pub(crate) fn learned_port(learned: &Learned, vid: Vid, address: Mac) -> Option<PortId>
     ensures { result ≡ (if is_group address.0 then None else look_of learned.now vid address.0) }
 {
     if address.is_group() {
         None
     } else {
         learned.look(vid, address)
-    }
-}
-
-/// How the ports are chosen for a destination in a VLAN.
-pub(crate) fn choose(config: &Config, learned: &Learned, vid: Vid, destination: Mac) -> Choice
-    ensures { result ≡ choice (bridge_of config.now) (look_of learned.now) vid destination.0 }
-{
-    let entry = config.entry(vid, destination);
-    let port = learned_port(learned, vid, destination);
-    match (entry, port) {
-        (Some(ports), _) => Choice::Listed(ports),
-        (None, Some(port)) => Choice::Learned(port),
-        (None, None) => Choice::All,
     }
 }

@@ -9,15 +9,16 @@ ghost use Rattle.exb_config.specs.Tables.{bridge_of};
 ghost use Rattle.exb_learn.specs.Entries.{look_of};
 ghost use Rattle.exb_relay.specs.Spaces.{numbers_of, HasSpaces, AreExternal};
 ghost use Rattle.exb_relay.specs.Sends.{pcp_of, dei_of, ingress_at, ingress_of, sends_in, sends_of};
-ghost use Rattle.exb_relay.specs.Words.{IsSource, ingress_for, set_below, set_word, kind_at, member_in, member_sends, member_list, port_sends, learned_sends};
+ghost use Rattle.exb_relay.specs.Words.{AreMembers, IsSource, is_hearer, ingress_for, set_below, set_word, kind_at, member_in, member_sends, member_list, port_sends, learned_sends};
 
-use crate::below::below;
-use crate::choice::{Choice, choose};
-use crate::ingress::{dei_of, passes, pcp_of};
-use crate::members::{Members, every_port, kind_at};
+use crate::below::{below, has_below, ways};
+use crate::choice::learned_port;
+use crate::hearers::Hearers;
+use crate::ingress::{admit, claimed, dei_of, pcp_of};
+use crate::members::{every_port, kind_at};
 use crate::send::{Ingress, SendTo};
 use crate::sending::{send_at_once, send_word};
-use crate::source::{Source, Uplink};
+use crate::source::{Passed, Source, Uplink};
 use arrayvec::ArrayVec;
 use exb_config::Config;
 use exb_frame::classify::classify;
@@ -28,7 +29,7 @@ use exb_model::port::PortId;
 use exb_model::port_set::PortSet;
 use exb_model::role::Role;
 use exb_model::tree::Tree;
-use exb_model::vlan::{Kind, Vid};
+use exb_model::vlan::Kind;
 use exb_numbers::Spaces;
 
 /// The way up of an external port of the tree; none for a port of the bridge.
@@ -47,96 +48,83 @@ fn uplink_of(tree: &Tree, spaces: &Spaces, port: PortId) -> Option<Uplink>
     Some(Uplink { trunk, channel })
 }
 
-/// One word to the group of the ports of a set that lie below a cascade port of the bridge, counted from 0.
+/// One word to the group of the hearers of a kind that lie below a cascade port of the bridge, counted from 0.
 fn send_to_set(
     tree: &Tree,
     spaces: &Spaces,
     source: &Source,
+    hearers: &Hearers,
     place: u8,
     kind: Kind,
-    set: &PortSet,
     sends: &mut ArrayVec<SendTo, 256>,
 )
     requires place { place < 64 }
     requires cascade { is_cascade tree.now place ≡ true }
     requires spaces { HasSpaces tree.now spaces.now }
-    requires external { (q : ℕ) → port_in set.now q ≡ true → is_external tree.now q ≡ true }
+    requires external { (q : ℕ) → is_hearer hearers.now kind q ≡ true → is_external tree.now q ≡ true }
     requires room { array_vec_len sends.old < 256 }
     ensures items { sends.new.items ≡ sends.old.items
-        ++ set_word (numbers_of spaces.now) source.now place kind (set_below tree.now place (port_in set.now)) }
+        ++ set_word (numbers_of spaces.now) source.now place kind (set_below tree.now place (is_hearer hearers.now kind)) }
     ensures few { array_vec_len sends.new ≤ array_vec_len sends.old + 1 }
 {
     tree.is_tree();
-    let set = below(tree, place + 1, set);
-    if !set.is_empty() {
+    if has_below(tree, place + 1, hearers, kind) {
+        let set = below(tree, place + 1, hearers, kind);
         let group = spaces.groups(place + 1).find(&set);
         send_word(sends, place, source, kind, group);
     }
 }
 
-/// The sends at a port of the bridge, counted from 0, for the members that are there or below it.
+/// The sends at a port of the bridge, counted from 0, for the hearers that are there or below it.
 fn send_at(
     tree: &Tree,
     spaces: &Spaces,
     source: &Source,
-    members: &Members,
+    hearers: &Hearers,
     place: u8,
     sends: &mut ArrayVec<SendTo, 256>,
 )
     requires place { place < 64 }
     requires spaces { HasSpaces tree.now spaces.now }
-    requires tagged { (q : ℕ) → port_in members.now.tagged q ≡ true → is_external tree.now q ≡ true }
-    requires untagged { (q : ℕ) → port_in members.now.untagged q ≡ true → is_external tree.now q ≡ true }
+    requires tagged { (q : ℕ) → is_hearer hearers.now Kind.Tagged q ≡ true → is_external tree.now q ≡ true }
+    requires untagged { (q : ℕ) → is_hearer hearers.now Kind.Untagged q ≡ true → is_external tree.now q ≡ true }
     requires room { array_vec_len sends.old + 2 ≤ 256 }
     ensures items { sends.new.items ≡ sends.old.items
-        ++ member_sends tree.now (numbers_of spaces.now) source.now (port_in members.now.tagged) (port_in members.now.untagged) place }
+        ++ member_sends tree.now (numbers_of spaces.now) source.now (is_hearer hearers.now Kind.Tagged) (is_hearer hearers.now Kind.Untagged) place }
     ensures few { array_vec_len sends.new ≤ array_vec_len sends.old + 2 }
 {
     tree.is_tree();
     let port = PortId::at(0, place);
     match tree.role(port) {
         Role::Unknown => {}
-        Role::External => send_at_once(sends, place, members.target(source.port, port)),
+        Role::External => send_at_once(sends, place, hearers.target(source.port, port)),
         Role::Cascade { .. } => {
-            send_to_set(
-                tree,
-                spaces,
-                source,
-                place,
-                Kind::Tagged,
-                &members.tagged,
-                sends,
-            );
-            send_to_set(
-                tree,
-                spaces,
-                source,
-                place,
-                Kind::Untagged,
-                &members.untagged,
-                sends,
-            );
+            send_to_set(tree, spaces, source, hearers, place, Kind::Tagged, sends);
+            send_to_set(tree, spaces, source, hearers, place, Kind::Untagged, sends);
         }
     }
 }
 
-/// The sends for members of a VLAN, in the order of bridge ports.
-fn send_to_members(
+/// The sends for the hearers of a frame, in the order of bridge ports.
+fn send_to_hearers(
     tree: &Tree,
     spaces: &Spaces,
     source: &Source,
-    members: &Members,
+    hearers: &Hearers,
     sends: &mut ArrayVec<SendTo, 256>,
 )
     requires spaces { HasSpaces tree.now spaces.now }
-    requires tagged { (q : ℕ) → port_in members.now.tagged q ≡ true → is_external tree.now q ≡ true }
-    requires untagged { (q : ℕ) → port_in members.now.untagged q ≡ true → is_external tree.now q ≡ true }
+    requires tagged { (q : ℕ) → is_hearer hearers.now Kind.Tagged q ≡ true → is_external tree.now q ≡ true }
+    requires untagged { (q : ℕ) → is_hearer hearers.now Kind.Untagged q ≡ true → is_external tree.now q ≡ true }
     requires empty { sends.old.items ≡ [] }
     ensures { sends.new.items
-        ≡ member_list tree.now (numbers_of spaces.now) source.now (port_in members.now.tagged) (port_in members.now.untagged) }
+        ≡ member_list tree.now (numbers_of spaces.now) source.now (is_hearer hearers.now Kind.Tagged) (is_hearer hearers.now Kind.Untagged) }
 {
-    for place in 0..64u8 {
-        send_at(tree, spaces, source, members, place, sends);
+    let mut left = ways(tree, hearers);
+    'ports: while left != 0 {
+        let place = left.trailing_zeros() as u8;
+        left &= !(1 << place);
+        send_at(tree, spaces, source, hearers, place, sends);
     }
 }
 
@@ -170,20 +158,26 @@ fn send_to_chosen(
     tree: &Tree,
     config: &Config,
     spaces: &Spaces,
-    vid: Vid,
-    source: &Source,
+    passed: &Passed,
     chosen: &PortSet,
     sends: &mut ArrayVec<SendTo, 256>,
 )
     requires external { AreExternal tree.now (bridge_of config.now) }
     requires spaces { HasSpaces tree.now spaces.now }
+    requires members { AreMembers (bridge_of config.now) passed.now.vid passed.now.members.now }
     requires empty { sends.old.items ≡ [] }
-    ensures { sends.new.items ≡ member_list tree.now (numbers_of spaces.now) source.now
-        (member_in (bridge_of config.now) source.now.port vid (port_in chosen.now) Kind.Tagged)
-        (member_in (bridge_of config.now) source.now.port vid (port_in chosen.now) Kind.Untagged) }
+    ensures { let source = passed.now.source in let v = passed.now.vid in
+        sends.new.items ≡ member_list tree.now (numbers_of spaces.now) source
+        (member_in (bridge_of config.now) source.port v (port_in chosen.now) Kind.Tagged)
+        (member_in (bridge_of config.now) source.port v (port_in chosen.now) Kind.Untagged) }
 {
-    let members = Members::among(config, vid, source.port, chosen);
-    send_to_members(tree, spaces, source, &members, sends);
+    let hearers = Hearers {
+        config,
+        members: passed.members,
+        chosen,
+        isolated: config.rule(passed.source.port).isolated,
+    };
+    send_to_hearers(tree, spaces, &passed.source, &hearers, sends);
 }
 
 /// The send for a learned port, if it gets the frame.
@@ -191,47 +185,50 @@ fn send_to_learned(
     tree: &Tree,
     config: &Config,
     spaces: &Spaces,
-    vid: Vid,
-    source: &Source,
+    passed: &Passed,
     port: PortId,
     sends: &mut ArrayVec<SendTo, 256>,
 )
     requires external { AreExternal tree.now (bridge_of config.now) }
     requires spaces { HasSpaces tree.now spaces.now }
+    requires members { AreMembers (bridge_of config.now) passed.now.vid passed.now.members.now }
     requires empty { sends.old.items ≡ [] }
-    ensures { sends.new.items ≡ learned_sends tree.now (numbers_of spaces.now) source.now port
-        (kind_at (bridge_of config.now) source.now.port vid port) }
+    ensures { sends.new.items ≡ learned_sends tree.now (numbers_of spaces.now) passed.now.source port
+        (kind_at (bridge_of config.now) passed.now.source.port passed.now.vid port) }
 {
-    if let Some(kind) = kind_at(config, vid, source.port, port) {
-        send_to_port(tree, spaces, source, port, kind, sends);
+    if let Some(kind) = kind_at(config, passed, port) {
+        send_to_port(tree, spaces, &passed.source, port, kind, sends);
     }
 }
 
-/// All sends for a frame that passes in a VLAN.
+/// All sends for a frame that passed.
 fn send_all(
     tree: &Tree,
     config: &Config,
     learned: &Learned,
     spaces: &Spaces,
-    vid: Vid,
-    source: &Source,
+    passed: &Passed,
     frame: &[u8],
     sends: &mut ArrayVec<SendTo, 256>,
 )
-    requires present { (bridge_of config.now).present source.now.port ≡ true }
+    requires present { (bridge_of config.now).present passed.now.source.port ≡ true }
     requires external { AreExternal tree.now (bridge_of config.now) }
     requires spaces { HasSpaces tree.now spaces.now }
-    requires source { IsSource tree.now (numbers_of spaces.now) source.now.port frame.now source.now }
-    requires passes { passes (bridge_of config.now) source.now.port frame.now ≡ Some vid }
+    requires members { AreMembers (bridge_of config.now) passed.now.vid passed.now.members.now }
+    requires source { IsSource tree.now (numbers_of spaces.now) passed.now.source.port frame.now passed.now.source }
+    requires passes { passes (bridge_of config.now) passed.now.source.port frame.now ≡ Some passed.now.vid }
     requires empty { sends.old.items ≡ [] }
     ensures { sends.new.items ≡ sends_in tree.now (bridge_of config.now) (look_of learned.now) (numbers_of spaces.now)
-        source.now.port frame.now (Some vid) }
+        passed.now.source.port frame.now (Some passed.now.vid) }
 {
     tree.is_tree();
-    match choose(config, learned, vid, destination(frame)) {
-        Choice::All => send_to_chosen(tree, config, spaces, vid, source, &every_port(), sends),
-        Choice::Listed(ports) => send_to_chosen(tree, config, spaces, vid, source, &ports, sends),
-        Choice::Learned(port) => send_to_learned(tree, config, spaces, vid, source, port, sends),
+    let address = destination(frame);
+    match config.entry(passed.vid, address) {
+        Some(ports) => send_to_chosen(tree, config, spaces, passed, ports, sends),
+        None => match learned_port(learned, passed.vid, address) {
+            Some(port) => send_to_learned(tree, config, spaces, passed, port, sends),
+            None => send_to_chosen(tree, config, spaces, passed, &every_port(), sends),
+        },
     }
 }
 
@@ -274,16 +271,21 @@ pub fn relay(
 {
     sends.clear();
     let seen = classify(frame);
-    match passes(config, port, &seen) {
-        None => Ingress::Dropped,
-        Some(vid) => {
-            let source = source_of(tree, spaces, port, frame, &seen);
-            send_all(tree, config, learned, spaces, vid, &source, frame, sends);
-            Ingress::Passed {
-                vid,
-                pcp: source.pcp,
-                dei: source.dei,
-            }
-        }
+    let Some(vid) = claimed(config, port, &seen) else {
+        return Ingress::Dropped;
+    };
+    let Some(members) = admit(config, port, vid) else {
+        return Ingress::Dropped;
+    };
+    let passed = Passed {
+        source: source_of(tree, spaces, port, frame, &seen),
+        vid,
+        members,
+    };
+    send_all(tree, config, learned, spaces, &passed, frame, sends);
+    Ingress::Passed {
+        vid,
+        pcp: passed.source.pcp,
+        dei: passed.source.dei,
     }
 }

@@ -1,10 +1,13 @@
 //! Which frames pass (IEEE 802.1Q, clause 8.6.2), and with which priority.
-ghost use Rattle.std.specs.Prelude.{◌≡◌, not, ◌||◌, is_some};
-ghost use Rattle.exb_model.specs.Learning.{accepts_tagged, accepts_untagged, admitted, passes_as};
+ghost use Rattle.std.specs.Prelude.{◌≡◌, not, ◌||◌, is_some, option_copied, if◌then◌else◌, Some, None, IfSome};
+ghost use Rattle.exb_model.specs.Configuration.{kind_in};
+ghost use Rattle.exb_model.specs.Learning.{accepts_tagged, accepts_untagged};
 ghost use Rattle.exb_config.specs.Tables.{bridge_of};
 ghost use Rattle.exb_relay.specs.Sends.{pcp_of, dei_of};
+ghost use Rattle.exb_relay.specs.Words.{claimed, is_let_in, AreMembers};
 
 use exb_config::Config;
+use exb_config::members::Members;
 use exb_model::frame_kind::Seen;
 use exb_model::port::PortId;
 use exb_model::rules::Accept;
@@ -22,36 +25,44 @@ fn accepts_untagged(accept: Accept) -> bool
     accept != Accept::TaggedOnly
 }
 
-/// Whether the port's filter lets in frames of a VLAN.
-fn lets_in(config: &Config, port: PortId, vid: Vid) -> bool
-    ensures { let k = bridge_of config.now in result ≡ (not (k.rule port).filter || is_some (k.member vid port)) }
+/// The VLAN, where the port accepts the kind of the frame.
+fn if_accepted(accepted: bool, vid: Vid) -> Option<Vid>
+    ensures { result ≡ (if accepted then Some vid else None) }
 {
-    !config.rule(port).filter || config.member(vid, port).is_some()
+    if accepted { Some(vid) } else { None }
 }
 
-/// The VLAN, where the port accepts the kind of the frame, the VLAN is in the table, and the filter lets it in.
-fn admit(config: &Config, port: PortId, accepted: bool, vid: Vid) -> Option<Vid>
-    ensures { result ≡ admitted (bridge_of config.now) port accepted vid }
-{
-    let open = lets_in(config, port, vid);
-    if accepted && config.known(vid) && open {
-        Some(vid)
-    } else {
-        None
-    }
-}
-
-/// The VLAN of a frame of that kind that passes at a port; None exactly where it doesn't pass.
-pub(crate) fn passes(config: &Config, port: PortId, seen: &Seen) -> Option<Vid>
-    ensures { result ≡ passes_as (bridge_of config.now) port seen.now }
+/// The VLAN of a frame of that kind at a port; None exactly where the port doesn't accept the kind.
+pub(crate) fn claimed(config: &Config, port: PortId, seen: &Seen) -> Option<Vid>
+    ensures { result ≡ claimed (bridge_of config.now) port seen.now }
 {
     let rule = config.rule(port);
     match *seen {
         Seen::Plain | Seen::Priority { .. } => {
-            admit(config, port, accepts_untagged(rule.accept), rule.pvid)
+            if_accepted(accepts_untagged(rule.accept), rule.pvid)
         }
-        Seen::Tagged { vid, .. } => admit(config, port, accepts_tagged(rule.accept), vid),
+        Seen::Tagged { vid, .. } => if_accepted(accepts_tagged(rule.accept), vid),
         _ => None,
+    }
+}
+
+/// Whether the port's filter lets in frames of a VLAN with these members.
+fn lets_in(config: &Config, port: PortId, members: &Members) -> bool
+    ensures { result ≡ (not ((bridge_of config.now).rule port).filter || is_some (kind_in members.now.tagged members.now.untagged port)) }
+{
+    !config.rule(port).filter || members.kind(port).is_some()
+}
+
+/// The members of a VLAN; None exactly where it isn't in the table, or the port's filter doesn't let it in.
+pub(crate) fn admit(config: &Config, port: PortId, vid: Vid) -> Option<&Members>
+    ensures admitted { is_some (option_copied result) ≡ is_let_in (bridge_of config.now) port vid }
+    ensures members { IfSome result (λ m. AreMembers (bridge_of config.now) vid m.now) }
+{
+    let members = config.members(vid)?;
+    if lets_in(config, port, members) {
+        Some(members)
+    } else {
+        None
     }
 }
 

@@ -8,6 +8,7 @@
 mod below;
 pub mod choice;
 pub mod forwarding;
+mod hearers;
 mod ingress;
 pub mod laws;
 mod members;

@@ -2,7 +2,9 @@
 ghost use Rattle.std.specs.Prelude.{◌≡◌, ◌<◌};
 ghost use Rattle.exb_relay.specs.Words.{ingress_for};
 
+use exb_config::members::Members;
 use exb_model::port::PortId;
+use exb_model::vlan::Vid;
 
 /// The way up of a port of an extender: the port of the bridge above it, 1 to 64, and the channel that the port
 /// has in the number space there.
@@ -20,6 +22,14 @@ pub(crate) struct Source {
     pub uplink: Option<Uplink>,
     pub pcp: u8,
     pub dei: bool,
+}
+
+/// A frame that passed: where it comes from, and its VLAN with the members.
+#[derive(Clone, Copy)]
+pub(crate) struct Passed<'a> {
+    pub source: Source,
+    pub vid: Vid,
+    pub members: &'a Members,
 }
 
 impl Source {

@@ -92,6 +92,10 @@ behind prefix output.Journal = refl
 behind prefix output.Trace = refl
 behind prefix output.Counters = refl
 
+-- the prefix stands in front of the name without one
+pub name_behind : (prefix : List ℕ) (o : Output) → file_name prefix o ≡ prefix ++ file_name [] o
+name_behind prefix o = behind prefix o ∙ ap (λ (end : List ℕ). prefix ++ end) (sym (behind [] o))
+
 abbrev letter : Output → ℕ
 letter x = get_or (ending x) 0 0
 

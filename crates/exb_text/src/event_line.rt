@@ -1,11 +1,12 @@
 //! Lines of the journal.
-ghost use Rattle.std.specs.Prelude.{◌≡◌, ◌∷◌, ◌++◌, [], Some, OnOk, OnErr, string_bytes};
+ghost use Rattle.std.specs.Prelude.{◌≡◌, ◌∷◌, ◌++◌, [], Some, IfOk, OnOk, OnErr, string_bytes};
 ghost use Rattle.exb_model.specs.Texts.{line_of, cause_text};
 
 use crate::PortName;
 use crate::quick_line::{ROOM, quick_line};
 use exb_model::event::{Cause, Event};
 use exb_model::memory::NoMemory;
+use std::alloc::Global;
 use std::fmt;
 use std::fmt::Write;
 
@@ -48,26 +49,56 @@ impl fmt::Display for CauseText {
     }
 }
 
-/// Puts the line of an event, with its newline, at the end of a text. Where memory runs out, the text
+/// Puts the line of an event, with its newline, at the end of a text, by the formatter. Where memory runs out, the text
 /// stays as it was.
 pub fn write_line(text: &mut String, event: &Event) -> Result<(), NoMemory>
     ensures ok { OnOk result (string_bytes text.new ≡ string_bytes text.old ++ line_of event.now ++ 10 ∷ []) }
     ensures err { OnErr result (string_bytes text.new ≡ string_bytes text.old) }
 {
-    let mut room = [0; ROOM];
-    match quick_line(&mut room, event) {
-        Some(line) => Ok(text.push_str(line)?),
-        None => write_formatted(text, event),
-    }
-}
-
-/// Puts the line of any event, with its newline, at the end of a text by the formatter.
-#[cold]
-#[inline(never)]
-fn write_formatted(text: &mut String, event: &Event) -> Result<(), NoMemory>
-    ensures ok { OnOk result (string_bytes text.new ≡ string_bytes text.old ++ line_of event.now ++ 10 ∷ []) }
-    ensures err { OnErr result (string_bytes text.new ≡ string_bytes text.old) }
-{
     let line = format!(in *text.allocator(); "{}\n", EventLine(event))?;
     Ok(text.push_str(line.as_str())?)
+}
+
+/// Room for one line of the journal, which is kept from line to line.
+#[derive(Drop)]
+pub struct LineRoom {
+    /// A line that comes with frames is written from its end.
+    quick: [u8; ROOM],
+    /// Any other line is written by the formatter.
+    text: String,
+}
+
+/// The line of any event, with its newline, by the formatter.
+#[cold]
+#[inline(never)]
+fn formatted<'a>(text: &'a mut String, event: &Event) -> Result<&'a [u8], NoMemory>
+    ensures { IfOk result (λ line. line.now ≡ line_of event.now ++ 10 ∷ []) }
+{
+    text.clear();
+    write_line(text, event)?;
+    Ok(text.as_bytes())
+}
+
+impl LineRoom {
+    /// Room that grows with what the formatter writes there.
+    pub fn new(alloc: Global) -> LineRoom {
+        LineRoom {
+            quick: [0; ROOM],
+            text: String::new(alloc),
+        }
+    }
+
+    /// The line of an event, with its newline.
+    #[inline(always)]
+    pub fn line(&mut self, event: &Event) -> Result<&[u8], NoMemory>
+        ensures { IfOk result (λ line. line.now ≡ line_of event.now ++ 10 ∷ []) }
+    {
+        match quick_line(&mut self.quick, event) {
+            Some(start) => {
+                let room = &*self;
+                Ok(&room.quick[start..])
+            }
+            None => formatted(&mut self.text, event),
+        }
+    }
 }

@@ -12,7 +12,7 @@ mod quick_line;
 mod tally;
 mod trace_line;
 
-pub use event_line::{EventLine, write_line};
+pub use event_line::{EventLine, LineRoom, write_line};
 pub use output::{
     Output, add_name, add_other_names, capture_file_name, counters_file_name, file_name,
     journal_file_name, trace_file_name,

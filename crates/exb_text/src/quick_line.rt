@@ -5,7 +5,6 @@ ghost use Rattle.exb_model.specs.Texts.{line_of, port_name};
 use exb_model::event::Event;
 use exb_model::port::PortId;
 use itoa::write_digits;
-use std::str;
 
 /// Room for the longest of them, with its newline: `ignore x64.64` and a number of twenty digits.
 pub(crate) const ROOM: usize = 40;
@@ -78,17 +77,28 @@ fn put_tick(room: &mut [u8; ROOM], seconds: u32) -> usize
     put(room, b"tick ", digits)
 }
 
-/// The line of an event that comes with frames, with its newline; None of any other event.
+/// Puts the line of a settled world at the end of the room, and answers where it begins.
+fn put_settled(room: &mut [u8; ROOM]) -> usize
+    ensures within { result ≤ 40 }
+    ensures written { drop result room.new ≡ codes "settled" ++ 10 ∷ [] }
+{
+    put(room, b"settled\n", ROOM)
+}
+
+/// Puts the line of an event that comes with frames, with its newline, at the end of the room, and answers where it begins;
+/// None of any other event.
+#[inline(always)]
 #[tactic(auto, unfolding(exb_model::specs::Texts::line_of))]
-pub(crate) fn quick_line<'a>(room: &'a mut [u8; ROOM], event: &Event) -> Option<&'a str>
-    ensures { IfSome result (λ line. line.now ≡ line_of event.now ++ 10 ∷ []) }
+pub(crate) fn quick_line(room: &mut [u8; ROOM], event: &Event) -> Option<usize>
+    ensures within { IfSome result (λ start. start ≤ 40) }
+    ensures written { IfSome result (λ start. drop start room.new ≡ line_of event.now ++ 10 ∷ []) }
 {
     let start = match event {
         Event::Relay { port, index, .. } => put_arrival(room, b"relay ", *port, *index),
         Event::Ignored { port, index } => put_arrival(room, b"ignore ", *port, *index),
         Event::Tick { seconds } => put_tick(room, *seconds),
-        Event::Settled => return Some("settled\n"),
+        Event::Settled => put_settled(room),
         _ => return None,
     };
-    str::from_utf8(&room[start..]).ok()
+    Some(start)
 }

@@ -1,5 +1,5 @@
 //! Lines of a trace.
-ghost use Rattle.std.specs.Prelude.{◌≡◌, ◌++◌, ◌∷◌, ◌<◌, [], Some, IfOk, OnOk, string_bytes, codes};
+ghost use Rattle.std.specs.Prelude.{◌≡◌, ◌++◌, ◌∷◌, ◌<◌, [], Some, IfOk, OnOk};
 ghost use Rattle.exb_model.specs.Texts.{line_of};
 ghost use Rattle.exb_model.specs.Traces.{device_text, hex_digit, hexadecimal, side_text, trace_line};
 ghost use Rattle.exb_text.specs.Heads.{head_text};

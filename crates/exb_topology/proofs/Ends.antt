@@ -1,22 +1,15 @@
 -- The names of output files by what stands behind their prefix.
-use Rattle.std.proofs.Common.{◌≡◌, ◌≢◌, ℕ, ◌&&◌, ◌||◌, Bool, false, List, [], ◌∷◌, ◌++◌, map, codes, refl, sym, ap, ◌∙◌, append_assoc}
+use Rattle.std.proofs.Common.{◌≡◌, ◌≢◌, ℕ, ◌&&◌, ◌||◌, Bool, false, List, [], ◌∷◌, ◌++◌, map, refl, sym, ap, ◌∙◌}
 use Rattle.std.specs.List.{list_any}
 use Rattle.std.specs.Str.{bytes_eq}
 use Rattle.std.specs.Cmp.Lexicographic.{bytes_decides}
 use Rattle.std.proofs.lemmas.Bool.{eq-eqb, false_from_ne_true}
 use Rattle.exb_model.specs.Tree.{Shape, external_ports}
-use Rattle.exb_model.specs.Texts.{port_name}
 use Rattle.exb_text.specs.declared.output.Output.{Output}
 use Rattle.exb_text.specs.declared.output.Output.TheVariants as output
-use Rattle.exb_text.specs.Names.{all_outputs, capture_name, counters_name, file_name, journal_name, other_outputs, trace_name}
+use Rattle.exb_text.specs.Names.{all_outputs, capture_name, file_name, other_outputs}
+use Rattle.exb_text.proofs.NameLemmas.{name_behind}
 use Rattle.exb_topology.specs.Checks.{output_names}
-
-pub name_behind : (prefix : List ℕ) (o : Output) → file_name prefix o ≡ prefix ++ file_name [] o
-unfolding capture_name journal_name trace_name counters_name
-name_behind prefix (output.Capture p) = append_assoc prefix (port_name p) (codes ".pcap")
-name_behind prefix output.Journal = refl
-name_behind prefix output.Trace = refl
-name_behind prefix output.Counters = refl
 
 names_behind : (prefix : List ℕ) (os : List Output) → map (file_name prefix) os ≡ map (λ o. prefix ++ o) (map (file_name []) os)
 names_behind prefix [] = refl

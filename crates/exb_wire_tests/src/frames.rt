@@ -6,9 +6,8 @@ ghost use Rattle.exb_frame.specs.Egress.{can_leave};
 use crate::formats::{Format, judge};
 use crate::words::{bytes_of, expect, expect_bytes};
 use exb_frame::classify::classify;
-use exb_frame::egress::egress_into;
-use exb_frame::etag::{ETag, strip_into, tag_into};
-use exb_model::buffers::FrameBuf;
+use exb_frame::egress::{VlanTag, egress_into};
+use exb_frame::etag::{ETag, strip_in_place, strip_into, tag_into};
 use exb_model::frame_kind::Seen;
 use exb_model::vlan::{Kind, Vid};
 use std::alloc::Global;
@@ -78,42 +77,40 @@ const TAG: ETag = ETag {
     ecid: 0x1002,
 };
 
-// Puts the E-TAG into a frame, and asserts how that is told with the length of what came of it.
-fn tag(rt: &impl Abort, alloc: Global, text: &str, out: &mut FrameBuf, wanted: &str) {
+// Asserts what comes of a frame by the E-TAG put in.
+fn tag(rt: &impl Abort, alloc: Global, text: &str, wanted: &str) {
     let frame = bytes_of(rt, alloc, text);
+    let mut out = Vec::new(alloc);
     assert!(rt; frame.len() >= 12);
-    let is_made = tag_into(frame.as_slice(), &TAG, out).is_ok();
-    expect(rt, alloc, &(is_made, out.len()), wanted, text);
+    tag_into(frame.as_slice(), &TAG, &mut out).expect(rt, "memory");
+    expect_bytes(rt, alloc, out.as_slice(), wanted);
 }
 
-// Takes the E-TAG out of a frame in the same way.
-fn strip(rt: &impl Abort, alloc: Global, text: &str, out: &mut FrameBuf, wanted: &str) {
+// Asserts what comes of a frame by the E-TAG taken out.
+fn strip(rt: &impl Abort, alloc: Global, text: &str, wanted: &str) {
     let frame = bytes_of(rt, alloc, text);
+    let mut out = Vec::new(alloc);
     assert!(rt; frame.len() >= 20);
-    let is_made = strip_into(frame.as_slice(), out).is_ok();
-    expect(rt, alloc, &(is_made, out.len()), wanted, text);
+    strip_into(frame.as_slice(), &mut out).expect(rt, "memory");
+    expect_bytes(rt, alloc, out.as_slice(), wanted);
+}
+
+// Asserts what is left of a frame from byte 8 on, where the E-TAG is taken out in place.
+fn strip_there(rt: &impl Abort, alloc: Global, text: &str, wanted: &str) {
+    let mut frame = bytes_of(rt, alloc, text);
+    assert!(rt; frame.len() >= 20);
+    strip_in_place(&mut frame);
+    expect_bytes(rt, alloc, frame.get(8..).unwrap_or(&[]), wanted);
 }
 
 #[test]
 fn e_tags_are_put_in_and_taken_out(rt: HostRuntime) {
     let alloc = rt.alloc();
-    let tagged = "12x07 893FB00310020000 48x07";
-    let mut out = FrameBuf::new();
-    tag(&rt, alloc, "60x07", &mut out, "(true, 68)");
-    expect_bytes(&rt, alloc, out.as_slice(), tagged);
-    strip(&rt, alloc, tagged, &mut out, "(true, 60)");
-    expect_bytes(&rt, alloc, out.as_slice(), "60x07");
+    let tagged = "6x07 6x08 893FB00310020000 48x09";
+    tag(&rt, alloc, "6x07 6x08 48x09", tagged);
+    strip(&rt, alloc, tagged, "6x07 6x08 48x09");
+    strip_there(&rt, alloc, tagged, "6x07 6x08 48x09");
     expect_bytes(&rt, alloc, &TAG.write(), "893FB00310020000");
-}
-
-#[test]
-fn nothing_longer_than_the_buffer_is_made(rt: HostRuntime) {
-    let alloc = rt.alloc();
-    let mut out = FrameBuf::new();
-    tag(&rt, alloc, "9224x00", &mut out, "(true, 9232)");
-    tag(&rt, alloc, "9225x00", &mut out, "(false, 0)");
-    strip(&rt, alloc, "9240x00", &mut out, "(true, 9232)");
-    strip(&rt, alloc, "9241x00", &mut out, "(false, 0)");
 }
 
 /// Whether a frame is one that leaves a port.
@@ -129,9 +126,10 @@ pub(crate) fn may_leave(frame: &[u8]) -> bool
 // Asserts with which bytes a frame leaves with PCP 3 in VLAN 7.
 fn leave(rt: &impl Abort, alloc: Global, frame: &[u8], kind: Kind, dei: bool, wanted: &str) {
     let vid = Vid::new(7).expect(rt, "a VLAN");
-    let mut out = FrameBuf::new();
+    let tag = VlanTag { pcp: 3, dei, vid };
+    let mut out = Vec::new(alloc);
     if may_leave(frame) {
-        egress_into(frame, kind, 3, dei, vid, &mut out);
+        egress_into(frame, kind, &tag, &mut out).expect(rt, "memory");
     }
     expect_bytes(rt, alloc, out.as_slice(), wanted);
 }

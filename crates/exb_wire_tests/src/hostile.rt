@@ -9,12 +9,12 @@ use crate::words::{bytes_of, told};
 use cases::{ANNOUNCEMENTS, E_TAGS, ECP, FRAMES, MESSAGES};
 use exb_ecp::Pdu;
 use exb_frame::classify::classify;
-use exb_frame::egress::egress_into;
+use exb_frame::egress::{VlanTag, egress_into};
 use exb_frame::etag::ETag;
 use exb_hostile::turned::{BITS, turn, verdict_at, verdict_of_bit};
 use exb_lldp::Announce;
 use exb_model::address::Mac;
-use exb_model::buffers::{ControlBuf, FrameBuf};
+use exb_model::buffers::ControlBuf;
 use exb_model::frame_kind::Seen;
 use exb_model::vlan::{Kind, Vid};
 use std::alloc::Global;
@@ -127,18 +127,34 @@ fn etag(rt: &impl Abort, alloc: Global, frame: &[u8], again: &mut Vec<u8>) -> St
 }
 
 // The frame as it leaves.
-fn left(rt: &impl Abort, frame: &[u8], kind: Kind, pcp: u8, dei: bool, vid: Vid) -> FrameBuf {
-    let mut out = FrameBuf::new();
+fn left(rt: &impl Abort, alloc: Global, frame: &[u8], kind: Kind, tag: &VlanTag) -> Vec<u8> {
+    let mut out = Vec::new(alloc);
     let can_leave = may_leave(frame);
     assert!(rt; can_leave);
-    assert!(rt; pcp < 8);
-    egress_into(frame, kind, pcp, dei, vid, &mut out);
+    assert!(rt; tag.pcp < 8);
+    egress_into(frame, kind, tag, &mut out).expect(rt, "memory");
     out
 }
 
+// The VLAN tag of a frame that has none.
+fn no_tag() -> VlanTag {
+    VlanTag {
+        pcp: 0,
+        dei: false,
+        vid: Vid::default(),
+    }
+}
+
 // A frame leaves without its priority tag, which is put in again.
-fn write_priority(rt: &impl Abort, frame: &[u8], pcp: u8, dei: bool, again: &mut Vec<u8>) {
-    let out = left(rt, frame, Kind::Untagged, 0, false, Vid::default());
+fn write_priority(
+    rt: &impl Abort,
+    alloc: Global,
+    frame: &[u8],
+    pcp: u8,
+    dei: bool,
+    again: &mut Vec<u8>,
+) {
+    let out = left(rt, alloc, frame, Kind::Untagged, &no_tag());
     let (addresses, body) = out.as_slice().split_at_checked(12).expect(rt, "addresses");
     let high: u8 = pcp
         .wrapping_mul(32)
@@ -150,25 +166,25 @@ fn write_priority(rt: &impl Abort, frame: &[u8], pcp: u8, dei: bool, again: &mut
 
 fn write_frame(
     rt: &impl Abort,
+    alloc: Global,
     frame: &[u8],
     kind: Kind,
-    pcp: u8,
-    dei: bool,
-    vid: Vid,
+    tag: &VlanTag,
     again: &mut Vec<u8>,
 ) {
-    let out = left(rt, frame, kind, pcp, dei, vid);
+    let out = left(rt, alloc, frame, kind, tag);
     put(rt, again, out.as_slice());
 }
 
 // A frame leaves by its own VLAN tag as it came.
 fn frame(rt: &impl Abort, alloc: Global, frame: &[u8], again: &mut Vec<u8>) -> String {
     match classify(frame) {
-        Seen::Plain => write_frame(rt, frame, Kind::Untagged, 0, false, Vid::default(), again),
+        Seen::Plain => write_frame(rt, alloc, frame, Kind::Untagged, &no_tag(), again),
         Seen::Tagged { pcp, dei, vid } => {
-            write_frame(rt, frame, Kind::Tagged, pcp, dei, vid, again)
+            let tag = VlanTag { pcp, dei, vid };
+            write_frame(rt, alloc, frame, Kind::Tagged, &tag, again)
         }
-        Seen::Priority { pcp, dei } => write_priority(rt, frame, pcp, dei, again),
+        Seen::Priority { pcp, dei } => write_priority(rt, alloc, frame, pcp, dei, again),
         seen => return told(rt, alloc, &seen),
     }
     ok(rt, alloc)

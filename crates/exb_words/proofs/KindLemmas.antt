@@ -1,13 +1,13 @@
 -- Kinds of files, their numbers, and their places behind the captures.
-use Rattle.std.proofs.Common.{◌≡◌, ◌≢◌, ◌⊎◌, ◌<◌, ◌≤◌, ◌+◌, ◌==◌, ◌&&◌, ◌++◌, inl, inr, ℕ, zero, suc, Bool, true, false, if◌then◌else◌, List, [], ◌∷◌, length, get_or, drop, filter, Option, Some, None, All, refl, ap, sym, subst, ◌∙◌, arith, eq-eqb, append_assoc}
-use Rattle.std.specs.Prelude.{codes, unwrap_or}
+use Rattle.std.proofs.Common.{◌≡◌, ◌≢◌, ◌⊎◌, ◌<◌, ◌≤◌, ◌+◌, ◌==◌, ◌&&◌, ◌++◌, inl, inr, ℕ, zero, suc, Bool, true, false, if◌then◌else◌, List, [], ◌∷◌, length, get_or, set, drop, filter, Option, Some, None, refl, ap, sym, ◌∙◌, arith, eq-eqb, append_assoc}
+use Rattle.std.specs.Prelude.{slice_index, unwrap_or}
 use Rattle.std.proofs.lemmas.Bool.{cases_eq, eqb-true, false≢true, ne_eqb}
-use Rattle.std.proofs.lemmas.List.{append-nil}
+use Rattle.std.proofs.lemmas.List.{append-nil, get_or-set_same, get_or-set_other}
 use Rattle.std.proofs.lemmas.List.Elements.{filter_passes}
-use Rattle.exb_model.specs.Texts.{port_name}
 use Rattle.exb_text.specs.declared.output.Output.{Output}
 use Rattle.exb_text.specs.declared.output.Output.TheVariants as output
-use Rattle.exb_text.specs.Names.{IsOfPort, capture_name, counters_name, file_name, journal_name, other_outputs, trace_name}
+use Rattle.exb_text.specs.Names.{IsOfPort, file_name, other_outputs}
+use Rattle.exb_text.proofs.NameLemmas.{name_behind}
 use Rattle.exb_words.specs.declared.asked.Options.{Options}
 use Rattle.exb_words.specs.Kinds.{is_asked, is_same, kinds_behind, number_of, place_among, place_behind, port_of}
 
@@ -43,13 +43,15 @@ no_port output.Journal above = refl
 no_port output.Trace above = refl
 no_port output.Counters above = refl
 
+pub number_low : (o : Output) → number_of o < 4
+number_low (output.Capture q) = omega arith
+number_low output.Journal = omega arith
+number_low output.Trace = omega arith
+number_low output.Counters = omega arith
+
 -- its file has a name that begins as all do
 pub name_begins : (prefix : List ℕ) (o : Output) → (rest : List ℕ) × (file_name prefix o ≡ prefix ++ rest)
-unfolding capture_name journal_name trace_name counters_name
-name_begins prefix (output.Capture q) = (port_name q ++ codes ".pcap", append_assoc prefix (port_name q) (codes ".pcap"))
-name_begins prefix output.Journal = (codes "journal.txt", refl)
-name_begins prefix output.Trace = (codes "trace.txt", refl)
-name_begins prefix output.Counters = (codes "counters.txt", refl)
+name_begins prefix o = (file_name [] o, name_behind prefix o)
 
 -- a kind stands in a list
 abbrev pub IsIn : Output → List Output → Type 0
@@ -209,13 +211,21 @@ place_ends n [] (suc k) low = refl
 place_ends n (x ∷ xs) zero low = absurd (omega (arith, low))
 place_ends n (x ∷ xs) (suc k) low = place_ends n xs k (omega (arith, low))
 
-place_low : (n : ℕ) (xs : List Output) → place_among n xs ≤ length xs
+pub place_low : (n : ℕ) (xs : List Output) → place_among n xs ≤ length xs
 place_low n [] = omega arith
 place_low n (x ∷ xs) = by_test (number_of x == n) (place_low n xs)
   where
     by_test : (b : Bool) → place_among n xs ≤ length xs → (if b then 0 else suc (place_among n xs)) ≤ suc (length xs)
     by_test true rest = omega arith
     by_test false rest = omega (arith, rest)
+
+-- ---- the table of places
+pub place_put : (kinds : List Output) (places : List ℕ) (i : ℕ) → i < length places → ((n : ℕ) → n < i → slice_index places n ≡ place_among n kinds) → (n : ℕ) → n < i + 1 → slice_index (set places i (place_among i kinds)) n ≡ place_among n kinds
+place_put kinds places i inside before n low = elim (cases_eq n i) [
+  | inl is ↦
+      ap (slice_index (set places i (place_among i kinds))) is ∙ get_or-set_same places i (place_among i kinds) 0 inside ∙ ap (λ (k : ℕ). place_among k kinds) (sym is)
+  | inr other ↦ get_or-set_other places i n (place_among i kinds) 0 other ∙ before n (omega (arith, other, low))
+]
 
 pub few_places : (options : Options) (n : ℕ) → place_among n (kinds_behind options) ≤ 256
 few_places options n = (let low = place_low n (kinds_behind options) in let few = few_behind options in omega (arith, low, few))

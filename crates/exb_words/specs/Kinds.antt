@@ -1,5 +1,5 @@
 -- The kinds of files that runs write: which are asked for, and in which order they stand behind the captures.
-use Rattle.std.specs.Prelude.{ℕ, suc, Bool, true, false, ◌==◌, ◌&&◌, if◌then◌else◌, List, [], ◌∷◌, filter, Option, Some, None, unwrap_or}
+use Rattle.std.specs.Prelude.{◌≡◌, ◌<◌, ℕ, suc, Bool, true, false, ◌==◌, ◌&&◌, if◌then◌else◌, List, [], ◌∷◌, filter, Option, Some, None, unwrap_or, slice_index}
 use Rattle.exb_text.specs.declared.output.Output.{Output}
 use Rattle.exb_text.specs.declared.output.Output.TheVariants as output
 use Rattle.exb_text.specs.Names.{other_outputs}
@@ -48,3 +48,7 @@ place_among n (x ∷ xs) = if number_of x == n then 0 else suc (place_among n xs
 -- and its place behind the captures
 abbrev pub place_behind : Options → Output → ℕ
 place_behind o k = place_among (number_of k) (kinds_behind o)
+
+-- a table has the place of the kind of each number in a list
+pub record ArePlaces (kinds : List Output) (places : List ℕ) : Type 0 where
+  pub each : (n : ℕ) → n < 4 → slice_index places n ≡ place_among n kinds

@@ -1,7 +1,7 @@
 //! The kinds of files behind the captures that are asked for.
 ghost use Rattle.std.specs.Prelude.{◌≡◌, ◌<◌, ◌≤◌, ◌++◌, ◌∷◌, [], if◌then◌else◌, get_or, length, IfOk, OnOk};
 ghost use Rattle.exb_text.specs.declared.output.Output.TheVariants as output;
-ghost use Rattle.exb_words.specs.Kinds.{kinds_behind, number_of, place_among, place_behind};
+ghost use Rattle.exb_words.specs.Kinds.{ArePlaces, kinds_behind, number_of, place_among, place_behind};
 
 use crate::asked::Options;
 use exb_model::memory::NoMemory;
@@ -9,26 +9,32 @@ use exb_text::Output;
 use std::alloc::Global;
 use std::marker::Model;
 
+/// How many kinds there are, captures among them.
+const KINDS: usize = 4;
+
 /// What a run is asked for, with the kinds of files behind the captures that it makes, in their order.
 #[derive(Drop)]
 pub struct Kinds {
     options: Options,
     behind: Vec<Output>,
+    /// The place of the kind of each number among them.
+    places: [u16; KINDS],
 }
 
 impl Model for Kinds {
     ghost use Rattle.std.specs.Prelude.{◌≡◌};
     ghost use Rattle.exb_words.specs.declared.asked.Options.{Options};
-    ghost use Rattle.exb_words.specs.Kinds.{kinds_behind};
+    ghost use Rattle.exb_words.specs.Kinds.{ArePlaces, kinds_behind};
 
     ghost Value = { Options };
 
     ghost view = { λ k. k.options };
 
-    ghost invariant = { λ k. k.behind.items ≡ kinds_behind k.options };
+    ghost invariant = { λ k. (k.behind.items ≡ kinds_behind k.options) × ArePlaces (kinds_behind k.options) k.places };
 }
 
 /// The number of a kind.
+#[inline(always)]
 fn number_of(kind: Output) -> u8
     ensures { result ≡ number_of kind }
 {
@@ -75,13 +81,30 @@ fn place_among(kinds: &[Output], number: u8) -> usize
     at
 }
 
+/// The place of the kind of each number among others.
+fn places_among(kinds: &[Output]) -> [u16; KINDS]
+    requires { length kinds.now ≤ 256 }
+    ensures { ArePlaces kinds.now result }
+{
+    let mut places = [0u16; KINDS];
+    for number in 0..KINDS {
+        places[number] = place_among(kinds, number as u8) as u16;
+    }
+    places
+}
+
 impl Kinds {
     /// What is asked for.
     pub fn new(alloc: Global, options: Options) -> Result<Kinds, NoMemory>
         ensures { IfOk result (λ kinds. kinds ≡ options) }
     {
         let behind = kinds_of(alloc, options)?;
-        Ok(Kinds { options, behind })
+        let places = places_among(behind.as_slice());
+        Ok(Kinds {
+            options,
+            behind,
+            places,
+        })
     }
 
     /// The options.
@@ -109,10 +132,11 @@ impl Kinds {
     }
 
     /// The place of a kind behind the captures.
+    #[inline(always)]
     pub fn place(&self, kind: Output) -> u16
         ensures value { result ≡ place_behind self.now kind }
         ensures range { result ≤ 256 }
     {
-        place_among(self.behind.as_slice(), number_of(kind)) as u16
+        self.places[number_of(kind) as usize]
     }
 }

@@ -1,9 +1,5 @@
 -- Lines behind the file of a kind, one after another.
-use Rattle.std.proofs.Common.{◌≡◌, ◌≢◌, ◌<◌, ◌+◌, ◌++◌, ◌⊎◌, inl, inr, ℕ, Bool, true, false, if◌then◌else◌, ◌==◌, List, [], ◌∷◌, length, take, get_or, set, map, ap, sym, ◌∙◌, refl, arith, subst, append_assoc, eq-eqb, get_or-set_same, get_or-set_other, flat_map, zero, suc, drop, Some}
-use Rattle.std.proofs.lemmas.Bool.{cases_lt, cases_eq, ne_eqb}
-use Rattle.std.proofs.lemmas.List.{append-nil, map-set, get_or-map, get_or_append_left, length-map, take_more}
-use Rattle.std.proofs.lemmas.Grind.{flat_map-append}
-use Rattle.std.proofs.Math.Seq.{get_or-append_seam}
+use Rattle.std.proofs.Common.{◌≡◌, ◌<◌, ◌+◌, ◌++◌, ℕ, List, [], ◌∷◌, length, take, get_or, refl, drop}
 use Rattle.exb_model.specs.declared.event.Event.{Event}
 use Rattle.exb_model.specs.Texts.{line_of}
 use Rattle.exb_model.specs.Traces.{TraceLine, trace_line, trace_text}

@@ -1,5 +1,5 @@
 //! Events as lines of the journal.
-ghost use Rattle.std.specs.Prelude.{◌≡◌, ◌++◌, ◌∷◌, [], ℕ, List, IfErr, OnErr, OnOk};
+ghost use Rattle.std.specs.Prelude.{◌++◌, ◌∷◌, [], ℕ, List, IfErr, OnErr, OnOk};
 ghost use Rattle.exb_model.specs.Texts.{line_of};
 ghost use Rattle.exb_shelf.specs.Files.{Files};
 ghost use Rattle.exb_text.specs.declared.output.Output.{Output};
@@ -13,14 +13,15 @@ use exb_inputs::Fault;
 use exb_model::event::Event;
 use exb_outputs::{Outputs, Plan};
 use exb_shelf::Shelf;
-use exb_text::{Output, write_line};
+use exb_text::{LineRoom, Output};
 
 /// Puts the line of an event behind the journal.
+#[inline(always)]
 fn add_event<S: Shelf>(
     shelf: &mut S,
     plan: &Plan,
     outputs: &mut Outputs,
-    line: &mut String,
+    room: &mut LineRoom,
     event: &Event,
 ) -> Result<(), Fault>
     requires ready { IsReady plan.now (S.ids shelf.old) outputs.old }
@@ -34,19 +35,19 @@ fn add_event<S: Shelf>(
     ensures causes { IfErr result IsOfWriting }
     ensures faults { CountsFaults result (S.faults shelf.old) (S.faults shelf.new) }
 {
-    line.clear();
-    if write_line(line, event).is_err() {
-        return Err(Fault::Memory);
+    match room.line(event) {
+        Ok(line) => outputs.write(shelf, plan, Output::Journal, line),
+        Err(_) => Err(Fault::Memory),
     }
-    outputs.write(shelf, plan, Output::Journal, line.as_bytes())
 }
 
-/// Puts the lines of events behind the journal. `line` is room for one line.
+/// Puts the lines of events behind the journal.
+#[inline(always)]
 pub fn write_events<S: Shelf>(
     shelf: &mut S,
     plan: &Plan,
     outputs: &mut Outputs,
-    line: &mut String,
+    room: &mut LineRoom,
     events: &[Event],
 ) -> Result<(), Fault>
     requires ready { IsReady plan.now (S.ids shelf.old) outputs.old }
@@ -61,7 +62,7 @@ pub fn write_events<S: Shelf>(
     ensures faults { CountsFaults result (S.faults shelf.old) (S.faults shelf.new) }
 {
     for event in events {
-        add_event(shelf, plan, outputs, line, event)?;
+        add_event(shelf, plan, outputs, room, event)?;
     }
     Ok(())
 }

@@ -1,5 +1,5 @@
 //! What leaves goes behind the captures of its ports.
-ghost use Rattle.std.specs.Prelude.{◌≡◌, ◌++◌, ℕ, List, IfErr, OnErr, OnOk, All};
+ghost use Rattle.std.specs.Prelude.{ℕ, List, IfErr, OnErr, OnOk, All};
 ghost use Rattle.exb_shelf.specs.Files.{Files};
 ghost use Rattle.exb_model.specs.FlatBridge.{Sent};
 ghost use Rattle.exb_model.specs.Texts.{record_text as record_of};
@@ -17,6 +17,7 @@ use exb_outputs::{Outputs, Plan};
 use exb_shelf::Shelf;
 
 /// Puts a frame that left a port behind the port's capture.
+#[inline(always)]
 fn add_left<S: Shelf>(
     shelf: &mut S,
     plan: &Plan,
@@ -40,6 +41,7 @@ fn add_left<S: Shelf>(
 }
 
 /// Puts frames that left behind the captures of their ports.
+#[inline(always)]
 pub fn write_left<S: Shelf>(
     shelf: &mut S,
     plan: &Plan,

@@ -1,5 +1,5 @@
 //! All that a world tells, written in the files of its kinds.
-ghost use Rattle.std.specs.Prelude.{◌≡◌, ℕ, List, All, IfErr, OnErr, OnOk};
+ghost use Rattle.std.specs.Prelude.{ℕ, List, All, IfErr, OnErr, OnOk};
 ghost use Rattle.exb_model.specs.FlatBridge.{Sent};
 ghost use Rattle.exb_shelf.specs.Files.{Files};
 ghost use Rattle.exb_text.specs.declared.output.Output.{Output};
@@ -22,12 +22,13 @@ use exb_model::trace::TraceLine;
 use exb_network::Left;
 use exb_outputs::{Outputs, Plan};
 use exb_shelf::Shelf;
+use exb_text::LineRoom;
 use std::alloc::Global;
 
 /// Room for one line of the journal and for one of the trace.
 #[derive(Drop)]
 pub struct Room {
-    line: String,
+    line: LineRoom,
     text: Vec<u8>,
 }
 
@@ -35,13 +36,14 @@ impl Room {
     /// Room that grows with what is put there.
     pub fn new(alloc: Global) -> Room {
         Room {
-            line: String::new(alloc),
+            line: LineRoom::new(alloc),
             text: Vec::new(alloc),
         }
     }
 }
 
 /// Writes what was told: the events, the frames that left, and the lines of the trace.
+#[inline(always)]
 pub fn write_told<S: Shelf>(
     shelf: &mut S,
     plan: &Plan,

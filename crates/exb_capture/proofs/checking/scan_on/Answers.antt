@@ -44,7 +44,6 @@ records-preserved g c =
       at =
           subst (λ (n : ℕ). IsAt (S.ids c.ahead.new.shelf next.id) n) (sym c.pass.ensures.got)
           (subst (λ (k : ℕ). IsAt (S.ids c.ahead.new.shelf k) seen.got) (sym c.pass.ensures.same.id) found.at);
-      piece = c.ahead.ensures.piece ∙ inv.piece;
       sound = c.pass.ensures.sound;
       same = record {
         id = c.pass.ensures.same.id ∙ (c.ahead.ensures.same.id ∙ inv.same.id);

@@ -1,4 +1,4 @@
-use Rattle.std.proofs.Common.{◌≡◌, ◌<◌, ◌*◌, ◌^◌, [], length}
+use Rattle.std.proofs.Common.{◌≡◌, ◌<◌, ◌*◌, ◌^◌, []}
 use Rattle.std.specs.Prelude.{IfSome}
 use Rattle.exb_shelf.specs.Files.{SameFiles, bytes_of}
 use Rattle.exb_shelf.specs.Shelf.{NoFewer}
@@ -12,7 +12,6 @@ invariant-records g l =
     let bytes = bytes_of (S.file l.fn.shelf (S.ids l.fn.shelf l.fn.file.id).name) in
     record {
       at : IsAt (S.ids l.shelf l.file.id) l.file.got;
-      piece : length l.piece ≡ length l.fn.piece;
       sound : IsSound l.file;
       same : IsSameFile l.fn.file l.file;
       counted : S.tells → HasRead bytes [] l.fn.file → HasCounted bytes l.file l.scanned;

@@ -46,7 +46,6 @@ records-preserved g c =
       at =
           subst (λ (n : ℕ). IsAt (S.ids c.ahead.new.shelf next.id) n) (sym took.got)
           (subst (λ (k : ℕ). IsAt (S.ids c.ahead.new.shelf k) seen.got) (sym took.same.id) found.at);
-      piece = c.ahead.ensures.piece ∙ inv.piece;
       sound = took.sound;
       same = record {
         id = took.same.id ∙ (c.ahead.ensures.same.id ∙ inv.same.id);

@@ -1,4 +1,4 @@
-use Rattle.std.proofs.Common.{◌≡◌, [], length}
+use Rattle.std.proofs.Common.{◌≡◌, []}
 use Rattle.exb_shelf.specs.Files.{SameFiles, bytes_of}
 use Rattle.exb_shelf.specs.Shelf.{NoFewer}
 use Rattle.exb_capture.specs.Reading.{IsAt, IsSameFile, IsSound, HasRead, MovesOn, left_to_read}
@@ -11,7 +11,6 @@ invariant-records g l =
     let bytes = bytes_of (S.file l.fn.shelf (S.ids l.fn.shelf l.fn.file.id).name) in
     record {
       at : IsAt (S.ids l.shelf l.file.id) l.file.got;
-      piece : length l.piece ≡ length l.fn.piece;
       sound : IsSound l.file;
       same : IsSameFile l.fn.file l.file;
       taken : S.tells → HasRead bytes [] l.fn.file → HasTaken bytes l.file l.frames.items;

@@ -5,7 +5,7 @@ use Rattle.exb_audit.proofs.Cuts.{item_is, item_more}
 use Rattle.exb_audit.proofs.Entered.{get_item}
 use Rattle.exb_audit.specs.declared.frames.PortFrames.{PortFrames}
 use Rattle.exb_evidence.specs.declared.frames.PortFile.{PortFile}
-use Rattle.exb_evidence.specs.Frames.{EachIsRead, IsFlaw, IsReadFrom, records_by, total}
+use Rattle.exb_evidence.specs.Frames.{EachIsRead, IsFlaw, records_by, total}
 use Rattle.exb_evidence.proofs.Counted.{frames_from}
 use Rattle.exb_evidence.proofs.Filing.{all_good, each_more, rest_more}
 use Rattle.exb_evidence.proofs.frames.read_frames.Goals as goal
@@ -76,7 +76,6 @@ files-preserved g c =
           let h = c.in_ok-taken.ensures.taken t in
           subst (λ (xs : List PortFile). total f xs + (c.files.left - taken.bytes) ≡ c.args.limit) (sym more)
           (rest_more f (take i files) one h.bytes taken.bytes c.files.left c.args.limit (inv.rest t) (sym (inv.kept one.name) ∙ h.there) h.taken.size c.in_ok-taken.ensures.bytes);
-      piece = c.in_ok-taken.ensures.piece ∙ inv.piece;
       opened =
           opens_then _ _ _ _ inv.opened
           (opens_weaker _ _ _ _ (λ k reads. record { at = i; one = one; is = get_item files i one c.one-item.is c.files-test.true; reads = reads }) c.in_ok-taken.ensures.opened);

@@ -1,4 +1,4 @@
-use Rattle.std.proofs.Common.{◌≡◌, ◌+◌, ◌≤◌, length, take}
+use Rattle.std.proofs.Common.{◌≡◌, ◌+◌, take}
 use Rattle.exb_shelf.specs.Files.{SameFiles}
 use Rattle.exb_shelf.specs.Shelf.{Opens, NoFewer}
 use Rattle.exb_evidence.specs.Frames.{EachIsRead, ReadsOneOf, records_by, total}
@@ -10,7 +10,6 @@ invariant-files g l =
     record {
       each : S.tells → EachIsRead (records_by l.grammar) (S.file l.fn.shelf) (take l.one-index l.files) l.all.items;
       rest : S.tells → total (S.file l.fn.shelf) (take l.one-index l.files) + l.left ≡ l.limit;
-      piece : length l.piece ≡ 65536;
       opened : Opens (ReadsOneOf l.files) (S.ids l.fn.shelf) (S.ids l.shelf);
       kept : SameFiles (S.file l.fn.shelf) (S.file l.shelf);
       faults : NoFewer (S.faults l.fn.shelf) (S.faults l.shelf);

@@ -1,4 +1,3 @@
-use Rattle.std.proofs.Common.{◌<◌, length}
 use Rattle.exb_faulty.specs.Faulty.{ids_of}
 use Rattle.exb_capture.specs.Reading.{IsAt}
 use Rattle.exb_capture.specs.Replaying.{IsKept}
@@ -8,5 +7,4 @@ abbrev pub invariant-records : goal.invariant-records
 invariant-records g l = record {
   at : IsAt (ids_of l.shelf l.replay.file.id) l.replay.file.got;
   kept : IsKept l.replay;
-  piece : 0 < length l.piece;
 }

@@ -1,5 +1,6 @@
-use Rattle.std.proofs.Common.{rules, ◌≡◌, ◌+◌, ◌++◌, ◌∷◌, [], false, List, map, take, sum_by, refl, ap, sym, subst, ◌∙◌, arith}
+use Rattle.std.proofs.Common.{rules, ◌≡◌, ◌≤◌, ◌++◌, ◌∷◌, [], false, List, map, take, sum_by, refl, ap, sym, subst, ◌∙◌, arith}
 use Rattle.std.specs.List.{AllByRecursion}
+use Rattle.std.specs.Prelude.{IfSome}
 use Rattle.std.proofs.lemmas.Result.{err_from_is_err_and}
 use Rattle.exb_merge.specs.declared.replays.Again.{Again}
 use Rattle.exb_merge.specs.Replays.{AreReplays, HasPort, ids_in, left_in, standing_of}
@@ -7,10 +8,11 @@ use Rattle.exb_capture.specs.Reading.{left_to_read}
 use Rattle.exb_merge.specs.Streams.{Stream}
 use Rattle.exb_shelf.specs.Files.{Files}
 use Rattle.exb_shelf.proofs.IdLemmas.{opens_none, opens_then}
+use Rattle.exb_model.specs.Input.{second_of}
+use Rattle.exb_inputs.specs.declared.checked.Checked.{Checked}
 use Rattle.exb_inputs.specs.Checks.{IsToldOf}
-use Rattle.exb_inputs.specs.Again.{first_standing, start_told, stream_told}
+use Rattle.exb_inputs.specs.Again.{first_standing, stream_told}
 use Rattle.exb_inputs.specs.Shelving.{ReadsCapture}
-use Rattle.exb_inputs.proofs.Beginning.{told-since}
 use Rattle.exb_inputs.proofs.Reopening.{bytes-more, fresh-more, opened-so, port-named, port-new, since-none, standings-more, stream-told-same, streams-more}
 use Rattle.exb_inputs.proofs.Outcomes.{files_same}
 use Rattle.exb_inputs.proofs.ShelvingLemmas.{fewer_then, counts_as, counts_from}
@@ -34,13 +36,12 @@ opening-init g c =
     subst (λ (ss : List Again). AllByRecursion (λ k. (S.ids c.args.shelf.now k).given ≡ false) (map (λ (s : Again). s.replay.file.id) ss)) (sym none) tt in
     let size : left_in c.new-captures.result ≡ 0 = ap (λ (ss : List Again). sum_by (λ (s : Again). left_to_read s.replay.file) ss) none in
     record {
-      piece = refl;
       opened = c.new-captures.ensures.opened (S.ids c.args.shelf.now);
       named = named;
       fresh = fresh;
       standing = ap (map standing_of) none;
       left = omega (arith, size);
-      since = since-none (start_told c.args.checked.now) c.new-captures.result none;
+      since = λ second all. since-none second c.new-captures.result none;
       streams = λ t. subst (λ (ss : List Again). AreReplays (S.file c.args.shelf.now) (S.ids c.args.shelf.now) ss []) (sym none) tt;
       opens = opens_none _ _;
       files = λ n. refl;
@@ -72,13 +73,12 @@ opening-preserved g c =
     let ok = c.in_ok-open_one.ensures in
     let file = S.file c.args.shelf.now in
     record {
-      piece = c.open_one.ensures.piece ∙ inv.piece;
       opened = ok.opened;
       named = ok.named inv.named;
       fresh = fresh-more (S.ids c.args.shelf.now) (S.ids c.opening.shelf) (ids_in c.opening.captures) (ids_in c.open_one.new.captures) ok.id.0 ok.id.1 (opened-so (ReadsCapture names) (S.ids c.args.shelf.now) (S.ids c.opening.shelf) inv.opens) ok.id.2 inv.fresh;
       standing = ok.standings ∙ ap (λ xs. xs ++ first_standing one ∷ []) inv.standing ∙ standings-more cs at one low is;
       left = (let most = ok.left in let was = inv.left in let more = bytes-more cs at one low is in omega (arith, most, was, more));
-      since = ok.since (start_told cs) (told-since cs at one low is) inv.since;
+      since = λ second all. ok.since second (subst (λ (d : Checked). IfSome d.told.first (λ first. second ≤ second_of first)) (sym is) (all at one low)) (inv.since second all);
       streams = λ t.
           (let told : IsToldOf names file one = subst (IsToldOf names file) (sym is) (c.requires.checked.told t at one low) in
           let own : IsToldOf names (S.file c.opening.shelf) one = stream-told-same names file (S.file c.opening.shelf) one inv.files told in

@@ -1,7 +1,7 @@
 use Rattle.std.proofs.Common.{◌<◌, ◌^◌, length, ap, arith}
 use Rattle.exb_schedule.specs.Playing.{arrived}
 use Rattle.exb_net.proofs.Entering.{on_ok_of, when_ok}
-use Rattle.exb_net.proofs.Places.{at_place, falls_set, of_all}
+use Rattle.exb_net.proofs.Places.{at_place, falls_set, of_all, set_there}
 use Rattle.exb_net.proofs.Turning.{begins_so, coming_can, coming_here}
 use Rattle.exb_net.proofs.net.begin.Goals as goal
 
@@ -39,3 +39,6 @@ returns-clause-fates g c =
     let inside : c.args.bridge < length nodes = coming_here _ _ _ _ _ nodes c.args.queue.now.items c.requires.can.1.1.1 in
     on_ok_of c.enter.result
     (falls_set (λ x. (goal.Fate-dyn g (x.world.fate.vtable, x.world.fate.value)).left x.world.fate.value) nodes c.args.bridge c.index_mut.result.now c.enter.new.node (at_place nodes c.args.bridge c.index_mut.result.now inside c.index_mut.ensures.value) c.enter.ensures.fate)
+
+pub returns-clause-others : goal.returns-clause-others
+returns-clause-others g c = λ b ne. set_there c.args.nodes.now.items c.args.bridge b c.enter.new.node ne

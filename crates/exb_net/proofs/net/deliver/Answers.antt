@@ -1,6 +1,6 @@
 use Rattle.std.proofs.Common.{◌<◌, ◌^◌, length, arith}
 use Rattle.exb_net.proofs.Entering.{on_ok_of, when_ok}
-use Rattle.exb_net.proofs.Places.{at_place, falls_set, of_all}
+use Rattle.exb_net.proofs.Places.{at_place, falls_set, of_all, set_there}
 use Rattle.exb_net.proofs.Turning.{delivered_so, is_here, may_come}
 use Rattle.exb_net.proofs.net.deliver.Goals as goal
 
@@ -51,3 +51,6 @@ returns-clause-fates g c =
     is_here c.bridges_handle.ensures c.deliveries_end_soon.ensures t.0 t.1.0 nodes c.args.crossing c.args.queue.now.items t.1.1.0 t.1.1.1.0 in
     on_ok_of c.let_come.result
     (falls_set (λ x. (goal.Fate-dyn g (x.world.fate.vtable, x.world.fate.value)).left x.world.fate.value) nodes c.args.crossing.to.bridge c.index_mut.result.now c.let_come.new.node (at_place nodes c.args.crossing.to.bridge c.index_mut.result.now inside c.index_mut.ensures.value) c.let_come.ensures.fate)
+
+pub returns-clause-others : goal.returns-clause-others
+returns-clause-others g c = λ b ne. set_there c.args.nodes.now.items c.args.crossing.to.bridge b c.let_come.new.node ne

@@ -1,6 +1,5 @@
-use Rattle.std.proofs.Common.{◌^◌}
+use Rattle.std.proofs.Common.{◌^◌, ◌∙◌}
 use Rattle.exb_schedule.specs.Playing.{arrived}
-use Rattle.exb_net.proofs.Entering.{when_ok}
 use Rattle.exb_net.proofs.Places.{falls_then, stay_few}
 use Rattle.exb_net.proofs.net.play_arrival.Goals as goal
 
@@ -17,12 +16,12 @@ pub deliver_all-requires-clause-few : goal.deliver_all-requires-clause-few
 deliver_all-requires-clause-few g c = stay_few (λ x. (goal.Fate-dyn g (x.world.fate.vtable, x.world.fate.value)).left x.world.fate.value) (2 ^ 57) c.args.nodes.now.items c.begin.new.nodes.items c.requires.few c.in_ok-begin.ensures.fates
 
 pub returns-clause-ok : goal.returns-clause-ok
-returns-clause-ok g c =
-    when_ok c.deliver_all.result
-    (λ played. λ n s told k e.
-    (let b = c.in_ok-begin.ensures.ok n s told k in played (record { net = n; bridge = c.args.bridge; arrival = arrived c.args.arrival.now; dones = s; told = told; given = b.given }) b.turn b.delivered e))
-    c.deliver_all.ensures.ok
+returns-clause-ok g c = λ n s told k e.
+    (let b = c.in_ok-begin.ensures.ok n s told k in
+    c.in_ok-touched.ensures.ok (record { net = n; bridge = c.args.bridge; arrival = arrived c.args.arrival.now; dones = s; told = told; given = b.given }) b.turn b.delivered e)
+
+pub returns-clause-others : goal.returns-clause-others
+returns-clause-others g c = record { each = λ b none. (let apart = c.with_mark.ensures b none in c.in_ok-touched.ensures.others.each b apart.0 ∙ c.begin.ensures.others b apart.1) }
 
 pub returns-clause-fates : goal.returns-clause-fates
-returns-clause-fates g c =
-    when_ok c.deliver_all.result (λ falls. falls_then (λ x. (goal.Fate-dyn g (x.world.fate.vtable, x.world.fate.value)).left x.world.fate.value) c.args.nodes.now.items c.begin.new.nodes.items c.deliver_all.new.nodes.items c.in_ok-begin.ensures.fates falls) c.deliver_all.ensures.fates
+returns-clause-fates g c = falls_then (λ x. (goal.Fate-dyn g (x.world.fate.vtable, x.world.fate.value)).left x.world.fate.value) c.args.nodes.now.items c.begin.new.nodes.items c.deliver_all.new.nodes.items c.in_ok-begin.ensures.fates c.in_ok-touched.ensures.fates

@@ -1,10 +1,10 @@
-use Rattle.std.proofs.Common.{◌≡◌, ◌∙◌, ◌⊎◌, inl, inr, List, subst}
+use Rattle.std.proofs.Common.{◌∙◌, inl, inr, subst}
 use Rattle.std.proofs.lemmas.Result.{err_from_is_err_and}
 use Rattle.exb_shelf.specs.Files.{Files}
 use Rattle.exb_inputs.proofs.Outcomes.{files_same}
 use Rattle.exb_net_inputs.specs.Holding.{HoldsMember}
 use Rattle.exb_net_inputs.specs.Refusing.{IsOwnRefusal}
-use Rattle.exb_net_inputs.proofs.Loops.{Reads, reads_more}
+use Rattle.exb_net_inputs.proofs.Loops.{reads_more}
 use Rattle.exb_net_inputs.proofs.Opened.{first_refused, topologies_end, topologies_stop}
 use Rattle.exb_net_inputs.proofs.reading.read_members.Goals as goal
 

@@ -1,4 +1,4 @@
-use Rattle.std.proofs.Common.{◌≡◌, Ok, Err}
+use Rattle.std.proofs.Common.{Err}
 use Rattle.std.proofs.lemmas.Result.{err_from_is_err_and}
 use Rattle.exb_net_inputs.proofs.Opened.{net_stopped, net_unread}
 use Rattle.exb_net_inputs.proofs.Whole.{are_read, members_err, topologies_from, wires_err}

@@ -1,4 +1,4 @@
-use Rattle.std.proofs.Common.{◌≡◌, Bool, ℕ, List, [], length, ap, sym, subst, ◌∙◌}
+use Rattle.std.proofs.Common.{◌≡◌, Bool, List, [], length, ap, sym, subst, ◌∙◌}
 use Rattle.std.proofs.lemmas.Result.{err_from_is_err_and}
 use Rattle.exb_model.specs.declared.event.Event.{Event}
 use Rattle.exb_model.specs.Texts.{with_left}
@@ -15,7 +15,7 @@ use Rattle.exb_writers.specs.Counts.{CanCount, CountsOn}
 use Rattle.exb_writers.specs.Leaving.{sent_with}
 use Rattle.exb_writers.proofs.PortCounts.{counted-on}
 use Rattle.exb_net_run.specs.Desks.{text_of}
-use Rattle.exb_net_run.proofs.Noting.{counted-as, fronts_cut, goes-on, left-on, own_texts, quiet-noted, text-on}
+use Rattle.exb_net_run.proofs.Noting.{counted-as, fronts_cut, goes-on, left-on, own_texts, text-on}
 use Rattle.exb_net_run.proofs.desk.note.Goals as goal
 
 pub note-requires : goal.note-requires
@@ -65,8 +65,3 @@ returns-in_err-write_new-clause-cut g c = λ t.
       each = fronts_cut plan (pieces_of c.args.desk.now.outputs) old new (text_of told []) (text_of done []) (goes-on told done n more) (is.texts t)
           (cut_same plan old new _ (text_of done []) (text-on told done n more) (c.in_err-write_new.ensures.cut t old (text_of told []) (is.texts t)));
     })
-
-pub returns-then-is_quiet-clause-noted : goal.returns-then-is_quiet-clause-noted
-returns-then-is_quiet-clause-noted g c told done together more is =
-    let quiet = c.is_quiet.ensures c.if-is_quiet.true in
-    quiet-noted told done (network_of c.args.world.now) more g.S.Shelf.tells (g.S.Shelf.file c.args.shelf.now) c.args.desk.now quiet.0 quiet.1 quiet.2 is

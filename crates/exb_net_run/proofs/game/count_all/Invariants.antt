@@ -1,4 +1,4 @@
-use Rattle.std.proofs.Common.{◌≡◌, ◌<◌, ℕ, take}
+use Rattle.std.proofs.Common.{◌≡◌, take}
 use Rattle.exb_text.specs.Tallies.{counts_of}
 use Rattle.exb_net_run.specs.Desks.{tallies_in}
 use Rattle.exb_net_run.specs.Summing.{added}

@@ -1,15 +1,14 @@
-use Rattle.std.proofs.Common.{rules, ◌≡◌, ℕ, ◌+◌, ◌<◌, ◌≤◌, List, [], length, Some, refl, ap, sym, subst, ◌∙◌, arith, inl, inr}
+use Rattle.std.proofs.Common.{rules, ◌≡◌, ℕ, ◌<◌, List, length, Some, refl, ap, sym, subst, ◌∙◌, arith, inl, inr}
 use Rattle.std.specs.Prelude.{slice_get}
 use Rattle.std.proofs.lemmas.Bool.{cases_eq, cases_lt}
 use Rattle.std.proofs.lemmas.Option.{same_Some, slice_get_within}
 use Rattle.std.proofs.lemmas.Result.{err_from_is_err_and}
 use Rattle.exb_inputs.proofs.ShelvingLemmas.{counts_as, counts_from}
 use Rattle.exb_outputs.specs.Plans.{Planned}
-use Rattle.exb_outputs.specs.Writing.{IsReady}
 use Rattle.exb_writers.specs.Counts.{counts_text}
 use Rattle.exb_net.proofs.Places.{at_place, set_there}
 use Rattle.exb_net_run.specs.declared.desk.Desk.{Desk}
-use Rattle.exb_net_run.specs.Desks.{AreAllFronts, AreFronts, ArePlansApart, IsWhole, OnlyWritesAll, plans_in, text_of}
+use Rattle.exb_net_run.specs.Desks.{AreFronts, IsWhole, text_of}
 use Rattle.exb_net_run.proofs.Noted.{desk_at, fronts_stay, noted_stays, now_fronts, only_none, only_one, others_stay, plan_at, plans-long, plans-same-long, plans_set, tallies_set, whole_fronts, whole_stays}
 use Rattle.exb_net_run.proofs.game.finish_all.Goals as goal
 

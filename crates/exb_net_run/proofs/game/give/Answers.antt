@@ -1,4 +1,4 @@
-use Rattle.std.proofs.Common.{◌≡◌, ℕ, ◌-◌, ◌<◌, ◌≤◌, List, length, Some, ap, sym, subst, ◌∙◌, arith}
+use Rattle.std.proofs.Common.{◌≡◌, ◌-◌, List, length, Some, ap, sym, ◌∙◌, arith}
 use Rattle.std.specs.Prelude.{slice_get}
 use Rattle.std.proofs.lemmas.Option.{slice_get_within}
 use Rattle.exb_model.specs.declared.setup.Timed.{Timed}
@@ -11,9 +11,9 @@ use Rattle.exb_net_run.proofs.game.give.Goals as goal
 
 pub returns-in-Record-clause-ok : goal.returns-in-Record-clause-ok
 returns-in-Record-clause-ok g c =
-    on_ok_by c.arrive.result
+    on_ok_by c.arrive-given.result
     (λ get n s told can.
-    gives-record n s told c.args.rests.now c.args.due c.args.net.now c.arrive.new.self can c.in-Record.came _ c.in-Record.is (c.arrival.ensures ∙ ap arrival_with c.in-Record.came-is) (get _ c.arrive.ensures.ok))
+    gives-record n s told c.args.rests.now c.args.due c.args.net.now c.arrive-given.new.self can c.in-Record.came _ c.in-Record.is (c.arrival-frame.ensures ∙ ap arrival_with c.in-Record.came-is) (get _ c.arrive-given.ensures.ok))
 
 pub returns-in-Command-clause-ok : goal.returns-in-Command-clause-ok
 returns-in-Command-clause-ok g c =

@@ -1,4 +1,4 @@
-use Rattle.std.proofs.Common.{◌≡◌, ◌<◌, ◌+◌, ◌^◌, ◌++◌, ◌∷◌, [], drop, length, take}
+use Rattle.std.proofs.Common.{◌≡◌, ◌<◌, ◌+◌, ◌^◌, drop, length, take}
 use Rattle.exb_net.specs.Lists.{AreEach}
 use Rattle.exb_net_run.proofs.opening.arm_all.Given as goal
 

@@ -8,11 +8,12 @@ use Rattle.exb_shelf.specs.Files.{Files}
 use Rattle.exb_shelf.proofs.IdLemmas.{opens_none}
 use Rattle.exb_inputs.specs.declared.checked.Checked.{Checked}
 use Rattle.exb_inputs.specs.declared.fault.Fault.TheVariants.{MemberChanged}
+use Rattle.exb_inputs.specs.Again.{AreSince}
 use Rattle.exb_inputs.specs.Checks.{AreChecked}
 use Rattle.exb_inputs.proofs.Outcomes.{files_same}
 use Rattle.exb_net_inputs.specs.Opening.{ReadsMemberCapture}
 use Rattle.exb_net_inputs.proofs.Lists.{get_here}
-use Rattle.exb_net_run.specs.Reopening.{AreReopened, AreSince, IsOpenedAgain, ReadsRest, start_of_told}
+use Rattle.exb_net_run.specs.Reopening.{AreReopened, IsOpenedAgain, ReadsRest, start_of_told}
 use Rattle.exb_net_run.proofs.Leading.{as_many, in_time, leads}
 use Rattle.exb_net_run.proofs.Openings.{err_same, fresh_more, named_more, opens_more, opens_one, own_all, own_more, reads_given, room_left, told_all, told_more}
 use Rattle.exb_net_run.proofs.Programmed.{begins, changed_at, has_capture_at, of_rests, opens_members, reads_member, reopened_long, starts_at, to_open}
@@ -24,7 +25,6 @@ loop-bridge-init g c =
     let S = g.S.Shelf in
     let none = c.new-agenda.ensures.none in
     record {
-      piece = refl;
       agenda = c.new-agenda.ensures.agenda (S.ids c.args.shelf.now);
       own = subst (λ (ps : List Programme). AreReopened (start_of_told c.args.checked.now) [] [] ps) (sym none) tt;
       fresh = subst (λ (ps : List Programme). AllByRecursion (λ (k : ℕ). (S.ids c.args.shelf.now k).given ≡ false) (all_ids ps)) (sym none) tt;
@@ -151,7 +151,6 @@ loop-bridge-preserved g c =
     (subst (λ (xs : List Checked). IsOpenedAgain S.tells c.start_of_all-start.result r xs f later was ids p) c.as_slice-captures.ensures.value
     (subst (λ (file : Files). IsOpenedAgain S.tells c.start_of_all-start.result r c.as_slice-captures.result.now file later was ids p) (files_same f now inv.files) one.2)) in
     record {
-      piece = c.open_bridge.ensures.piece ∙ inv.piece;
       agenda = c.in_ok-open_bridge.ensures.agenda;
       own = own_more start rests checked b r d ps more p S.tells f later was ids low c.index-rests-bridge.is under c.index-checked-bridge.is one.1 again inv.own;
       fresh = fresh_more S.tells rests checked f now later given was ids start b r d ps more p r_is one.1 opens same again inv.opens inv.fresh;

@@ -1,4 +1,4 @@
-use Rattle.std.proofs.Common.{◌≡◌, false, length, take}
+use Rattle.std.proofs.Common.{◌≡◌, false, take}
 use Rattle.std.specs.List.{AllByRecursion}
 use Rattle.exb_merge.specs.NetAgendas.{AreAllReplays, IsAgenda, all_ids, programmes_in}
 use Rattle.exb_shelf.specs.Files.{SameFiles}
@@ -11,7 +11,6 @@ abbrev pub invariant-loop-bridge : goal.invariant-loop-bridge
 invariant-loop-bridge g l =
     let S = g.S.Shelf in
     record {
-      piece : length l.piece ≡ length l.fn.piece;
       agenda : IsAgenda (S.ids l.shelf) l.agenda;
       own : AreReopened (start_of_told l.checked) (take l.bridge l.rests) (take l.bridge l.checked) (programmes_in l.agenda);
       fresh : AllByRecursion (λ k. (S.ids l.fn.shelf k).given ≡ false) (all_ids (programmes_in l.agenda));

@@ -12,17 +12,17 @@ pub returns-in_ok-add-in-Ok-clause-agenda : goal.returns-in_ok-add-in-Ok-clause-
 returns-in_ok-add-in-Ok-clause-agenda g c =
     let S = g.S.Shelf in
     let given = S.ids c.args.shelf.now in
-    let ids = S.ids c.reopen_all.new.shelf in
+    let ids = S.ids c.open_all.new.shelf in
     let mine = all_ids (programmes_in c.args.agenda.now) in
     c.in_ok-add-in-Ok.ensures.agenda given ids c.requires.given (subst (λ (r : Replays). AllByRecursion (λ (k : ℕ). (given k).given ≡ false) (ids_in r)) (sym c.new-programme.ensures.captures) c.in-Ok.ensures.fresh)
-    (c.agendas_stay.ensures.stays given ids c.args.agenda.now (ids_stay (ReadsCapture c.as_slice.result.now) given ids mine c.reopen_all.ensures.opens c.requires.given) c.requires.agenda)
+    (c.agendas_stay.ensures.stays given ids c.args.agenda.now (ids_stay (ReadsCapture c.as_slice.result.now) given ids mine c.open_all.ensures.opens c.requires.given) c.requires.agenda)
     (c.new-programme.ensures.opened ids c.in-Ok.ensures.opened)
 
 pub returns-in_ok-add-in-Ok-clause-programme : goal.returns-in_ok-add-in-Ok-clause-programme
 returns-in_ok-add-in-Ok-clause-programme g c =
     let S = g.S.Shelf in
     let given = S.ids c.args.shelf.now in
-    let ids = S.ids c.reopen_all.new.shelf in
+    let ids = S.ids c.open_all.new.shelf in
     let p = c.new-programme.result in
     let same = c.new-programme.ensures.captures in
     let named = c.in-Ok.ensures.named in
@@ -43,6 +43,6 @@ returns-in_ok-add-in-Ok-clause-programme g c =
         named = subst (λ (r : Replays). AllByRecursion (λ (k : ℕ). ReadsCapture c.args.rest.now.captures (ids k)) (ids_in r)) (sym same) own;
         streams = λ t. (let replays = c.in-Ok.ensures.streams t in
             let told = rw c.as_slice.ensures at replays in
-            subst (λ (r : Replays). AreReplays (S.file c.reopen_all.new.shelf) ids r.sources.items (map (stream_told c.args.rest.now.captures (S.file c.args.shelf.now)) c.args.checked.now)) (sym same) told);
+            subst (λ (r : Replays). AreReplays (S.file c.open_all.new.shelf) ids r.sources.items (map (stream_told c.args.rest.now.captures (S.file c.args.shelf.now)) c.args.checked.now)) (sym same) told);
       },
     )

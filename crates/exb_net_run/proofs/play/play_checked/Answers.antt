@@ -1,8 +1,7 @@
-use Rattle.std.proofs.Common.{◌≡◌, ◌∙◌, ℕ, Bool, List, map, ap, sym, subst, inl, inr}
+use Rattle.std.proofs.Common.{List, map, subst, inl, inr}
 use Rattle.std.specs.Prelude.{string_bytes}
 use Rattle.std.proofs.lemmas.Result.{err_from_is_err_and}
-use Rattle.exb_inputs.proofs.Outcomes.{if_err_map, if_ok_map}
-use Rattle.exb_inputs.proofs.ShelvingLemmas.{counts_as, counts_from}
+use Rattle.exb_inputs.proofs.Outcomes.{if_ok_map}
 use Rattle.exb_nets.specs.Nets.{Net}
 use Rattle.exb_outputs.specs.Plans.{Planned}
 use Rattle.exb_shelf.proofs.IdLemmas.{opens_then, opens_weaker}
@@ -10,13 +9,12 @@ use Rattle.exb_net_inputs.specs.Opening.{ReadsMemberCapture}
 use Rattle.exb_net_run.specs.Desks.{OnlyAllPlanned}
 use Rattle.exb_net_run.specs.Nets.{net_of, plan_with}
 use Rattle.exb_net_run.specs.Opening.{WritesNetOutput}
-use Rattle.exb_net_run.specs.Outputs.{AreNetFronts, IsNetPlayed}
+use Rattle.exb_net_run.specs.Outputs.{AreNetFronts}
 use Rattle.exb_net_run.specs.UnderWay.{HasWritten, IsCutOff}
 use Rattle.exb_net_run.proofs.Ends.{cut_fronts, made_fronts, played, played_fronts}
 use Rattle.exb_net_run.proofs.Prepared.{net_is, prepared, trees_are}
 use Rattle.exb_net_run.proofs.Reading.{captures_stay, members_same, net_same}
 use Rattle.exb_net_run.proofs.Several.{only_all_then}
-use Rattle.exb_net_run.proofs.Shelves.{writing-changed-all, writing-never, writing-play}
 use Rattle.exb_net_run.proofs.Wholly.{either_way, made_as, made_then_read}
 use Rattle.exb_net_run.proofs.play.play_checked.Goals as goal
 

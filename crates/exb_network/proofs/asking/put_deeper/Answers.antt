@@ -11,8 +11,8 @@ use Rattle.exb_network.specs.Worlds.{world_in, Does}
 use Rattle.exb_network.proofs.ToExtenders.{channel_fits, hung_low, trunk_below, channel_has, tagged_on}
 use Rattle.exb_network.proofs.asking.put_deeper.Goals as goal
 
-pub put_tagged-requires-clause-fits : goal.put_tagged-requires-clause-fits
-put_tagged-requires-clause-fits c =
+pub tag_into-requires-clause-fits : goal.tag_into-requires-clause-fits
+tag_into-requires-clause-fits c =
     let f = c.args.core.now.control.fabric in
     subst TagFits (sym c.channel_tag.ensures) (channel_fits f.shape (held_in f) c.on.result c.in-Some-of.channel (sym c.of.ensures ∙ c.in-Some-of.is))
 
@@ -27,7 +27,7 @@ returns c =
     let f = core.control.fabric in
     let below = trunk_below t c.tree-tree.result.now n c.at.result c.trunk-trunk.result c.hung_on.result c.in-Some.below c.tree-tree.ensures c.trunk-trunk.ensures.value c.at.ensures c.hung_on.ensures c.in-Some.is in
     let has = channel_has t f.shape (held_in f) n c.on.result c.of.result c.in-Some-of.channel c.requires.at.shape c.on.ensures c.of.ensures c.in-Some-of.is in
-    let spelled = c.from_vec.ensures ∙ c.in_ok-put_tagged.ensures ∙ ap (λ (x : Tag). tagged c.args.frame.now x) c.channel_tag.ensures in
+    let spelled = c.from_vec.ensures ∙ c.in_ok-tag_into.ensures ∙ ap (λ (x : Tag). tagged c.args.frame.now x) c.channel_tag.ensures in
     let top = c.trunk-trunk.ensures.value in
     let place : c.trunk-trunk.result - 1 ≡ trunk c.tree-tree.result.now n = omega (arith, top) in
     let here : c.trunk-trunk.result - 1 ≡ trunk t n = place ∙ ap (λ (u : Shape). trunk u n) c.tree-tree.ensures in

@@ -1,5 +1,4 @@
 use Rattle.std.proofs.Common.{◌-◌, subst, sym, ◌∙◌}
-use Rattle.std.proofs.lemmas.Result.{on_ok_weaker}
 use Rattle.exb_model.specs.Tree.{IsTree}
 use Rattle.exb_model.proofs.TreeHung.{hung_cascade}
 use Rattle.exb_network.specs.Sites.{limits_in}
@@ -10,9 +9,7 @@ pub take_data-requires-clause-cascade : goal.take_data-requires-clause-cascade
 take_data-requires-clause-cascade c =
     hung_cascade c.args.site.now.tree (subst IsTree c.tree.ensures c.is_tree.ensures) c.args.below (c.args.bridge_port - 1) c.requires.hangs
 
-pub returns-then-is_control : goal.returns-then-is_control
-returns-then-is_control c =
-    on_ok_weaker c.take_control.result (λ done.
-    bridge_control c.args.site.now (limits_in c.args.site.now) c.args.core.now c.take_control.new.core (c.args.bridge_port - 1) c.args.below c.args.word.now c.as_slice-frame.result.now c.args.room.now.post.log c.take_control.new.room.post.log
-    (sym c.is_control.ensures ∙ c.if-is_control.true) c.as_slice-frame.ensures done)
-    c.take_control.ensures
+pub returns-in_ok-take_control : goal.returns-in_ok-take_control
+returns-in_ok-take_control c =
+    bridge_control c.args.site.now (limits_in c.args.site.now) c.args.core.now c.take_control.new.core (c.args.bridge_port - 1) c.args.below c.args.word c.as_slice-frame.result.now c.args.room.now.post.log c.take_control.new.room.post.log
+    (sym c.is_control.ensures ∙ c.if-is_control.true) c.as_slice-frame.ensures c.in_ok-take_control.ensures

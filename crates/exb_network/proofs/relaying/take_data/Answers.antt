@@ -11,9 +11,9 @@ returns c =
     let s = c.args.site.now in
     let w = world_in c.args.core.now in
     let k = c.args.bridge_port - 1 in
-    let bytes = c.args.word.now.bytes in
-    let some = sym c.in-Some.is ∙ c.holder.ensures ∙ ap (λ (f : List ℕ). holder_by w k (read_etag f)) c.as_slice-frame.ensures in
+    let bytes = c.args.word.bytes in
+    let some = sym c.in-Some.is ∙ c.holder.ensures ∙ ap (λ (f : List ℕ). holder_by w k (read_etag f)) c.as_slice.ensures in
     let external = ap (λ (t : Shape). is_external t c.in-Some.port) (sym c.tree.ensures) ∙ sym c.is_external.ensures ∙ c.if-not-is_external.false in
-    let same = c.as_slice.ensures.value ∙ c.in_ok-put_stripped.ensures ∙ ap (λ (f : List ℕ). stripped f) c.as_slice-frame.ensures in
-    from_port s c.args.core.now c.come.new.core (holder_by w k (read_etag bytes)) c.in-Some.port c.args.word.now.stamp c.in-Some-stamp.stamp (stripped bytes) c.as_slice.result.now c.args.room.now.post.log c.come.new.room.post.log some
+    let same = c.split_at.ensures.back ∙ c.strip_in_place.ensures.stripped ∙ ap (λ (f : List ℕ). stripped f) c.into_vec-buffer.ensures in
+    from_port s c.args.core.now c.come.new.core (holder_by w k (read_etag bytes)) c.in-Some.port c.args.word.stamp c.in-Some-stamp.stamp (stripped bytes) c.split_at.result.1.now c.args.room.now.post.log c.come.new.room.post.log some
     c.in-Some-stamp.is external same c.in_ok-come.ensures

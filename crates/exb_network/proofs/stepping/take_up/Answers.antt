@@ -14,13 +14,14 @@ take-requires-clause-hangs c =
     let is : c.place-bridge_port.result + 1 - 1 ≡ on t n = let a = c.on-port.ensures in let b = c.device.ensures.value in let z = c.if-device-eq0.true in let p = c.place-bridge_port.ensures.value in omega (arith, a, b, z, p) in
     subst (HangsOn t n) (sym is) (hung t tree n c.requires.there)
 
-pub returns-in_ok-take : goal.returns-in_ok-take
-returns-in_ok-take c =
+pub returns-then-device-eq0 : goal.returns-then-device-eq0
+returns-then-device-eq0 c =
     let t = c.args.site.now.tree in
     let n = c.args.number in
     let is : c.place-bridge_port.result + 1 - 1 ≡ on t n = let a = c.on-port.ensures in let b = c.device.ensures.value in let z = c.if-device-eq0.true in let p = c.place-bridge_port.ensures.value in omega (arith, a, b, z, p) in
     let low : on t n < 64 = let a = c.on-port.ensures in let b = c.device.ensures.value in let z = c.if-device-eq0.true in omega (arith, a, b, z) in
-    at_bridge c.args.site.now (limits_in c.args.site.now) c.args.core.now c.take.new.core n (c.place-bridge_port.result + 1 - 1) c.args.word c.args.room.now.post.log c.take.new.room.post.log low is c.in_ok-take.ensures
+    on_ok_weaker c.take.result (λ done.
+    at_bridge c.args.site.now (limits_in c.args.site.now) c.args.core.now c.take.new.core n (c.place-bridge_port.result + 1 - 1) c.args.word c.args.room.now.post.log c.take.new.room.post.log low is done) c.take.ensures
 
 pub take_from_below-requires-clause-port : goal.take_from_below-requires-clause-port
 take_from_below-requires-clause-port c =

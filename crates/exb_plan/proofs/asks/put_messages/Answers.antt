@@ -25,7 +25,7 @@ loop-left-preserved c =
     let asks = c.loop-left.asks in
     let e = c.in_ok-push.ensures.ok ∙ ap (λ (r : Request). asks ++ ask n r ∷ []) (c.message.ensures ∙ ap (message step) c.split_at.ensures.front) in
     ap (λ (l : List GroupRow). c.push.new.self ++ asks_with step l n) c.split_at.ensures.back
-    ∙ (asks_step asks c.push.new.self step left n c.next.result (some_left (length left) c.is_empty.result c.is_empty.ensures c.loop-left-test.true) c.next.ensures e
+    ∙ (asks_step asks c.push.new.self step left n c.rows_in_message.result (some_left (length left) c.is_empty.result c.is_empty.ensures c.loop-left-test.true) c.rows_in_message.ensures e
     ∙ c.loop-left.invariant)
 
 pub returns : goal.returns

@@ -1,18 +1,18 @@
-use Rattle.std.proofs.Common.{◌≡◌, ◌<◌, ◌^◌, ℕ, false, List, length, refl, ap, sym, subst, inl, ◌∙◌, arith}
+use Rattle.std.proofs.Common.{◌≡◌, ◌<◌, ◌^◌, ℕ, false, List, ap, sym, subst, ◌∙◌}
 use Rattle.std.specs.List.{AllByRecursion}
-use Rattle.std.specs.Vec.{with_items}
 use Rattle.std.proofs.lemmas.Result.{err_from_is_err_and}
 use Rattle.exb_play.proofs.Parts.{begun-so-far}
 use Rattle.exb_inputs.proofs.Ports.{named-port}
 use Rattle.exb_merge.specs.Replays.{ids_in, HasPort, standings}
 use Rattle.exb_shelf.proofs.IdLemmas.{opens_none}
 use Rattle.exb_shelf.specs.Files.{Files}
+use Rattle.exb_inputs.specs.Again.{AreSince}
 use Rattle.exb_inputs.specs.Inputs.{input_from}
 use Rattle.exb_inputs.specs.Shelving.{ReadsCapture}
 use Rattle.exb_play.specs.Playing.{Run, mode_of}
 use Rattle.exb_outputs.specs.Writing.{HasTexts, first_text, pieces_of}
 use Rattle.exb_play.proofs.Beginning.{can-begin-of, has-budget}
-use Rattle.exb_inputs.proofs.Beginning.{start-fits}
+use Rattle.exb_inputs.proofs.Beginning.{since-start, start-fits}
 use Rattle.exb_writers.proofs.Cutting.{begun_eagerly}
 use Rattle.exb_outputs.proofs.Keeping.{ready-opened}
 use Rattle.exb_inputs.proofs.Reopening.{plays-opened}
@@ -23,17 +23,15 @@ use Rattle.exb_play.proofs.playing.play_into.Goals as goal
 pub new-programme-requires-clause-start : goal.new-programme-requires-clause-start
 new-programme-requires-clause-start g c = subst (λ (n : ℕ). n < 2 ^ 32) (sym c.start_of-start.ensures) (start-fits c.args.checked.now c.requires.captures.checked.in_time)
 
+pub new-programme-requires-clause-since : goal.new-programme-requires-clause-since
+new-programme-requires-clause-since g c = c.in_ok-captures.ensures.since _ (subst (λ (n : ℕ). AreSince n c.args.checked.now) (sym c.start_of-start.ensures) (since-start c.args.checked.now))
+
 pub play_feed-requires-clause-ready : goal.play_feed-requires-clause-ready
 play_feed-requires-clause-ready g c = ready-opened _ c.args.plan.now (g.S.Shelf.ids c.args.shelf.now) (g.S.Shelf.ids c.open_all.new.shelf) c.args.outputs c.requires.ready c.open_all.ensures.opens
 
 pub play_feed-requires-clause-feed : goal.play_feed-requires-clause-feed
 play_feed-requires-clause-feed g c = record {
   programme = c.new-programme.ensures.opened (g.S.Shelf.ids c.open_all.new.shelf) c.in_ok-captures.ensures.opened;
-  piece =
-      (let kept = (with_items c.in-Ok.piece c.open_all.new.piece).ok.0 in
-      let own = c.in-Ok.piece.ok.0 in
-      let size = c.in-Ok.ensures in
-      omega (arith, kept, own, size));
 }
 
 pub play_feed-requires-clause-begins : goal.play_feed-requires-clause-begins

@@ -1,4 +1,4 @@
-use Rattle.std.proofs.Common.{◌≡◌, ◌≤◌, ◌+◌, ◌*◌, ap, ◌∙◌, arith}
+use Rattle.std.proofs.Common.{◌≡◌, ap, ◌∙◌, arith}
 use Rattle.exb_counters.specs.declared.counters.Counts5.{Counts5}
 use Rattle.exb_counters.specs.Counting.{counts_at}
 use Rattle.exb_outputs.specs.Plans.{port_at}

@@ -19,7 +19,6 @@ returns-in-Some-clause-moment g c = (seen_held c.args.self.now c.in-Some.seen c.
 pub looking-init : goal.looking-init
 looking-init g c = record {
   at = c.requires.at;
-  piece = refl;
   unseen = none_seen c.args.self.now.next c.in_default.not-Some;
   sound = c.requires.sound;
   same = record { id = refl; limit_is = refl };
@@ -138,7 +137,6 @@ looking-preserved g c =
     let same = kept_bytes (S.file c.args.shelf.now) (S.file c.looking.shelf) (S.ids c.args.shelf.now) (S.ids c.looking.shelf) c.args.self.now.id f.id c.args.self.now.got c.requires.at inv.moves inv.files inv.same.id in
     record {
       at = found.at;
-      piece = c.read_on.ensures.piece ∙ inv.piece;
       unseen = found.unseen;
       sound = c.read_on.ensures.sound;
       same = record { id = c.read_on.ensures.same.id ∙ inv.same.id; limit_is = c.read_on.ensures.same.limit_is ∙ inv.same.limit_is };

@@ -1,4 +1,4 @@
-use Rattle.std.proofs.Common.{◌≡◌, ◌≤◌, ◌+◌, ◌-◌, List, None, length, cond}
+use Rattle.std.proofs.Common.{◌≡◌, ◌≤◌, ◌+◌, ◌-◌, List, None, cond}
 use Rattle.exb_model.specs.Input.{Record}
 use Rattle.exb_shelf.specs.Files.{SameFiles, bytes_of}
 use Rattle.exb_shelf.specs.Shelf.{NoFewer}
@@ -11,7 +11,6 @@ invariant-looking g l =
     let bytes = bytes_of (S.file l.fn.shelf (S.ids l.fn.shelf l.fn.self.id).name) in
     record {
       at : IsAt (S.ids l.shelf l.self.id) l.self.got;
-      piece : length l.piece ≡ length l.fn.piece;
       unseen : l.self.next ≡ None;
       sound : IsSound l.self;
       same : IsSameFile l.fn.self l.self;

@@ -29,8 +29,8 @@ index_mut-seat-requires g c =
     let low = is_there seat_seen turn_in shows a.seats.items a.turns (drop 1 (heap_items a.turns)) x.0.0 x.0.1 c.requires.agenda.turns c.in-Some.ensures.first in
     omega (arith, low)
 
-pub take-requires-clause-seated : goal.take-requires-clause-seated
-take-requires-clause-seated g c =
+pub take-requires : goal.take-requires
+take-requires g c =
     let S = g.S.Shelf in
     let given = S.ids c.args.shelf.now in
     let a = c.args.self.now in

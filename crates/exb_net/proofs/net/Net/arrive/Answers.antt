@@ -1,6 +1,7 @@
 use Rattle.std.proofs.Common.{refl}
 use Rattle.exb_schedule.specs.Playing.{arrived}
 use Rattle.exb_net.proofs.Whole.{arrived_so, is_coming}
+use Rattle.exb_net.proofs.Quiet.{all_marked}
 use Rattle.exb_net.proofs.net.Net.arrive.Goals as goal
 
 pub play_arrival-requires-clause-can : goal.play_arrival-requires-clause-can
@@ -17,3 +18,6 @@ returns-in-Ok-clause-ok g c = λ n s told k free.
     let x = c.args.self.now in
     let a = arrived c.args.arrival.now in
     arrived_so n s told x k c.args.bridge a _ refl refl (c.in-Ok.ensures.ok n s told (is_coming n s told x k c.args.bridge a c.requires.few c.requires.here free c.requires.can) k.wires)
+
+pub invariant_of-self-in-Err : goal.invariant_of-self-in-Err
+invariant_of-self-in-Err g c = record { quiet = all_marked c.play_arrival.new.nodes.items }

@@ -1,4 +1,4 @@
-use Rattle.std.proofs.Common.{◌≡◌, ◌+◌, List, ap, sym, subst, ◌∙◌, arith}
+use Rattle.std.proofs.Common.{List, ap, sym, subst, ◌∙◌, arith}
 use Rattle.exb_model.specs.Texts.{Counts, summary_line}
 use Rattle.exb_text.specs.Tallies.{FitsTally}
 use Rattle.exb_net_run.specs.declared.desk.Desk.{Desk}

@@ -1,4 +1,4 @@
-use Rattle.std.proofs.Common.{◌≡◌, ◌<◌, ◌≤◌, ◌^◌, ◌∙◌, ℕ, List, Err, length, ap, sym, subst, arith, refl}
+use Rattle.std.proofs.Common.{◌∙◌, List, sym, subst, arith}
 use Rattle.std.proofs.lemmas.Result.{err_from_is_err_and, on_err_weaker}
 use Rattle.exb_inputs.proofs.Outcomes.{if_err_map, if_ok_map, when_ok}
 use Rattle.exb_inputs.proofs.ShelvingLemmas.{counts_from}
@@ -7,7 +7,6 @@ use Rattle.exb_merge.specs.NetAgendas.{all_ids, programmes_in}
 use Rattle.exb_net.specs.Nets.{no_dones}
 use Rattle.exb_net_run.specs.Desks.{ArePlansApart, plans_in}
 use Rattle.exb_net_run.specs.Shelving.{IsOfCaptures, OnlyGoesOnAll}
-use Rattle.exb_net_run.specs.UnderWay.{IsGoing, NetRun}
 use Rattle.exb_net_run.proofs.Begun.{opened-can, opened-cut, opened-going, opened-more, opened-together, unopened-cut}
 use Rattle.exb_net_run.proofs.Paying.{falls_within, within_few}
 use Rattle.exb_net_run.proofs.Shelves.{err-own, kept-all, net-goes-none, net-goes-then, net-goes-writing, writing-changed, writing-never, writing-play}

@@ -1,8 +1,8 @@
-use Rattle.std.proofs.Common.{◌≡◌, ◌<◌, ◌≤◌, ◌+◌, ◌^◌, ℕ, List, [], Option, Some, None, Err, length, ap, sym, subst, ◌∙◌, arith, refl}
+use Rattle.std.proofs.Common.{ℕ, List, Option, Err, ap, subst, ◌∙◌, arith, refl}
 use Rattle.std.proofs.lemmas.Result.{err_from_is_err_and}
 use Rattle.exb_model.specs.Input.{second_of}
 use Rattle.exb_merge.specs.declared.agenda.NetNext.{NetNext}
-use Rattle.exb_merge.specs.NetAgendas.{AreAllReplays, IsFirstOf, IsOfBridge, all_ids, programmes_in}
+use Rattle.exb_merge.specs.NetAgendas.{AreAllReplays, IsFirstOf, all_ids, programmes_in}
 use Rattle.exb_merge.specs.Streams.{Stream}
 use Rattle.exb_inputs.specs.Shelving.{OnlyReads}
 use Rattle.exb_inputs.proofs.Outcomes.{some_at}
@@ -10,7 +10,6 @@ use Rattle.exb_inputs.proofs.ShelvingLemmas.{counts_as, counts_from, fewer_same,
 use Rattle.exb_outputs.specs.Plans.{Planned}
 use Rattle.exb_net_run.specs.Desks.{OnlyWritesAll, plans_in}
 use Rattle.exb_net_run.specs.Shelving.{IsOfCaptures}
-use Rattle.exb_net_run.specs.UnderWay.{IsDue, NetRun}
 use Rattle.exb_net_run.proofs.Awaited.{all-told, cut-read, few-orders, is-due, ports-on, ready-on, rests-on, seconds-few, within-paid}
 use Rattle.exb_net_run.proofs.Ending.{can-end}
 use Rattle.exb_net_run.proofs.Shelves.{err-own, kept-all, net-goes-none, net-goes-reading, net-goes-writing, writing-changed, writing-never, writing-play}
@@ -19,7 +18,6 @@ use Rattle.exb_net_run.proofs.game.NetGame.play_all.Goals as goal
 pub events-init : goal.events-init
 events-init g c = record {
   agenda = c.requires.agenda;
-  piece = c.requires.piece;
   rests = c.requires.rests;
   going = λ r start. start;
   budget = c.requires.budget;
@@ -94,7 +92,6 @@ events-preserved g c =
     let mine = all_ids (programmes_in c.args.agenda.now) in
     record {
       agenda = c.agendas_stay.ensures.stays (S.ids c.next_due.new.shelf) (S.ids c.turn.new.shelf) c.next_due.new.agenda (kept-all (S.ids c.next_due.new.shelf) (S.ids c.turn.new.shelf) c.turn.ensures.only.kept (all_ids ps)) c.in_ok-due.ensures.agenda;
-      piece = (let same = c.next_due.ensures.piece in let some = inv.piece in omega (arith, same, some));
       rests = of;
       going = λ r start.
           c.in_ok-turn.ensures.told r second ps

@@ -1,4 +1,4 @@
-use Rattle.std.proofs.Common.{◌≡◌, ◌<◌, ℕ, length}
+use Rattle.std.proofs.Common.{◌≡◌, ℕ}
 use Rattle.std.specs.Prelude.{None}
 use Rattle.exb_merge.specs.NetAgendas.{IsAgenda, IsOfBridge, all_ids, left_of_all, programmes_in}
 use Rattle.exb_merge.specs.Replays.{HasPort, standings}
@@ -13,7 +13,6 @@ invariant-events g l =
     let S = g.S.Shelf in
     record {
       agenda : IsAgenda (S.ids l.shelf) l.agenda;
-      piece : 0 < length l.piece;
       rests : AreOfRests l.rests (programmes_in l.agenda);
       going : (r : NetRun) → IsGoing S.tells r (S.file l.fn.shelf) (S.ids l.fn.shelf) None l.fn.self (programmes_in l.fn.agenda) → IsGoing S.tells r (S.file l.shelf) (S.ids l.shelf) l.last l.self (programmes_in l.agenda);
       budget : IsWithin l.self.net.nodes.items (λ x. (goal.Fate-dyn g (x.world.fate.vtable, x.world.fate.value)).left x.world.fate.value) (programmes_in l.agenda);

@@ -1,4 +1,4 @@
-use Rattle.std.proofs.Common.{◌≡◌, ◌∙◌, ℕ, List, Err, ap, sym, subst}
+use Rattle.std.proofs.Common.{◌∙◌, List, Err, ap, sym, subst}
 use Rattle.std.proofs.lemmas.Result.{err_from_is_err_and, on_err_weaker}
 use Rattle.exb_inputs.proofs.Outcomes.{if_err_map, if_ok_both, if_ok_map}
 use Rattle.exb_inputs.proofs.ShelvingLemmas.{counts_from}

@@ -1,4 +1,4 @@
-use Rattle.std.proofs.Common.{◌≡◌, ◌<◌, ◌≤◌, ◌+◌, sym, length, arith}
+use Rattle.std.proofs.Common.{◌<◌, length, arith}
 use Rattle.exb_outputs.proofs.Sizes.{size_of_file}
 use Rattle.exb_outputs.proofs.outputs.Outputs.size_of.Goals as goal
 

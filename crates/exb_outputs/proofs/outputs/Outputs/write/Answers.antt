@@ -1,4 +1,4 @@
-use Rattle.std.proofs.Common.{◌≡◌, ◌+◌, ap, ◌∙◌, arith, ◌≤◌, refl}
+use Rattle.std.proofs.Common.{ap, ◌∙◌, arith, ◌≤◌, refl}
 use Rattle.std.proofs.lemmas.Result.{on_err_weaker, on_ok_weaker}
 use Rattle.exb_outputs.specs.Plans.{kind_at, port_count}
 use Rattle.exb_outputs.specs.Writing.{pieces_of}

@@ -1,112 +1,26 @@
-use Rattle.std.proofs.Common.{◌≡◌, ◌<◌, ◌+◌, ◌++◌, List, ℕ, length, get_or, set, ap, sym, subst, ◌∙◌, arith, refl}
+use Rattle.std.proofs.Common.{◌≡◌, ◌++◌, sym, refl}
 use Rattle.std.proofs.lemmas.Result.{on_err_weaker, on_ok_weaker}
 use Rattle.exb_model.specs.Texts.{record_text}
 use Rattle.exb_text.specs.declared.output.Output.TheVariants as output
-use Rattle.exb_outputs.specs.Plans.{kind_at, output_count, output_name, place_in}
-use Rattle.exb_outputs.specs.Writing.{AreCut, with_more}
-use Rattle.exb_outputs.proofs.OutputLemmas.{by_kind, can_be_written, has_more_of, more_spelled, name_of_file, of_kind}
-use Rattle.exb_outputs.proofs.ByKind.{placed}
-use Rattle.exb_outputs.proofs.Cutting.{cut_at, cut_kind}
-use Rattle.exb_outputs.proofs.Sizes.{frame_sent, ready_with, record_size}
+use Rattle.exb_outputs.proofs.OutputLemmas.{more_spelled}
+use Rattle.exb_outputs.proofs.Cutting.{cut_spelled}
 use Rattle.exb_outputs.proofs.outputs.Outputs.write_frame.Goals as goal
-
-pub index_mut-file-requires : goal.index_mut-file-requires
-index_mut-file-requires g c =
-    let can = c.requires.frame in
-    let low = (placed c.args.plan.now (output.Capture c.args.port) can.port can.low).low in
-    let same = c.place-at.ensures in
-    let all = c.requires.ready.files in
-    omega (arith, low, same, all)
-
-pub add-requires : goal.add-requires
-add-requires g c =
-    let can = c.requires.frame in
-    let at = c.place-at.result in
-    let place = placed c.args.plan.now (output.Capture c.args.port) can.port can.low in
-    let lt : at < output_count c.args.plan.now = (let low = place.low in let same = c.place-at.ensures in omega (arith, low, same)) in
-    let inside : at < length c.args.self.now.files.items = (let all = c.requires.ready.files in omega (arith, lt, all)) in
-    can_be_written (g.S.Shelf.ids c.args.shelf.now) c.args.self.now.files.items at c.index_mut-file.result.now _ c.index_mut-file.ensures.value inside (c.requires.ready.named at lt)
-
-pub returns-clause-ready : goal.returns-clause-ready
-returns-clause-ready g c =
-    let can = c.requires.frame in
-    let lt = (placed c.args.plan.now (output.Capture c.args.port) can.port can.low).low in
-    let inside : c.place-at.result < length c.args.self.now.files.items = (let same = c.place-at.ensures in let all = c.requires.ready.files in omega (arith, lt, same, all)) in
-    ready_with c.args.plan.now _ _ c.args.self.now _ c.place-at.result c.index_mut-file.result.now c.add.new.file refl inside c.index_mut-file.ensures.value c.add.ensures.id c.add.ensures.kept c.requires.ready
 
 pub returns-clause-texts : goal.returns-clause-texts
 returns-clause-texts g c = λ t.
-    let S = g.S.Shelf in
-    let plan = c.args.plan.now in
-    let can = c.requires.frame in
-    let bytes = c.args.bytes.now in
-    let at = c.place-at.result in
-    let place = placed plan (output.Capture c.args.port) can.port can.low in
-    let lt : at < output_count plan = (let low = place.low in let same = c.place-at.ensures in omega (arith, low, same)) in
-    let all = c.args.self.now.files.items in
-    let inside : at < length all = (let ready = c.requires.ready.files in omega (arith, lt, ready)) in
-    let was = c.index_mut-file.result.now in
-    let written : c.record_text-head.result ++ bytes ≡ record_text (c.args.moment, bytes) = sym (c.record_text-head.ensures bytes refl) in
-    let named : (S.ids c.args.shelf.now was.id).name ≡ output_name plan at = name_of_file (S.ids c.args.shelf.now) all at was _ c.index_mut-file.ensures.value inside (c.requires.ready.named at lt) in
-    on_ok_weaker c.add.result
-    (λ change orig text p.
-    more_spelled plan orig (S.file c.add.new.shelf) _ text (output.Capture c.args.port) (output.Capture c.args.port) _ _ refl written
-    (by_kind plan orig (S.file c.add.new.shelf) _ text at (output.Capture c.args.port) _ lt (ap (kind_at plan) c.place-at.ensures ∙ place.at)
-    (has_more_of (λ f. f.piece.items) plan orig (S.file c.args.shelf.now) (S.file c.add.new.shelf) all (of_kind plan text) at was c.add.new.file _ _
-    (c.output_names_differ.ensures plan) lt c.requires.ready.files c.index_mut-file.ensures.value named p change)))
-    (c.add.ensures.kept_or_written t)
+    let written : c.record_text-head.result ++ c.args.bytes.now ≡ record_text (c.args.moment, c.args.bytes.now) = sym (c.record_text-head.ensures c.args.bytes.now refl) in
+    on_ok_weaker c.write_record.result
+    (λ added orig text p.
+    more_spelled c.args.plan.now orig (g.S.Shelf.file c.write_record.new.shelf) _ text (output.Capture c.args.port) (output.Capture c.args.port) _ _ refl written (added orig text p))
+    (c.write_record.ensures.texts t)
 
 pub returns-clause-cut : goal.returns-clause-cut
 returns-clause-cut g c = λ t.
-    let S = g.S.Shelf in
-    let plan = c.args.plan.now in
-    let can = c.requires.frame in
-    let bytes = c.args.bytes.now in
-    let at = c.place-at.result in
-    let place = placed plan (output.Capture c.args.port) can.port can.low in
-    let lt : at < output_count plan = (let low = place.low in let same = c.place-at.ensures in omega (arith, low, same)) in
-    let all = c.args.self.now.files.items in
-    let inside : at < length all = (let ready = c.requires.ready.files in omega (arith, lt, ready)) in
-    let was = c.index_mut-file.result.now in
-    let written : c.record_text-head.result ++ bytes ≡ record_text (c.args.moment, bytes) = sym (c.record_text-head.ensures bytes refl) in
-    let named : (S.ids c.args.shelf.now was.id).name ≡ output_name plan at = name_of_file (S.ids c.args.shelf.now) all at was _ c.index_mut-file.ensures.value inside (c.requires.ready.named at lt) in
-    on_err_weaker c.add.result
-    (λ front orig text p.
-    subst (λ (xs : List ℕ). AreCut plan orig (S.file c.add.new.shelf) (with_more text (output.Capture c.args.port) xs)) written
-    (cut_kind plan orig (S.file c.add.new.shelf) text at (output.Capture c.args.port) _ lt (ap (kind_at plan) c.place-at.ensures ∙ place.at)
-    (cut_at (λ f. f.piece.items) plan orig (S.file c.args.shelf.now) (S.file c.add.new.shelf) all (of_kind plan text) at was _ _
-    (c.output_names_differ.ensures plan) lt c.requires.ready.files c.index_mut-file.ensures.value named p front)))
-    (c.add.ensures.front t)
+    let written : c.record_text-head.result ++ c.args.bytes.now ≡ record_text (c.args.moment, c.args.bytes.now) = sym (c.record_text-head.ensures c.args.bytes.now refl) in
+    on_err_weaker c.write_record.result
+    (λ cut orig text p.
+    cut_spelled c.args.plan.now orig (g.S.Shelf.file c.write_record.new.shelf) text (output.Capture c.args.port) (output.Capture c.args.port) _ _ refl written (cut orig text p))
+    (c.write_record.ensures.cut t)
 
 pub returns-clause-sent : goal.returns-clause-sent
-returns-clause-sent g c =
-    let plan = c.args.plan.now in
-    let can = c.requires.frame in
-    let bytes = c.args.bytes.now in
-    let at = c.place-at.result in
-    let place = placed plan (output.Capture c.args.port) can.port can.low in
-    let all = c.args.self.now.files.items in
-    let same : at ≡ place_in plan.tree c.args.port = c.place-at.ensures in
-    let inside : place_in plan.tree c.args.port < length all = (let low = place.low in let ready = c.requires.ready.files in omega (arith, low, ready)) in
-    let was = c.index_mut-file.result.now in
-    let now = c.add.new.file in
-    let head : length (c.record_text-head.result ++ bytes) ≡ 16 + length bytes = ap length (sym (c.record_text-head.ensures bytes refl)) ∙ record_size c.args.moment bytes in
-    on_ok_weaker c.add.result
-    (λ size sent has.
-    frame_sent plan c.args.self.now _ c.args.port c.args.moment bytes was now (ap (λ (j : ℕ). set all j now) same) inside
-    (c.index_mut-file.ensures.value ∙ ap (λ (j : ℕ). get_or all j was) same) c.add.ensures.records
-    (λ fits. size (let fits' = fits in omega (arith, head, fits')) ∙ omega (arith, head)) can.low can.port sent has)
-    c.add.ensures.counted
-
-pub returns-clause-only : goal.returns-clause-only
-returns-clause-only g c =
-    let S = g.S.Shelf in
-    let plan = c.args.plan.now in
-    let can = c.requires.frame in
-    let at = c.place-at.result in
-    let lt : at < output_count plan = (let low = (placed plan (output.Capture c.args.port) can.port can.low).low in let same = c.place-at.ensures in omega (arith, low, same)) in
-    let all = c.args.self.now.files.items in
-    let inside : at < length all = (let ready = c.requires.ready.files in omega (arith, lt, ready)) in
-    let was = c.index_mut-file.result.now in
-    let named : (S.ids c.args.shelf.now was.id).name ≡ output_name plan at = name_of_file (S.ids c.args.shelf.now) all at was _ c.index_mut-file.ensures.value inside (c.requires.ready.named at lt) in
-    record { others = λ t m away. c.add.ensures.others t m (λ e. away at lt (e ∙ named)); kept = c.add.ensures.kept }
+returns-clause-sent g c = on_ok_weaker c.write_record.result (λ more sent has. more c.args.moment sent has) c.write_record.ensures.sent

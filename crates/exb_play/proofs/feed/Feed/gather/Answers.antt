@@ -1,6 +1,6 @@
 use Rattle.std.proofs.Common.{◌≡◌, ℕ, List, ap, sym, subst, ◌∙◌}
 use Rattle.std.proofs.lemmas.Result.{err_from_is_err_and}
-use Rattle.exb_play.proofs.Ports.{ports-before}
+use Rattle.exb_merge.proofs.Onward.{ports_before}
 use Rattle.exb_inputs.proofs.ShelvingLemmas.{counts_as, counts_from}
 use Rattle.exb_model.specs.Input.{Eager, Seeded}
 use Rattle.exb_merge.specs.Replays.{ids_in}
@@ -51,7 +51,7 @@ pub returns-in_err-take_second-in-Seeded-clause-port : goal.returns-in_err-take_
 returns-in_err-take_second-in-Seeded-clause-port g c =
     let e = err_from_is_err_and c.from_residual-in_err-take_second-in-Seeded.result c.from_residual-in_err-take_second-in-Seeded.ensures.1 in
     let (d, one, is) = some_at _ c.in_ok-second.field-0 c.in-Some.second c.in-Some.is c.in_ok-second.ensures.taken in
-    rw (e.1, e.2) (λ p at same. ports-before c.args.self.now.programme d c.take_first.new.self.programme one.coming.is p (c.in_err-take_second-in-Seeded.ensures.port p at same))
+    rw (e.1, e.2) (λ p at same. ports_before c.args.self.now.programme d c.take_first.new.self.programme one.coming.is p (c.in_err-take_second-in-Seeded.ensures.port p at same))
 
 pub returns-in_err-take_second-in-Seeded-clause-faults : goal.returns-in_err-take_second-in-Seeded-clause-faults
 returns-in_err-take_second-in-Seeded-clause-faults g c =

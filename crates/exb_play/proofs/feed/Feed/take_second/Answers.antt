@@ -1,6 +1,6 @@
-use Rattle.std.proofs.Common.{◌≡◌, ℕ, [], List, refl, sym, subst, ◌∙◌}
+use Rattle.std.proofs.Common.{ℕ, List, refl, subst, ◌∙◌}
 use Rattle.std.proofs.lemmas.Result.{err_from_is_err_and}
-use Rattle.exb_play.proofs.Ports.{ports-before}
+use Rattle.exb_merge.proofs.Onward.{ports_before}
 use Rattle.exb_merge.specs.Replays.{ids_in}
 use Rattle.exb_inputs.specs.Shelving.{OnlyReads}
 use Rattle.exb_play.proofs.Gathering.{gathers-more, gathers-same}
@@ -30,7 +30,7 @@ second-preserved g c =
       only = only-reads-then (ids_in c.args.self.now.programme.captures) _ _ _ _ _ _ inv.only read;
       faults = fewer_then _ _ _ inv.faults c.take_within.ensures.faults.none_fell;
       counted = c.in_ok-take_within.ensures.faults.once ∙ inv.counted;
-      ports = λ q has. inv.ports q (ports-before c.second.self.programme d c.take_within.new.self.programme one.coming.is q has);
+      ports = λ q has. inv.ports q (ports_before c.second.self.programme d c.take_within.new.self.programme one.coming.is q has);
     }
 
 pub returns-clause-taken : goal.returns-clause-taken
