@@ -1,9 +1,11 @@
 //! What an entry is found by.
-ghost use Rattle.std.specs.Prelude.{◌≡◌};
-ghost use Rattle.exb_learn.specs.Keys.{packed, same_equiv, IsSpelled};
+ghost use Rattle.std.specs.Prelude.{◌≡◌, ◌<◌, ℕ, length, slice_index};
+ghost use Rattle.std.specs.Int.{w64, from_le_bytes};
+ghost use Rattle.exb_learn.specs.Keys.{bytes_of, packed, same_equiv, IsSpelled};
 ghost use Rattle.exb_learn.specs.Stations.{same};
 
 use exb_model::address::Mac;
+use exb_model::bytes::are_bytes;
 use exb_model::vlan::Vid;
 use std::hash::{Hash, Hasher};
 
@@ -14,25 +16,35 @@ pub struct StationKey {
     pub address: Mac,
 }
 
+/// The two bytes of a VLAN's number and the six of an address as one number.
+#[inline(always)]
+fn pack(vid: u16, address: Mac) -> u64
+    ensures number { result ≡ from_le_bytes w64 (bytes_of vid address.0) }
+    ensures long { length address.0 ≡ 6 }
+    ensures bytes { (i : ℕ) → slice_index address.0 i < 256 }
+{
+    let Mac(a) = address;
+    are_bytes(a.as_slice());
+    u64::from_le_bytes([
+        (vid % 256) as u8,
+        (vid / 256) as u8,
+        a[0],
+        a[1],
+        a[2],
+        a[3],
+        a[4],
+        a[5],
+    ])
+}
+
 impl StationKey {
-    /// The two bytes of the VLAN and the six of the address as one number.
+    /// The station as one number.
     #[inline(always)]
     fn packed(&self) -> u64
         ensures number { result ≡ packed self.now }
         ensures spelled { IsSpelled self.now }
     {
-        let vid = self.vid.number();
-        let Mac(a) = self.address;
-        u64::from_le_bytes([
-            (vid % 256) as u8,
-            (vid / 256) as u8,
-            a[0],
-            a[1],
-            a[2],
-            a[3],
-            a[4],
-            a[5],
-        ])
+        pack(self.vid.number(), self.address)
     }
 }
 

@@ -15,6 +15,7 @@ use Rattle.exb_model.specs.Frames.{kind_of, priority_of, IsBytes}
 use Rattle.exb_model.specs.Input.{Arrival}
 use Rattle.exb_model.specs.Learning.{passes, passes_as}
 use Rattle.exb_model.specs.Tree.{Shape, IsTree}
+use Rattle.exb_frame.specs.declared.egress.VlanTag.{VlanTag}
 use Rattle.exb_frame.specs.Egress.{can_leave, priority}
 use Rattle.exb_learn.specs.Entries.{table_of, look_of}
 use Rattle.exb_learn.specs.Calls.{Table}
@@ -33,7 +34,6 @@ use Rattle.exb_machine.specs.Worlds.{World, with_table}
 use Rattle.exb_machine.specs.Effects.{only, each}
 use Rattle.exb_machine.specs.Relaying.{passed_by, sends_all, sends_for, sends_in}
 use Rattle.exb_network.specs.declared.log.Log.{Log}
-use Rattle.exb_network.specs.declared.relaying.Passed.{Passed}
 use Rattle.exb_network.specs.declared.site.Core.{Core}
 use Rattle.exb_network.specs.Sends.{CanSend, HasPassed, is_passed, is_relay_first, passed_in, told_by}
 use Rattle.exb_network.specs.Sites.{Site}
@@ -96,23 +96,20 @@ relayed_of true i v pcp dei is = is
 relayed_of false i v pcp dei is = is_not v pcp dei is
 
 -- a frame that passed may leave, with its own priority
-pub has_passed : (b : Bridge) (a : Arrival) (x : Passed) → x.arrived.bytes.now ≡ a.bytes → IsBytes a.bytes → ingress_for b a ≡ ingress.Passed x.tag.vid x.tag.pcp x.tag.dei → HasPassed x
-has_passed b a x same bytes is = subst (λ (f : List ℕ). (can_leave (kind_of f) ≡ true) × (priority x.tag.pcp x.tag.dei ≡ priority_of (kind_of f)) → HasPassed x) same by_fields (leaves, own)
+pub has_passed : (b : Bridge) (a : Arrival) (x : VlanTag) → IsBytes a.bytes → ingress_for b a ≡ ingress.Passed x.vid x.pcp x.dei → HasPassed a.bytes x
+has_passed b a x bytes is = record { kind = leaves; pcp = subst (λ n. n < 8) (sym pcp) (pcp_small a.bytes bytes); own = own }
   where
-    ours : ingress_of b a.port a.bytes ≡ ingress.Passed x.tag.vid x.tag.pcp x.tag.dei
-    ours = relayed_of (is_relayed b a.port a.bytes) (ingress_of b a.port a.bytes) x.tag.vid x.tag.pcp x.tag.dei is
+    ours : ingress_of b a.port a.bytes ≡ ingress.Passed x.vid x.pcp x.dei
+    ours = relayed_of (is_relayed b a.port a.bytes) (ingress_of b a.port a.bytes) x.vid x.pcp x.dei is
 
     leaves : can_leave (kind_of a.bytes) ≡ true
-    leaves = leaves_by b a.port x.tag.vid x.tag.pcp x.tag.dei (kind_of a.bytes) ours
+    leaves = leaves_by b a.port x.vid x.pcp x.dei (kind_of a.bytes) ours
 
-    pcp : x.tag.pcp ≡ pcp_of (kind_of a.bytes)
-    pcp = pcp_by b a.port x.tag.vid x.tag.pcp x.tag.dei (kind_of a.bytes) (passes b a.port a.bytes) ours
+    pcp : x.pcp ≡ pcp_of (kind_of a.bytes)
+    pcp = pcp_by b a.port x.vid x.pcp x.dei (kind_of a.bytes) (passes b a.port a.bytes) ours
 
-    own : priority x.tag.pcp x.tag.dei ≡ priority_of (kind_of a.bytes)
-    own = ap (λ n. priority n x.tag.dei) pcp ∙ ap (priority (pcp_of (kind_of a.bytes))) (dei_by b a.port x.tag.vid x.tag.pcp x.tag.dei (kind_of a.bytes) (passes b a.port a.bytes) ours) ∙ own_of (kind_of a.bytes)
-
-    by_fields : (can_leave (kind_of x.arrived.bytes.now) ≡ true) × (priority x.tag.pcp x.tag.dei ≡ priority_of (kind_of x.arrived.bytes.now)) → HasPassed x
-    by_fields both = record { kind = both.0; pcp = subst (λ n. n < 8) (sym pcp) (pcp_small a.bytes bytes); own = both.1 }
+    own : priority x.pcp x.dei ≡ priority_of (kind_of a.bytes)
+    own = ap (λ n. priority n x.dei) pcp ∙ ap (priority (pcp_of (kind_of a.bytes))) (dei_by b a.port x.vid x.pcp x.dei (kind_of a.bytes) (passes b a.port a.bytes) ours) ∙ own_of (kind_of a.bytes)
 
 -- ---- what is told of it
 first_told : (e : Bool) (a : Arrival) → is_relay_first ((if e then event.Relay a.port a.index a.moment a.bytes else event.Ignored a.port a.index) ∷ []) ≡ e

@@ -1,5 +1,5 @@
 -- What the bridge sends for a frame.
-use Rattle.std.specs.Prelude.{◌≡◌, if◌then◌else◌, ◌≤◌, ◌<◌, Bool, true, false, List, [], ◌∷◌, IfSome}
+use Rattle.std.specs.Prelude.{◌≡◌, ℕ, if◌then◌else◌, ◌≤◌, ◌<◌, Bool, true, false, List, [], ◌∷◌, IfSome}
 use Rattle.exb_model.specs.declared.event.Event.{Event}
 use Rattle.exb_model.specs.declared.event.Event.TheVariants as event
 use Rattle.exb_model.specs.ETags.{TagFits}
@@ -7,6 +7,7 @@ use Rattle.exb_model.specs.EagerHistory.{is_relayed, arrival_event}
 use Rattle.exb_model.specs.Input.{Arrival}
 use Rattle.exb_model.specs.Learning.{passes}
 use Rattle.exb_model.specs.Frames.{kind_of, priority_of}
+use Rattle.exb_frame.specs.declared.egress.VlanTag.{VlanTag}
 use Rattle.exb_frame.specs.Egress.{can_leave, priority}
 use Rattle.exb_frame.specs.TagValues.{tag_of}
 use Rattle.exb_relay.specs.declared.send.Ingress.{Ingress}
@@ -16,7 +17,6 @@ use Rattle.exb_machine.specs.Controls.{taught}
 use Rattle.exb_machine.specs.Effects.{Effect, only}
 use Rattle.exb_machine.specs.Relaying.{passed_by}
 use Rattle.exb_machine.specs.Worlds.{World, with_table}
-use Rattle.exb_network.specs.declared.relaying.Passed.{Passed}
 
 -- it is at a port of the bridge, and its E-TAG, if it has one, can be written
 pub record CanSend (x : SendTo) : Type 0 where
@@ -24,11 +24,11 @@ pub record CanSend (x : SendTo) : Type 0 where
   pub last : x.bridge_port ≤ 64
   pub fits : IfSome x.tag (λ tag. TagFits (tag_of tag))
 
--- the frame may leave, with the priority of its own VLAN tag
-pub record HasPassed (x : Passed) : Type 0 where
-  pub kind : can_leave (kind_of x.arrived.bytes.now) ≡ true
-  pub pcp : x.tag.pcp < 8
-  pub own : priority x.tag.pcp x.tag.dei ≡ priority_of (kind_of x.arrived.bytes.now)
+-- the frame may leave, and has the priority of this VLAN tag
+pub record HasPassed (f : List ℕ) (tag : VlanTag) : Type 0 where
+  pub kind : can_leave (kind_of f) ≡ true
+  pub pcp : tag.pcp < 8
+  pub own : priority tag.pcp tag.dei ≡ priority_of (kind_of f)
 
 -- the first event is that of a frame that was relayed
 abbrev pub is_relay_first : List Event → Bool

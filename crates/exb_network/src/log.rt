@@ -159,11 +159,7 @@ pub(crate) fn add_events(
 /// Puts events behind others: copies of all but the last one, which is moved.
 #[cold]
 #[inline(never)]
-fn add_behind(
-    alloc: Global,
-    events: &mut List<Event>,
-    to: &mut List<Event>,
-) -> Result<(), NoMemory>
+fn add_behind(alloc: Global, events: &mut List<Event>, to: &mut List<Event>) -> Result<(), NoMemory>
     ensures { OnOk result (to.new ≡ to.old ++ events.old) }
 {
     let Some(last) = events.pop() else {

@@ -31,13 +31,6 @@ use exb_model::memory::NoMemory;
 use exb_model::port::PortId;
 use exb_relay::laws::spaces_number;
 
-/// A frame that passed at its port, and the VLAN tag with which it leaves tagged ports: its VLAN, and its own priority.
-#[derive(Clone, Copy)]
-struct Passed<'a> {
-    arrived: Arrived<'a>,
-    tag: VlanTag,
-}
-
 /// A frame leaves at a port of the bridge.
 #[inline(always)]
 fn leave(bridge_port: u8, moment: u64, frame: Bytes, post: &mut Post) -> Result<(), NoMemory>
@@ -95,52 +88,53 @@ fn put_word(
     core.down.push(below, word)
 }
 
-/// One send of the bridge: the frame leaves there, or goes down there with an E-TAG.
+/// One send of the bridge for a frame that passed with this VLAN tag: it leaves there, or goes down there with an E-TAG.
 fn send(
     site: &Site,
-    passed: &Passed,
+    arrived: &Arrived,
+    tag: &VlanTag,
     send: &SendTo,
     core: &mut Core,
     post: &mut Post,
 ) -> Result<(), NoMemory>
     requires at { IsAt site.now core.old }
-    requires passed { HasPassed passed.now }
+    requires passed { HasPassed arrived.now.bytes.now tag.now }
     requires send { CanSend send.now }
-    ensures { OnOk result (Does (sends_in site.now.tree (arrival_of passed.now.arrived) passed.now.tag.vid send.now (world_in core.old)) site.now core.new post.old.log post.new.log) }
+    ensures { OnOk result (Does (sends_in site.now.tree (arrival_of arrived.now) tag.now.vid send.now (world_in core.old)) site.now core.new post.old.log post.new.log) }
 {
-    let frame = passed.arrived.bytes;
+    let frame = arrived.bytes;
     let mut buffer = post.store.buffer(post.alloc);
     match &send.tag {
         None => {
-            let moment = passed.arrived.moment;
-            egress_into(frame, send.kind, &passed.tag, &mut buffer)?;
+            egress_into(frame, send.kind, tag, &mut buffer)?;
             let bytes = Bytes::from_vec(buffer);
-            leave(send.bridge_port, moment, bytes, post)
+            leave(send.bridge_port, arrived.moment, bytes, post)
         }
-        Some(tag) => {
-            let stamp = passed.arrived.stamp();
-            tagged_egress_into(frame, send.kind, &passed.tag, tag, &mut buffer)?;
+        Some(etag) => {
+            let stamp = arrived.stamp();
+            tagged_egress_into(frame, send.kind, tag, etag, &mut buffer)?;
             let bytes = Bytes::from_vec(buffer);
             put_word(site, send.bridge_port, bytes, stamp, core, post)
         }
     }
 }
 
-/// All sends of the bridge, in order.
+/// All sends of the bridge for a frame that passed, in order.
 fn send_all(
     site: &Site,
-    passed: &Passed,
+    arrived: &Arrived,
+    tag: &VlanTag,
     sends: &[SendTo],
     core: &mut Core,
     post: &mut Post,
 ) -> Result<(), NoMemory>
     requires at { IsAt site.now core.old }
-    requires passed { HasPassed passed.now }
+    requires passed { HasPassed arrived.now.bytes.now tag.now }
     requires sends { All CanSend sends.now }
-    ensures { OnOk result (Does (each (sends_in site.now.tree (arrival_of passed.now.arrived) passed.now.tag.vid) sends.now (world_in core.old)) site.now core.new post.old.log post.new.log) }
+    ensures { OnOk result (Does (each (sends_in site.now.tree (arrival_of arrived.now) tag.now.vid) sends.now (world_in core.old)) site.now core.new post.old.log post.new.log) }
 {
     for one in sends {
-        send(site, passed, one, core, post)?;
+        send(site, arrived, tag, one, core, post)?;
     }
     Ok(())
 }
@@ -229,21 +223,13 @@ pub(crate) fn come(
     match &room.outbox.ingress {
         Ingress::Dropped => Ok(()),
         Ingress::Passed { vid, pcp, dei } => {
-            let passed = Passed {
-                arrived: Arrived {
-                    port: arrived.port,
-                    index: arrived.index,
-                    moment: arrived.moment,
-                    bytes: arrived.bytes,
-                },
-                tag: VlanTag {
-                    pcp: *pcp,
-                    dei: *dei,
-                    vid: *vid,
-                },
+            let tag = VlanTag {
+                pcp: *pcp,
+                dei: *dei,
+                vid: *vid,
             };
             let sends = room.outbox.sends.as_slice();
-            send_all(site, &passed, sends, core, &mut room.post)
+            send_all(site, arrived, &tag, sends, core, &mut room.post)
         }
     }
 }
@@ -324,16 +310,17 @@ fn take_data(
     requires cascade { is_cascade site.now.tree (bridge_port - 1) ≡ true }
     ensures { OnOk result (Does (comes_from site.now.tree (holder_by (world_in core.old) (bridge_port - 1) (read_etag word.bytes)) word.stamp (stripped word.bytes) (world_in core.old)) site.now core.new room.old.post.log room.new.post.log) }
 {
-    let Some(port) = holder(site, core, bridge_port, word.bytes.as_slice()) else {
+    let Word { bytes, stamp } = word;
+    let Some(port) = holder(site, core, bridge_port, bytes.as_slice()) else {
         return Ok(());
     };
-    let Some(stamp) = word.stamp else {
+    let Some(stamp) = stamp else {
         return Ok(());
     };
     if !site.tree().is_external(port) {
         return Ok(());
     }
-    let mut buffer = word.bytes.into_vec();
+    let mut buffer = bytes.into_vec();
     strip_in_place(&mut buffer);
     let (_, frame) = buffer.as_slice().split_at(8);
     let arrived = Arrived {

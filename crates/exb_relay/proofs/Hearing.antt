@@ -1,13 +1,11 @@
 -- The hearers of a frame that passed.
-use Rattle.std.proofs.Common.{◌≡◌, ℕ, ◌&&◌, Bool, true, not, ap, sym, ◌∙◌}
+use Rattle.std.proofs.Common.{◌≡◌, ℕ, ◌&&◌, true, not}
 use Rattle.std.proofs.lemmas.Bool.{and_parts}
-use Rattle.exb_model.specs.declared.port_set.PortSet.{PortSet}
 use Rattle.exb_model.specs.declared.vlan.Kind.{Kind}
 use Rattle.exb_model.specs.declared.vlan.Kind.TheVariants.{Tagged, Untagged}
 use Rattle.exb_model.specs.Ports.{port_in}
 use Rattle.exb_model.specs.Refusals.{is_kind}
 use Rattle.exb_model.specs.Tree.{Shape, is_external}
-use Rattle.exb_model.specs.Configuration.{Bridge}
 use Rattle.exb_model.specs.Numbers.{Numbers}
 use Rattle.exb_config.specs.Tables.{bridge_of}
 use Rattle.exb_relay.specs.declared.hearers.Hearers.{Hearers}

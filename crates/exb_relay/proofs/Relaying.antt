@@ -1,22 +1,19 @@
 -- The parts of the relay's code.
-use Rattle.std.proofs.Common.{◌≡◌, ℕ, ◌+◌, ◌-◌, ◌<◌, ◌≤◌, ◌==◌, ◌&&◌, ◌++◌, cond, Bool, true, false, List, [], ◌∷◌, Some, None, refl, sym, ◌∙◌, ap, subst, arith, inl, inr, eq-eqb}
-use Rattle.std.specs.List.{flat_map}
+use Rattle.std.proofs.Common.{◌≡◌, ℕ, ◌+◌, ◌-◌, ◌<◌, ◌≤◌, ◌==◌, ◌&&◌, ◌++◌, cond, Bool, true, false, [], Some, None, refl, sym, ◌∙◌, subst, arith, inl, inr, eq-eqb}
 use Rattle.std.proofs.lemmas.List.{append-nil}
-use Rattle.std.proofs.lemmas.Grind.{flat_map-append}
-use Rattle.std.proofs.lemmas.Bool.{cases_eq, cases_lt, ne_eqb, false≢true, false_from_ne_true}
+use Rattle.std.proofs.lemmas.Bool.{cases_eq, ne_eqb, false≢true, false_from_ne_true}
 use Rattle.exb_model.specs.declared.vlan.Kind.TheVariants.{Tagged, Untagged}
 use Rattle.exb_model.specs.declared.port_set.PortSet.{PortSet}
-use Rattle.exb_model.specs.Ports.{port_in, ports_of, below, all_ports}
+use Rattle.exb_model.specs.Ports.{port_in, ports_of, below}
 use Rattle.exb_model.specs.Tree.{Shape, IsTree, IsCascade, device, trunk, is_port, is_cascade, is_external, is_under}
-use Rattle.exb_model.proofs.PortLemmas.{filter_below-agree, filter_below-none, below-more}
+use Rattle.exb_model.proofs.PortLemmas.{filter_below-agree, filter_below-none}
 use Rattle.exb_numbers.specs.Spaces.{Spaces, has_space}
-use Rattle.exb_relay.specs.declared.send.SendTo.{SendTo}
 use Rattle.exb_relay.specs.declared.source.Source.{Source}
 use Rattle.exb_model.specs.Numbers.{Numbers}
 use Rattle.exb_relay.specs.Spaces.{HasSpaces}
 use Rattle.exb_relay.specs.Sends.{or_zero, ingress_at, local_send}
 use Rattle.exb_relay.specs.Words.{ingress_for, kind_among, set_below, set_word, member_sends}
-use Rattle.exb_relay.proofs.Under.{under_extended, under_home, under_trunk, none_low, none_under, under_cascade, hangs, home_low, extended_from, extended_external, external_port, external_free, external_below}
+use Rattle.exb_relay.proofs.Under.{under_home, under_trunk, none_low, none_under, under_cascade, hangs, home_low, extended_from, external_port, external_free}
 
 module _ (t : Shape) (valid : IsTree t) where
   -- ---- the trunk above a port has a space

@@ -1,5 +1,5 @@
 -- The ports of the bridge at which a frame may go out, as the bits of a word that are gone through, lowest first.
-use Rattle.std.proofs.Common.{◌≡◌, ◌≢◌, ◌⊎◌, ℕ, zero, suc, ◌+◌, ◌-◌, ◌*◌, ◌%◌, ◌^◌, ◌<◌, ◌≤◌, ◌==◌, ◌&&◌, ◌||◌, ◌++◌, cond, max, Bool, true, false, List, [], ◌∷◌, length, Option, Some, None, refl, sym, ◌∙◌, ap, arith, inl, inr, eq-eqb, append_assoc, length-append, bit_and, bit_or, w64}
+use Rattle.std.proofs.Common.{◌≡◌, ◌≢◌, ◌⊎◌, ℕ, zero, suc, ◌+◌, ◌*◌, ◌%◌, ◌^◌, ◌<◌, ◌≤◌, ◌==◌, ◌&&◌, ◌||◌, ◌++◌, cond, max, Bool, true, false, List, [], length, Option, Some, None, refl, sym, ◌∙◌, ap, arith, inl, inr, eq-eqb, append_assoc, length-append, bit_and, bit_or, w64}
 use Rattle.std.specs.List.{flat_map, range_with_len}
 use Rattle.std.specs.Int.{bit_at, bit_not, trailing_zeros}
 use Rattle.std.proofs.lemmas.List.{append-nil}
@@ -12,7 +12,7 @@ use Rattle.exb_model.specs.declared.vlan.Kind.TheVariants.{Tagged, Untagged}
 use Rattle.exb_model.specs.Masks.{bits_of}
 use Rattle.exb_model.specs.Ports.{below}
 use Rattle.exb_model.specs.Refusals.{is_empty_set}
-use Rattle.exb_model.specs.Tree.{Shape, IsTree, device, trunk, is_extended, is_under, by_depth}
+use Rattle.exb_model.specs.Tree.{Shape, IsTree, device, trunk, is_under, by_depth}
 use Rattle.exb_model.specs.Numbers.{Numbers}
 use Rattle.exb_config.proofs.Masks.{mask_bit}
 use Rattle.exb_model.proofs.PortLemmas.{filter_below-none}

@@ -1,5 +1,5 @@
 -- What holds of the words, said in other words.
-use Rattle.std.specs.Prelude.{◌≡◌, ℕ, ◌<◌, ◌^◌, Bool, List, [], ◌∷◌, ◌++◌, Option, Some, None, IfSome, codes, decimal, sum_by}
+use Rattle.std.specs.Prelude.{◌≡◌, ℕ, ◌<◌, ◌^◌, Bool, if◌then◌else◌, List, [], ◌∷◌, ◌++◌, Option, Some, None, IfSome, codes, decimal, sum_by}
 use Rattle.exb_words.specs.Words.{Ask, Run, Check, Make, Audit, Net, Item, items_of, words_of}
 
 -- ---- options may stand in any order around the name

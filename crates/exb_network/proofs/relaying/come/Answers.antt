@@ -1,4 +1,4 @@
-use Rattle.std.proofs.Common.{List, refl, sym, subst, ◌∙◌}
+use Rattle.std.proofs.Common.{List, sym, subst, ◌∙◌}
 use Rattle.std.proofs.lemmas.Result.{on_ok_weaker}
 use Rattle.exb_model.specs.Learning.{passes}
 use Rattle.exb_relay.specs.declared.send.SendTo.{SendTo}
@@ -26,7 +26,7 @@ returns-in-Dropped c =
 
 pub send_all-requires-clause-passed : goal.send_all-requires-clause-passed
 send_all-requires-clause-passed c =
-    has_passed (world_in c.args.core.now).control.bridge (arrival_of c.args.arrived.now) _ refl c.are_bytes.ensures (sym c.in_ok-learn.ensures.ingress ∙ c.in-Passed.is)
+    has_passed (world_in c.args.core.now).control.bridge (arrival_of c.args.arrived.now) _ c.are_bytes.ensures (sym c.in_ok-learn.ensures.ingress ∙ c.in-Passed.is)
 
 pub returns-in-Passed : goal.returns-in-Passed
 returns-in-Passed c =

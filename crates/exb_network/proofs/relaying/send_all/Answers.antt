@@ -9,7 +9,7 @@ use Rattle.exb_network.proofs.relaying.send_all.Goals as goal
 
 pub loop-one-preserved : goal.loop-one-preserved
 loop-one-preserved c =
-    let f = sends_in c.args.site.now.tree (arrival_of c.args.passed.now.arrived) c.args.passed.now.tag.vid in
+    let f = sends_in c.args.site.now.tree (arrival_of c.args.arrived.now) c.args.tag.now.vid in
     let xs = c.args.sends.now in
     let does = c.in_ok-send.ensures in (
       read_leads f (each f xs (world_in c.args.core.now)) xs c.loop-one.one-index (record { bridge_port = 0; tag = None; kind = kind.Tagged }) c.args.site.now c.loop-one.core c.send.new.core c.args.post.now.log

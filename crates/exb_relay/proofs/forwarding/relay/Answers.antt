@@ -1,7 +1,4 @@
 use Rattle.std.proofs.Common.{◌≡◌, ℕ, Some, None, true, false, sym, ◌∙◌, ap}
-use Rattle.std.specs.Prelude.{Option, is_some, option_copied}
-use Rattle.exb_model.specs.Frames.{kind_of}
-use Rattle.exb_model.specs.declared.frame_kind.Seen.{Seen}
 use Rattle.exb_model.specs.Learning.{passes, passes_as}
 use Rattle.exb_config.specs.Tables.{bridge_of}
 use Rattle.exb_learn.specs.Entries.{look_of}

@@ -1,4 +1,4 @@
-use Rattle.std.proofs.Common.{◌≡◌, ◌∙◌, List, ℕ, Some, None, sym, ap, arith}
+use Rattle.std.proofs.Common.{◌≡◌, ◌∙◌, Some, None, sym, ap, arith}
 use Rattle.std.specs.Option.{option_copied}
 use Rattle.exb_model.specs.Ports.{port_in}
 use Rattle.exb_model.specs.Frames.{destination}

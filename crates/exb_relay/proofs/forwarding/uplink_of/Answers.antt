@@ -1,4 +1,4 @@
-use Rattle.std.proofs.Common.{◌≡◌, ℕ, ◌+◌, ◌/◌, subst, arith}
+use Rattle.std.proofs.Common.{◌≡◌, ℕ, ◌+◌, subst, arith}
 use Rattle.exb_model.specs.Tree.{device, trunk}
 use Rattle.exb_relay.proofs.Relaying.{home_space}
 use Rattle.exb_relay.proofs.forwarding.uplink_of.Goals as goal

@@ -1,4 +1,4 @@
-use Rattle.std.proofs.Common.{◌≡◌, ◌<◌, ◌+◌, ◌++◌, ℕ, length, get_or, set, ap, ◌∙◌, arith, refl}
+use Rattle.std.proofs.Common.{rules, ◌≡◌, ◌<◌, ◌+◌, ◌++◌, ℕ, length, length-append, get_or, set, ap, ◌∙◌, arith, refl}
 use Rattle.std.proofs.lemmas.Result.{on_err_weaker, on_ok_weaker}
 use Rattle.exb_text.specs.declared.output.Output.TheVariants as output
 use Rattle.exb_outputs.specs.Plans.{kind_at, output_count, output_name, place_in}
@@ -33,7 +33,6 @@ pub returns-clause-texts : goal.returns-clause-texts
 returns-clause-texts g c = λ t.
     let S = g.S.Shelf in
     let plan = c.args.plan.now in
-    let bytes = c.args.bytes.now in
     let at = c.place-at.result in
     let place = placed plan (output.Capture c.args.port) c.requires.external c.requires.low in
     let lt : at < output_count plan = (let low = place.low in let same = c.place-at.ensures in omega (arith, low, same)) in
@@ -52,7 +51,6 @@ pub returns-clause-cut : goal.returns-clause-cut
 returns-clause-cut g c = λ t.
     let S = g.S.Shelf in
     let plan = c.args.plan.now in
-    let bytes = c.args.bytes.now in
     let at = c.place-at.result in
     let place = placed plan (output.Capture c.args.port) c.requires.external c.requires.low in
     let lt : at < output_count plan = (let low = place.low in let same = c.place-at.ensures in omega (arith, low, same)) in
@@ -78,7 +76,9 @@ returns-clause-sent g c =
     let inside : place_in plan.tree c.args.port < length all = (let low = place.low in let ready = c.requires.ready.files in omega (arith, low, ready)) in
     let was = c.index_mut-file.result.now in
     let now = c.add_record.new.file in
-    let head : length (c.args.head.now ++ bytes) ≡ 16 + length bytes = ? in
+    let long : length c.args.head.now ≡ 16 = search rules in
+    let parts = length-append c.args.head.now bytes in
+    let head : length (c.args.head.now ++ bytes) ≡ 16 + length bytes = omega (arith, long, parts) in
     on_ok_weaker c.add_record.result
     (λ size moment sent has.
     frame_sent plan c.args.self.now _ c.args.port moment bytes was now (ap (λ (j : ℕ). set all j now) same) inside

@@ -1,5 +1,4 @@
 use Rattle.std.proofs.Common.{◌≡◌, ◌∙◌, ℕ, ◌+◌, ◌*◌, ◌&&◌, Bool, true, false, not, refl, sym, ap}
-use Rattle.exb_model.specs.Masks.{bits_of}
 use Rattle.exb_model.specs.Ports.{port_in}
 use Rattle.exb_model.specs.Configuration.{kind_in}
 use Rattle.exb_model.specs.Refusals.{is_kind}
