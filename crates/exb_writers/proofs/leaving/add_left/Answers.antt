@@ -1,4 +1,4 @@
-use Rattle.std.proofs.Common.{◌≡◌, ℕ, List, [], length, ap, sym, subst}
+use Rattle.std.proofs.Common.{ℕ, List, [], length, ap, sym, subst}
 use Rattle.exb_machine.specs.Worlds.{Left as Leaving}
 use Rattle.exb_network.specs.Rows.{ports_in}
 use Rattle.exb_outputs.specs.Sent.{HasSent}
