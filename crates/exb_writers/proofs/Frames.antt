@@ -1,5 +1,5 @@
 -- Frames that left, in the captures of their ports.
-use Rattle.std.proofs.Common.{◌≡◌, ◌<◌, ◌≤◌, ◌+◌, ◌++◌, All, Bool, true, false, if◌then◌else◌, ◌==◌, ℕ, suc, List, [], ◌∷◌, length, take, drop, get_or, flat_map, refl, ap, sym, subst, ◌∙◌, arith, append_assoc}
+use Rattle.std.proofs.Common.{◌≡◌, ◌<◌, ◌+◌, ◌++◌, All, Bool, true, false, if◌then◌else◌, ◌==◌, ℕ, suc, List, [], ◌∷◌, length, take, drop, get_or, flat_map, refl, ap, sym, subst, ◌∙◌, arith, append_assoc}
 use Rattle.std.proofs.lemmas.List.{append-nil, take_more}
 use Rattle.std.proofs.lemmas.Grind.{flat_map-append}
 use Rattle.exb_model.specs.FlatBridge.{Sent}
