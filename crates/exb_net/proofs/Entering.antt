@@ -1,8 +1,7 @@
 -- What a frame that arrives leaves.
-use Rattle.std.proofs.Common.{◌≡◌, ℕ, ◌-◌, ◌++◌, ◌==◌, List, [], ◌∷◌, length, take, drop, map, Some, refl, ap, ◌∙◌, subst, arith, inl, inr}
+use Rattle.std.proofs.Common.{◌≡◌, ℕ, ◌-◌, ◌++◌, ◌==◌, List, [], ◌∷◌, length, drop, map, Some, refl, ap, ◌∙◌, subst, inl, inr}
 use Rattle.std.specs.Prelude.{Result, Ok, Err, OnOk}
 use Rattle.std.proofs.lemmas.Bool.{cases_Bool}
-use Rattle.std.proofs.lemmas.List.{length-drop, take_all}
 use Rattle.exb_resting.specs.Flight.Showing.{left_at}
 use Rattle.exb_nets.specs.NetHistory.{Crossing, crosses}
 use Rattle.exb_model.specs.Input.{Arrival}

@@ -27,18 +27,19 @@ left_cons e q x xs = elim (cases_Bool (x.port == q)) [
 ]
 
 -- ---- but for the first so many
-one_dropped : {A : Type 0} (k : ℕ) (x : A) (xs : List A) → drop k (x ∷ []) ++ drop (k - 1) xs ≡ drop k (x ∷ xs)
-one_dropped zero x xs = refl
-one_dropped (suc k) x xs = let e : suc k - 1 ≡ k = omega arith in ap (λ (j : ℕ). drop j xs) e
+module _ {A : Type 0} where
+  none_dropped : (k : ℕ) (xs : List A) → drop k [] ++ xs ≡ xs
+  none_dropped zero xs = refl
+  none_dropped (suc k) xs = refl
 
-pub parts_dropped : {A : Type 0} (k : ℕ) (xs ys : List A) → drop k xs ++ drop (k - length xs) ys ≡ drop k (xs ++ ys)
-parts_dropped k [] ys = let e : k - 0 ≡ k = omega arith in none k ∙ ap (λ (j : ℕ). drop j ys) e
-  where
-    none : (j : ℕ) → drop j [] ++ drop (k - 0) ys ≡ drop (k - 0) ys
-    none zero = refl
-    none (suc j) = refl
-parts_dropped zero (x ∷ xs) ys = let e : 0 - length (x ∷ xs) ≡ 0 = omega arith in ap (λ (j : ℕ). (x ∷ xs) ++ drop j ys) e
-parts_dropped (suc k) (x ∷ xs) ys = let e : suc k - length (x ∷ xs) ≡ k - length xs = omega arith in ap (λ (j : ℕ). drop k xs ++ drop j ys) e ∙ parts_dropped k xs ys
+  one_dropped : (k : ℕ) (x : A) (xs : List A) → drop k (x ∷ []) ++ drop (k - 1) xs ≡ drop k (x ∷ xs)
+  one_dropped zero x xs = refl
+  one_dropped (suc k) x xs = let e : suc k - 1 ≡ k = omega arith in none_dropped k (drop (suc k - 1) xs) ∙ ap (λ (j : ℕ). drop j xs) e
+
+  parts_dropped : (k : ℕ) (xs ys : List A) → drop k xs ++ drop (k - length xs) ys ≡ drop k (xs ++ ys)
+  parts_dropped k [] ys = let e : k - 0 ≡ k = omega arith in none_dropped k (drop (k - 0) ys) ∙ ap (λ (j : ℕ). drop j ys) e
+  parts_dropped zero (x ∷ xs) ys = let e : 0 - length (x ∷ xs) ≡ 0 = omega arith in ap (λ (j : ℕ). (x ∷ xs) ++ drop j ys) e
+  parts_dropped (suc k) (x ∷ xs) ys = let e : suc k - length (x ∷ xs) ≡ k - length xs = omega arith in ap (λ (j : ℕ). drop k xs ++ drop j ys) e ∙ parts_dropped k xs ys
 
 over_parts : (e : End) (q : ℕ) (xs ys : List Left) → crosses (Some e) (left_at q (xs ++ ys)) ≡ crosses (Some e) (left_at q xs) ++ crosses (Some e) (left_at q ys)
 over_parts e q [] ys = refl

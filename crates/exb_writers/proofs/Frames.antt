@@ -1,5 +1,5 @@
 -- Frames that left, in the captures of their ports.
-use Rattle.std.proofs.Common.{◌≡◌, ◌<◌, ◌≤◌, ◌+◌, ◌++◌, All, Bool, true, false, if◌then◌else◌, ◌==◌, ℕ, suc, List, [], ◌∷◌, length, take, drop, get_or, flat_map, refl, ap, sym, subst, ◌∙◌, arith, append_assoc}
+use Rattle.std.proofs.Common.{◌≡◌, ◌<◌, ◌+◌, ◌++◌, All, Bool, true, false, if◌then◌else◌, ◌==◌, ℕ, suc, List, [], ◌∷◌, length, take, drop, get_or, flat_map, refl, ap, sym, subst, ◌∙◌, arith, append_assoc}
 use Rattle.std.proofs.lemmas.List.{append-nil, take_more}
 use Rattle.std.proofs.lemmas.Grind.{flat_map-append}
 use Rattle.exb_model.specs.FlatBridge.{Sent}
@@ -97,21 +97,21 @@ module _ (x : Left) (port : ℕ) (ports rest : List ℕ) (is : ports ≡ port �
   pub copies_on : (done : List Leaving) → done ++ copies_at x.moment x.bytes ports ≡ copies_of x → (done ++ copy ∷ []) ++ copies_at x.moment x.bytes rest ≡ copies_of x
   copies_on done all = append_assoc done (copy ∷ []) (copies_at x.moment x.bytes rest) ∙ ap (λ (ys : List Leaving). done ++ ys) (sym next_copy) ∙ all
 
-  pub texts_on : (plan : Planned) (f g : Files) (pieces : List (List ℕ)) (text : Output → List ℕ) (done : List Leaving) (record : List ℕ) → record_text (x.moment, x.bytes) ≡ record
-      → HasTexts plan pieces f g (with_more (with_copies text done) (output.Capture port) record) → HasTexts plan pieces f g (with_copies text (done ++ copy ∷ []))
-  texts_on plan f g pieces text done record same =
-      kinds_same plan f g pieces (with_more (with_copies text done) (output.Capture port) record) (with_copies text (done ++ copy ∷ []))
+  pub texts_on : (plan : Planned) (f g : Files) (pieces : List (List ℕ)) (text : Output → List ℕ) (done : List Leaving) (written : List ℕ) → record_text (x.moment, x.bytes) ≡ written
+      → HasTexts plan pieces f g (with_more (with_copies text done) (output.Capture port) written) → HasTexts plan pieces f g (with_copies text (done ++ copy ∷ []))
+  texts_on plan f g pieces text done written same =
+      kinds_same plan f g pieces (with_more (with_copies text done) (output.Capture port) written) (with_copies text (done ++ copy ∷ []))
       (λ o. ap (λ (r : List ℕ). with_more (with_copies text done) (output.Capture port) r o) (sym same) ∙ copy_more text done copy o)
 
-  pub cut_on : (plan : Planned) (f g : Files) (text : Output → List ℕ) (done : List Leaving) (record : List ℕ) → record_text (x.moment, x.bytes) ≡ record
+  pub cut_on : (plan : Planned) (f g : Files) (text : Output → List ℕ) (done : List Leaving) (written : List ℕ) → record_text (x.moment, x.bytes) ≡ written
       → done ++ copies_at x.moment x.bytes ports ≡ copies_of x
-      → AreCut plan f g (with_more (with_copies text done) (output.Capture port) record) → AreCut plan f g (with_copies text (copies_of x))
-  cut_on plan f g text done record same all =
-      cut_longer plan f g (with_more (with_copies text done) (output.Capture port) record) (with_copies text (copies_of x))
+      → AreCut plan f g (with_more (with_copies text done) (output.Capture port) written) → AreCut plan f g (with_copies text (copies_of x))
+  cut_on plan f g text done written same all =
+      cut_longer plan f g (with_more (with_copies text done) (output.Capture port) written) (with_copies text (copies_of x))
       (λ k l.
       let o : Output = kind_at plan k in
       let on = goes_more_copies text (done ++ copy ∷ []) (copies_at x.moment x.bytes rest) o in
-      let was : with_more (with_copies text done) (output.Capture port) record o ≡ with_copies text (done ++ copy ∷ []) o =
+      let was : with_more (with_copies text done) (output.Capture port) written o ≡ with_copies text (done ++ copy ∷ []) o =
       ap (λ (r : List ℕ). with_more (with_copies text done) (output.Capture port) r o) (sym same) ∙ copy_more text done copy o in (
         on.0,
         ap (λ (ys : List Leaving). with_copies text ys o) (sym (copies_on done all)) ∙ on.1 ∙ ap (λ (xs : List ℕ). xs ++ on.0) (sym was),

@@ -1,4 +1,4 @@
-use Rattle.std.proofs.Common.{◌≡◌, ℕ, List, [], length, ap, sym, subst}
+use Rattle.std.proofs.Common.{ℕ, List, [], length, ap, sym, subst, arith}
 use Rattle.exb_machine.specs.Worlds.{Left as Leaving}
 use Rattle.exb_network.specs.Rows.{ports_in}
 use Rattle.exb_outputs.specs.Sent.{HasSent}
@@ -14,6 +14,14 @@ record_text-head-requires g c =
     let left = c.args.left.now in
     let some = c.is_empty.ensures.some c.if-is_empty.false in
     (copy_can left some.first (ports_in left.row) some.rest some.is c.args.plan.now c.requires.frame).moment
+
+pub overflow_cast-as_slice : goal.overflow_cast-as_slice
+overflow_cast-as_slice g c =
+    let left = c.args.left.now in
+    let some = c.is_empty.ensures.some c.if-is_empty.false in
+    let short = (copy_can left some.first (ports_in left.row) some.rest some.is c.args.plan.now c.requires.frame).bytes in
+    let same = ap (λ (xs : List ℕ). length xs) c.as_slice.ensures in
+    omega (arith, short, same)
 
 pub write_row-requires-clause-head : goal.write_row-requires-clause-head
 write_row-requires-clause-head g c = c.record_text-head.ensures c.args.left.now.bytes (ap (λ (xs : List ℕ). length xs) (sym c.as_slice.ensures))
