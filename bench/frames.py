@@ -14,7 +14,7 @@ same run, and compares what the two write byte for byte.
     bench/frames.py --costs     where the time goes, by callgrind (instructions, and not seconds)
 
 It works in a folder of its own under the system's folder for such, and takes it away at the end. The program and the
-baseline are built before where that is needed; a program that is built already may be named by EXBR=FILE.
+baseline are built before where that is needed; the program is the one that ./exbr runs, or the one that is named by EXBR=FILE.
 """
 import filecmp
 import os
@@ -29,9 +29,11 @@ import time
 sys.dont_write_bytecode = True
 TOP = os.path.dirname(os.path.dirname(os.path.abspath(__file__)))
 sys.path.insert(0, f"{TOP}/crates/exb_cases")
+sys.path.insert(0, f"{TOP}/bench")
 import bridge
+from program import program
 
-PROGRAM = os.environ.get("EXBR", f"{TOP}/crates/exbr/out/exbr")
+PROGRAM = program()
 TURNS = 3  # each program runs so often in turn with the other, and its best time counts
 BROADCAST = b"\xff" * 6
 HEADER = struct.pack("<IHHIIII", 0xA1B23C4D, 2, 4, 0, 0, 65535, 1)

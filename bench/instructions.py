@@ -94,8 +94,7 @@ def counted(case, top, flat, options):
     slug = re.sub(r"\W+", "-", case.name)
     folders = [captured(case, count, f"{top}/{slug}-{count}") for count in (FEW, MANY)]
     more = len(case.made(MANY)) - len(case.made(FEW))
-    program = os.path.abspath(os.environ.get("EXBR", frames.PROGRAM))
-    own = [program, "run", "topology.toml"]
+    own = [frames.PROGRAM, "run", "topology.toml"]
     plain = [flat, "1", "flat-"] + [f"in-{port}.pcap" for port in case.tree.ports]
     ways = [own, own + options, plain] if options else [own, plain]
     # Two runs at once in one folder would write over each other's files.

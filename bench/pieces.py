@@ -17,7 +17,10 @@ import tempfile
 import time
 
 TOP = os.path.dirname(os.path.dirname(os.path.abspath(__file__)))
-PROGRAM = os.path.abspath(os.environ.get("EXBR", f"{TOP}/crates/exbr/out/exbr"))
+sys.path.insert(0, f"{TOP}/bench")
+from program import program
+
+PROGRAM = program()
 LONG = 262_144
 FRAME = b"\xff" * 6 + b"\x02\x00\x00\x00\x00\x01" + b"\x08\x00" + bytes(46)
 HEADER = struct.pack("<IHHIIII", 0xA1B2C3D4, 2, 4, 0, 0, LONG, 1)

@@ -17,7 +17,7 @@ use Rattle.exb_merge.specs.declared.programme.Next.TheVariants as next
 use Rattle.exb_merge.specs.declared.programme.Programme.{Programme}
 use Rattle.exb_merge.specs.declared.replays.Came.{Came}
 use Rattle.exb_merge.specs.Programmes.{IsComing, IsFrom, left_of, what}
-use Rattle.exb_merge.specs.Replays.{HasCome, HasPort, gone_on, ids_in, left_in, number_of, standings}
+use Rattle.exb_merge.specs.Replays.{HasCome, HasPort, Standing, gone_on, ids_in, left_in, number_of, standings}
 use Rattle.exb_merge.proofs.Onward.{command_is, from_earlier, has_before, number_other, number_own, second_high, second_low}
 use Rattle.exb_play.specs.UnderWay.{ComeAll, second_by}
 use Rattle.exb_play.proofs.Segmenting.{together}

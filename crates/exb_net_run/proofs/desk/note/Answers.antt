@@ -1,4 +1,4 @@
-use Rattle.std.proofs.Common.{◌≡◌, Bool, List, [], length, ap, sym, subst, ◌∙◌}
+use Rattle.std.proofs.Common.{◌≡◌, ℕ, Bool, List, [], length, ap, sym, subst, ◌∙◌, arith}
 use Rattle.std.proofs.lemmas.Result.{err_from_is_err_and}
 use Rattle.exb_model.specs.declared.event.Event.{Event}
 use Rattle.exb_model.specs.Texts.{with_left}
@@ -28,6 +28,12 @@ note-requires g c =
     subst (λ (es : List Event). CanCount counted es c.passed.result.now count) (sym c.events.ensures)
     (subst (λ (bs : List Bool). CanCount counted n.log.events bs count) (sym c.passed.ensures)
     (subst (λ (k : ℕ). CanCount counted n.log.events n.log.passed k) same c.requires.can.can))
+
+pub overflow_cast-count_left : goal.overflow_cast-count_left
+overflow_cast-count_left g c =
+    let fits = c.requires.can.can.tally.left in
+    let same = c.count_left.ensures ∙ ap (λ (xs : List Left). length (all_left xs)) c.left.ensures in
+    omega (arith, fits, same)
 
 pub returns-clause-noted : goal.returns-clause-noted
 returns-clause-noted g c told done together more is =

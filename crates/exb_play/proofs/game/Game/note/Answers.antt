@@ -1,9 +1,12 @@
-use Rattle.std.proofs.Common.{◌≡◌, ℕ, Bool, List, length, ap, sym, subst, ◌∙◌}
+use Rattle.std.proofs.Common.{◌≡◌, ℕ, Bool, List, length, ap, sym, subst, ◌∙◌, arith}
 use Rattle.exb_model.specs.declared.event.Event.{Event}
+use Rattle.exb_model.specs.Texts.{with_left}
 use Rattle.exb_network.specs.declared.log.Left.{Left}
 use Rattle.exb_network.specs.Worlds.{all_left}
 use Rattle.exb_schedule.specs.Worlds.{network_of}
+use Rattle.exb_text.specs.Tallies.{counts_of}
 use Rattle.exb_writers.specs.Counts.{CanCount}
+use Rattle.exb_writers.proofs.Counting.{count_events}
 use Rattle.exb_play.proofs.game.Game.note.Goals as goal
 
 pub note-requires : goal.note-requires
@@ -15,3 +18,17 @@ note-requires g c =
     subst (λ (es : List Event). CanCount counted es c.passed.result.now count) (sym c.events.ensures)
     (subst (λ (bs : List Bool). CanCount counted n.log.events bs count) (sym c.passed.ensures)
     (subst (λ (k : ℕ). CanCount counted n.log.events n.log.passed k) same c.requires.can))
+
+pub overflow_cast-count_left : goal.overflow_cast-count_left
+overflow_cast-count_left g c =
+    let fits = c.requires.can.tally.left in
+    let same = c.count_left.ensures ∙ ap (λ (xs : List Left). length (all_left xs)) c.left.ensures in
+    omega (arith, fits, same)
+
+pub returns-clause-tally : goal.returns-clause-tally
+returns-clause-tally g c =
+    let n = network_of c.args.self.now.world in
+    let counts = counts_of c.args.self.now.counted.tally in
+    c.note.ensures.tally
+    ∙ ap (λ (es : List Event). with_left c.count_left.result (count_events counts es)) c.events.ensures
+    ∙ ap (λ (k : ℕ). with_left k (count_events counts n.log.events)) (c.count_left.ensures ∙ ap (λ (xs : List Left). length (all_left xs)) c.left.ensures)
