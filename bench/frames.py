@@ -215,7 +215,7 @@ def play(tree, tables, frames):
     text = write_topology(tree, 300, tables, [port])
     with open(f"in-{port}.pcap", "rb") as file:
         written, line = bridge.run(text, {f"in-{port}.pcap": file.read()})
-    seconds, memory = run([PROGRAM, "run", "topology.toml"])
+    seconds, memory = run([PROGRAM, "run", "--counters", "topology.toml"])
     for name, data in written.items():
         with open(name, "rb") as file:
             if file.read() != data:
