@@ -9,7 +9,6 @@ whatever its links lose, and which alone says what its trace is and in which ord
 `crates/exb_cases/cases.py` (Python 3.11 or later).
 """
 import os
-import re
 import shutil
 import struct
 import sys
@@ -25,6 +24,7 @@ import examples
 import fates
 import generated
 import net_cases
+import outcomes
 import pcapng
 import seeds
 import stepped
@@ -310,37 +310,8 @@ def outputs_that_are_read(cases):
     cases.end(name, 7, "run FOLDER/out-x1.1.pcap", files, "exbr: write fault")
 
 
-def told_of(played):
-    """What a bridge that was played tells, as the tables have it: its journal, and what left each port that was left by a frame."""
-    told = list(played.journal)
-    for port, left in played.left.items():
-        words = [f"{moment // bridge.SECOND}/{len(data)}/{data[12:16].hex().upper()}" for moment, data in left]
-        told += [" ".join([bridge.name_of(port), *words])] if left else []
-    return told
-
-
-def agree_with_tables():
-    """The plain bridge comes to what the tables of `exb_bridge_tests` say, which were written for another one."""
-    with open(os.path.join(HERE, "..", "exb_bridge_tests", "src", "plain", "outcomes.rt"), encoding="utf-8") as it:
-        tables = re.findall(r'\(\s*"([^"]*)",\s*"([^"]*)",\s*"([^"]*)",?\s*\)', it.read())
-    for topology, given, wanted in tables:
-        records = {}
-        for port, second, length, head in (it.split() for it in given.split(";") if it):
-            data = bytes.fromhex(head).ljust(int(length), b"\0")
-            records.setdefault(int(port), []).append((int(second) * bridge.SECOND, data))
-        played = bridge.Bridge(topology.replace("\\n", "\n"))
-        played.play(records)
-        if wanted.startswith("arrivals "):
-            told, wanted = played.summary().rstrip("\n"), wanted.removesuffix("\\n")
-        else:
-            told = " ".join(f"{it};" for it in told_of(played))
-        if told != wanted:
-            sys.exit(f"the plain bridge comes to {told}, and the tables of exb_bridge_tests to {wanted}")
-    return len(tables)
-
-
 def main():
-    print(f"{agree_with_tables()} cases of exb_bridge_tests come to the same")
+    print(f"the plain bridge comes to the {outcomes.agree()} rows of outcomes.py")
     print(f"{stepped.agree()} cases of exb_schedule_tests come to the same")
     cases = Cases()
     for part in (examples.play, frames, vlans, counters, files, *trees.PARTS, *changes.PARTS, *generated.PARTS, *fates.PARTS, *seeds.PARTS,

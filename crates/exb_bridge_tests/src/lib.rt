@@ -1,5 +1,5 @@
-//! Tests of the bridge's crates: configuration, numbers, the learned table, the sets of a tree, words through trees, the control with its plans
-//! and its relay, and the plain bridge. Each module has one driver; the cases are texts, the bridge of a case the text of a topology file. Nothing
+//! Tests of the bridge's crates: configuration, numbers, the learned table, the sets of a tree, words through trees, and the control with its
+//! plans and its relay. Each module has one driver; the cases are texts, the bridge of a case the text of a topology file. Nothing
 //! stands on this crate.
 #![tactic(auto)]
 
@@ -21,8 +21,6 @@ mod learning;
 mod numbers;
 #[cfg(test)]
 mod openings;
-#[cfg(test)]
-mod plain;
 #[cfg(test)]
 mod sets;
 #[cfg(test)]

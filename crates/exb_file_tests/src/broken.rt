@@ -1,7 +1,4 @@
-//! Captures, topologies and words that are cut, have a bit turned, go on, or stand at a limit: what is read of each, or its first
-//! fault.
+//! Captures and words that are cut, have a bit turned, go on, or stand at a limit: what is read of each, or its first fault.
 mod captures;
 mod cases;
-mod texts;
-mod topologies;
 mod words;

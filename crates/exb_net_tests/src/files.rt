@@ -1,4 +1,5 @@
-//! What the file of a net gives: each fault at each key where it can come, faults in their order, and the wires of a good one.
+//! The wires that the file of a net gives over the topologies of its bridges. The faults of files, by themselves and over topologies, are
+//! rows of `crates/exb_cases/verdicts`.
 ghost use Rattle.std.specs.Prelude.{IsTrue};
 ghost use Rattle.exb_net_file.specs.Sound.{AreValid};
 
@@ -8,51 +9,10 @@ use exb_model::text::Text;
 use exb_net_file::{NetFile, NetMember, read, wired};
 use exb_nets::wires::Wire;
 use exb_text::PortName;
-use exb_topology::TopoFault;
 use std::alloc::Global;
 use std::process::Abort;
 
-mod limits;
-mod shape;
 mod wires;
-
-// A fault and its key.
-fn fault_text(rt: &impl Abort, alloc: Global, fault: &TopoFault) -> String {
-    let text = match fault {
-        TopoFault::At { fault, key } => {
-            let key = key.as_str();
-            format!(in alloc; "{fault:?} at {key}")
-        }
-        TopoFault::NotToml => String::from_str(alloc, "NotToml"),
-        TopoFault::Large => String::from_str(alloc, "Large"),
-        TopoFault::Memory => String::from_str(alloc, "Memory"),
-    };
-    text.expect(rt, "memory")
-}
-
-/// The fault and key of a file by itself, or `ok`.
-pub(crate) fn verdict(rt: &impl Abort, alloc: Global, file: &[u8]) -> String {
-    match read(alloc, file) {
-        Ok(_file) => String::from_str(alloc, "ok").expect(rt, "memory"),
-        Err(fault) => fault_text(rt, alloc, &fault),
-    }
-}
-
-// Asserts the verdict of a file behind a head.
-fn judge_file(rt: &impl Abort, alloc: Global, head: &str, tail: &str, wanted: &str) {
-    let file = format!(in alloc; "{head}{tail}").expect(rt, "memory");
-    let given = verdict(rt, alloc, file.as_bytes());
-    same(rt, given.as_str(), wanted, file.as_str());
-}
-
-/// Asserts that each file, behind a head, has the verdict that stands beside it.
-pub(crate) fn judge(rt: &impl Abort, alloc: Global, head: &str, cases: &[(&str, &str)]) {
-    for (tail, wanted) in cases {
-        judge_file(rt, alloc, head, tail, wanted);
-    }
-}
-
-// ---- with the topologies
 
 // The text that stands at a place, or an empty one.
 fn text_at<'a>(texts: &[&'a str], index: usize) -> &'a str {
@@ -114,19 +74,17 @@ fn wire_text(rt: &impl Abort, alloc: Global, wire: Wire) -> String {
     format!(in alloc; "{from}:{a}-{to}:{b};").expect(rt, "memory")
 }
 
-// The wires of a file over these topologies, or the first fault.
+// The wires of a file over these topologies.
 fn wiring(rt: &impl Abort, alloc: Global, file: &NetFile, texts: &[&str]) -> String {
     let members = members_of(rt, alloc, file, texts);
     let members = members.as_slice();
     assert!(rt; members.len() <= 16);
     assert!(rt; are_valid(members));
-    match wired(alloc, members, file.wires.as_slice()) {
-        Ok(wires) => wires_text(rt, alloc, wires.as_slice()),
-        Err(fault) => fault_text(rt, alloc, &fault),
-    }
+    let wires = wired(alloc, members, file.wires.as_slice()).expect(rt, "no fault");
+    wires_text(rt, alloc, wires.as_slice())
 }
 
-/// A file of a net, the topologies of its bridges, and its wires or its fault.
+/// A file of a net, the topologies of its bridges, and its wires.
 pub(crate) type Net = (&'static str, &'static [&'static str], &'static str);
 
 fn judge_net(rt: &impl Abort, alloc: Global, net: &Net) {
@@ -136,7 +94,7 @@ fn judge_net(rt: &impl Abort, alloc: Global, net: &Net) {
     same(rt, given.as_str(), wanted, file);
 }
 
-/// Asserts the wires or the fault of each net.
+/// Asserts the wires of each net.
 pub(crate) fn judge_nets(rt: &impl Abort, alloc: Global, nets: &[Net]) {
     for net in nets {
         judge_net(rt, alloc, net);

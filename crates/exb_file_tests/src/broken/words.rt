@@ -1,5 +1,4 @@
 //! Words of the command line, cut before each byte, with each bit turned, and at their limits.
-use super::topologies::filled;
 use crate::compare::{holds, same};
 use crate::hostile::{verdict_at, verdict_of_bit};
 use exb_hostile::turned::{BITS, turn};
@@ -126,6 +125,32 @@ const LIMITS: [(&str, &str); 46] = [
     ("run \u{2212}t", "run <\u{2212}t>"),
     ("run t\n", "run <t\n>"),
 ];
+
+// A place in a text.
+fn place_of(rt: &impl Abort, word: &str) -> usize {
+    word.parse::<usize>().expect(rt, "a place")
+}
+
+// The text from `FIRST` to `LAST` in these bytes, by `FIRST-LAST`.
+fn text_at<'a>(rt: &impl Abort, bytes: &'a [u8], places: &str) -> &'a str {
+    let (first, last) = places.split_once('-').expect(rt, "two places");
+    let end = place_of(rt, last).saturating_add(1);
+    let there = bytes.get(place_of(rt, first)..end).expect(rt, "bytes");
+    std::str::from_utf8(there).expect(rt, "a text")
+}
+
+// A verdict with the text that stands in these bytes in the place of `{FIRST-LAST}`.
+fn filled(rt: &impl Abort, alloc: Global, bytes: &[u8], verdict: &str) -> String {
+    let verdict = match verdict.split_once('{') {
+        Some((before, rest)) => {
+            let (places, after) = rest.split_once('}').expect(rt, "places");
+            let text = text_at(rt, bytes, places);
+            format!(in alloc; "{before}{text}{after}")
+        }
+        None => String::from_str(alloc, verdict),
+    };
+    verdict.expect(rt, "memory")
+}
 
 // A text of its own.
 fn owned(rt: &impl Abort, alloc: Global, text: &str) -> String {

@@ -1,0 +1,195 @@
+"""Small inputs and what comes of each, in words: a topology, the frames that arrive, and the lines of the journal with the frames that leave.
+
+A frame that arrives is told by its port, second and length, and its first bytes in hexadecimal; zeros follow, and a semicolon stands
+between two. Of one that leaves stand second, length and the four bytes from its type on. The plain bridge (bridge.py) comes to each row,
+as `cases.py` asks it, and so does the program, as `./test` does.
+"""
+import bridge
+from frames import capture
+
+# An extender with two ports, or with three.
+TWO = "bridge = {ports = 1}\nextender = [{number = 1, on = 'b1', ports = 2}]\n"
+THREE = "bridge = {ports = 1}\nextender = [{number = 1, on = 'b1', ports = 3}]\n"
+
+# How frames leave.
+FRAMES = [
+    # Nothing arrives.
+    (TWO,
+     "",
+     "up x1.1; up x1.2; settled;"),
+    # A broadcast leaves the other port unchanged.
+    (TWO,
+     "x1.1 100 60 FFFFFFFFFFFF0200000000010800",
+     "up x1.1; up x1.2; settled; relay x1.1 1; settled; x1.2 100/60/08000000;"),
+    # Frames of 14 and of 9,216 bytes are the shortest and the longest.
+    (TWO,
+     "x1.1 100 13 FF;x1.1 101 14 FF;x1.1 102 9216 FF;x1.1 103 9217 FF",
+     "up x1.1; up x1.2; settled; ignore x1.1 1; settled; tick 1; relay x1.1 2; settled; tick 1; relay x1.1 3; settled; tick 1; ignore x1.1 4; "
+     "settled; x1.2 101/14/0000 102/9216/00000000;"),
+    # A port for tagged frames drops bad tags, cut ones and priority tags.
+    (TWO + "port = [{name = 'x1.1', accept = 'tagged'}]\n",
+     "x1.1 100 64 FFFFFFFFFFFF02000000000181000FFF;x1.1 100 64 FFFFFFFFFFFF020000000001810000000800;"
+     "x1.1 100 17 FFFFFFFFFFFF02000000000181000001;x1.1 100 64 FFFFFFFFFFFF020000000001810000010800",
+     "up x1.1; up x1.2; settled; relay x1.1 1; settled; relay x1.1 2; settled; relay x1.1 3; settled; relay x1.1 4; settled; "
+     "x1.2 100/60/08000000;"),
+    # A tagged frame keeps PCP and DEI, and loses its tag at an untagged member.
+    (THREE + "vlan = [{vid = 10, tagged = ['x1.1-2'], untagged = ['x1.3']}]\n",
+     "x1.1 100 64 FFFFFFFFFFFF0200000000018100B00A0800",
+     "up x1.1; up x1.2; up x1.3; settled; relay x1.1 1; settled; x1.2 100/64/8100B00A; x1.3 100/60/08000000;"),
+]
+
+# Where frames go once stations were heard.
+LEARNING = [
+    # A frame to a station at its own port leaves nowhere.
+    (TWO,
+     "x1.1 100 60 FFFFFFFFFFFF0200000000010800;x1.1 100 60 0200000000010200000000020800",
+     "up x1.1; up x1.2; settled; relay x1.1 1; settled; relay x1.1 2; settled; x1.2 100/60/08000000;"),
+    # A station is looked up before its own frame is learned.
+    (TWO,
+     "x1.1 100 60 0200000000010200000000010800;x1.1 100 60 0200000000010200000000010800",
+     "up x1.1; up x1.2; settled; relay x1.1 1; settled; relay x1.1 2; settled; x1.2 100/60/08000000;"),
+    # A station is forgotten at the ageing time and not a second before.
+    ("bridge = {ports = 1, ageing = 10}\nextender = [{number = 1, on = 'b1', ports = 3}]\n",
+     "x1.1 100 60 FFFFFFFFFFFF0200000000010800;x1.2 109 60 0200000000010200000000020800;x1.2 110 60 0200000000010200000000020800",
+     "up x1.1; up x1.2; up x1.3; settled; relay x1.1 1; settled; tick 9; relay x1.2 1; settled; tick 1; relay x1.2 2; settled; "
+     "x1.1 109/60/08000000 110/60/08000000; x1.2 100/60/08000000; x1.3 100/60/08000000 110/60/08000000;"),
+    # The type of an E-TAG is a station's own matter; a control frame passes nowhere.
+    (TWO,
+     "x1.1 100 60 FFFFFFFFFFFF020000000001893F00001000;x1.1 100 60 0180C200000E0200000000010800",
+     "up x1.1; up x1.2; settled; relay x1.1 1; settled; ignore x1.1 2; settled; x1.2 100/60/893F0000;"),
+]
+
+# Isolated ports and static entries.
+ISOLATION = [
+    # Isolated ports hear the others and not one another.
+    (THREE + "port = [{name = 'x1.1', isolated = true}, {name = 'x1.2', isolated = true}]\n",
+     "x1.1 100 60 FFFFFFFFFFFF0200000000010800;x1.3 101 60 FFFFFFFFFFFF0200000000010800",
+     "up x1.1; up x1.2; up x1.3; settled; relay x1.1 1; settled; tick 1; relay x1.3 1; settled; x1.1 101/60/08000000; x1.2 101/60/08000000; "
+     "x1.3 100/60/08000000;"),
+    # A port that is no longer isolated gets frames.
+    (THREE + "port = [{name = 'x1.1', isolated = true}, {name = 'x1.2', isolated = true}]\n"
+     "command = [{at = 1, op = 'isolate', port = 'x1.2', isolated = false}]\n",
+     "x1.1 100 60 FFFFFFFFFFFF0200000000010800;x1.1 102 60 FFFFFFFFFFFF0200000000010800",
+     "up x1.1; up x1.2; up x1.3; settled; relay x1.1 1; settled; tick 1; commit 1; settled; tick 1; relay x1.1 2; settled; "
+     "x1.2 102/60/08000000; x1.3 100/60/08000000 102/60/08000000;"),
+    # An isolated local port reaches the one port that is not isolated.
+    ("bridge = {ports = 2}\n"
+     "extender = [{number = 1, on = 'b1', ports = 3}]\n"
+     "port = [{name = 'x1.1', isolated = true}, {name = 'x1.2', isolated = true}, {name = 'b2', isolated = true}]\n",
+     "b2 100 60 FFFFFFFFFFFF0200000000010800",
+     "up x1.1; up x1.2; up x1.3; settled; relay b2 1; settled; x1.3 100/60/08000000;"),
+    # A static entry decides over members and learned ports.
+    (THREE + "static = [{vid = 1, mac = '02-00-00-00-00-01', ports = ['x1.3']}]\n",
+     "x1.2 100 60 FFFFFFFFFFFF0200000000010800;x1.1 101 60 0200000000010200000000020800",
+     "up x1.1; up x1.2; up x1.3; settled; relay x1.2 1; settled; tick 1; relay x1.1 1; settled; x1.1 100/60/08000000; "
+     "x1.3 100/60/08000000 101/60/08000000;"),
+]
+
+# Commands count from their commit on.
+COMMANDS = [
+    # A port that goes down hears nothing, and what was learned there is forgotten.
+    (THREE + "command = [{at = 1, op = 'down', port = 'x1.2'}, {at = 2, op = 'up', port = 'x1.2'}]\n",
+     "x1.2 100 60 FFFFFFFFFFFF0200000000010800;x1.1 100 60 0200000000010200000000020800;x1.1 101 60 FFFFFFFFFFFF0200000000020800;"
+     "x1.1 102 60 0200000000010200000000020800",
+     "up x1.1; up x1.2; up x1.3; settled; relay x1.1 1; settled; relay x1.2 1; settled; tick 1; commit 1; settled; relay x1.1 2; settled; "
+     "tick 1; commit 2; settled; relay x1.1 3; settled; x1.1 100/60/08000000; x1.2 100/60/08000000 102/60/08000000; "
+     "x1.3 100/60/08000000 100/60/08000000 101/60/08000000 102/60/08000000;"),
+    # Commands come before the frames of their moment.
+    (TWO + "command = [{at = 0, op = 'down', port = 'x1.2'}, {at = 1, op = 'up', port = 'x1.2'}]\n",
+     "x1.1 100 60 FFFFFFFFFFFF0200000000010800;x1.1 101 60 FFFFFFFFFFFF0200000000010800",
+     "up x1.1; up x1.2; settled; commit 1; settled; relay x1.1 1; settled; tick 1; commit 2; settled; relay x1.1 2; settled; "
+     "x1.2 101/60/08000000;"),
+    # A frame at a port that is down is ignored.
+    (TWO + "command = [{at = 0, op = 'down', port = 'x1.2'}]\n",
+     "x1.2 100 60 FFFFFFFFFFFF0200000000010800",
+     "up x1.1; up x1.2; settled; commit 1; settled; ignore x1.2 1; settled;"),
+    # An up of a port that is up takes effect.
+    (TWO + "command = [{at = 0, op = 'up', port = 'x1.1'}]\n",
+     "",
+     "up x1.1; up x1.2; settled; commit 1; settled;"),
+    # A member is tagged up to a commit, and untagged from it on.
+    (TWO + "vlan = [{vid = 10, tagged = ['x1.1-2']}]\ncommand = [{at = 1, op = 'member', vid = 10, port = 'x1.2', kind = 'untagged'}]\n",
+     "x1.1 100 64 FFFFFFFFFFFF0200000000018100000A0800;x1.1 102 64 FFFFFFFFFFFF0200000000018100000A0800",
+     "up x1.1; up x1.2; settled; relay x1.1 1; settled; tick 1; commit 1; settled; tick 1; relay x1.1 2; settled; "
+     "x1.2 100/64/8100000A 102/60/08000000;"),
+]
+
+# Numbers run out, and a time that falls is raised.
+NUMBERS = [
+    # A third set finds no group of two; a refused command never counts.
+    ("bridge = {ports = 1, groups = 2}\n"
+     "extender = [{number = 1, on = 'b1', ports = 3}]\n"
+     "command = [{at = 0, op = 'vlan', vid = 2, tagged = ['x1.1-2']}, {at = 0, op = 'vlan', vid = 3, tagged = ['x1.1']}, {at = 0, op = 'vlan', vid = 2}]\n",
+     "x1.2 100 64 FFFFFFFFFFFF020000000001810000030800",
+     "up x1.1; up x1.2; up x1.3; settled; commit 1; settled; refuse 2 groups 3 2; settled; commit 3; settled; relay x1.2 1; settled;"),
+    # A channel is free again after a down.
+    ("bridge = {ports = 1, channels = 1}\n"
+     "extender = [{number = 1, on = 'b1', ports = 2}]\n"
+     "command = [{at = 0, op = 'down', port = 'x1.1'}, {at = 0, op = 'up', port = 'x1.2'}]\n",
+     "",
+     "up x1.1; noup x1.2 channels 2 1; settled; commit 1; settled; commit 2; settled;"),
+    # Where there is one group for two sets, the second port doesn't go up.
+    ("bridge = {ports = 1, groups = 1}\nextender = [{number = 1, on = 'b1', ports = 2}]\n",
+     "x1.1 100 60 FFFFFFFFFFFF0200000000010800",
+     "up x1.1; noup x1.2 groups 2 1; settled; relay x1.1 1; settled;"),
+    # Each port of the bridge has channels of its own, and they run out below one alone.
+    ("bridge = {ports = 2, channels = 1}\nextender = [{number = 1, on = 'b1', ports = 1}, {number = 2, on = 'b2', ports = 2}]\n",
+     "x1.1 100 60 FFFFFFFFFFFF0200000000010800",
+     "up x1.1; up x2.1; noup x2.2 channels 2 1; settled; relay x1.1 1; settled; x2.1 100/60/08000000;"),
+    # A time that falls is raised.
+    (TWO,
+     "x1.1 100 60 FFFFFFFFFFFF0200000000010800;x1.1 99 60 FFFFFFFFFFFF0200000000010800",
+     "up x1.1; up x1.2; settled; relay x1.1 1; settled; relay x1.1 2; settled; x1.2 100/60/08000000 100/60/08000000;"),
+]
+
+# What the summary counts.
+SUMMARY = [
+    # A port that is down, and frames at another and there.
+    (THREE + "command = [{at = 0, op = 'down', port = 'x1.3'}]\n",
+     "x1.1 100 60 FFFFFFFFFFFF0200000000010800;x1.3 100 60 FFFFFFFFFFFF0200000000010800",
+     "arrivals 2 relayed 1 ignored 1 left 1 commits 1 refusals 0"),
+]
+
+OUTCOMES = [*FRAMES, *LEARNING, *ISOLATION, *COMMANDS, *NUMBERS]
+
+
+def records_of(frames):
+    """The frames that arrive at each port, with their seconds."""
+    records = {}
+    for port, second, length, head in (it.split() for it in frames.split(";") if it):
+        data = bytes.fromhex(head).ljust(int(length), b"\0")
+        records.setdefault(port, []).append((int(second), data))
+    return records
+
+
+def files_of(topology, frames):
+    """The files of a run: the topology, which names a capture for each port at which frames arrive."""
+    records = records_of(frames)
+    named = ", ".join(f"'{port}' = '{port}.pcap'" for port in records)
+    return {"topology.toml": f"{topology}captures = {{{named}}}\n".encode(), **{f"{port}.pcap": capture(*them) for port, them in records.items()}}
+
+
+def told(journal, left):
+    """A journal's lines, and what left each port that was left by a frame, as the rows have it."""
+    words = list(journal)
+    for port, frames in left.items():
+        sent = [f"{moment // bridge.SECOND}/{len(data)}/{data[12:16].hex().upper()}" for moment, data in frames]
+        words += [" ".join([bridge.name_of(port), *sent])] if sent else []
+    return " ".join(f"{it};" for it in words)
+
+
+def played(topology, frames):
+    """The plain bridge after a row."""
+    plain = bridge.Bridge(topology)
+    plain.play({bridge.number_of(port): [(second * bridge.SECOND, data) for second, data in them] for port, them in records_of(frames).items()})
+    return plain
+
+
+def agree():
+    """How many rows there are. The plain bridge comes to what each of them says."""
+    for topology, frames, wanted in OUTCOMES:
+        plain = played(topology, frames)
+        assert told(plain.journal, plain.left) == wanted, f"the plain bridge comes to {told(plain.journal, plain.left)}, and not to {wanted}"
+    for topology, frames, wanted in SUMMARY:
+        assert played(topology, frames).summary() == wanted, wanted
+    return len(OUTCOMES) + len(SUMMARY)

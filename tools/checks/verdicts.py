@@ -1,0 +1,79 @@
+"""Files with a verdict each (crates/exb_cases/verdicts), row by row: what is printed of it, the status, and that no file is made."""
+import os
+import sys
+import tempfile
+
+from .nets import MEMORY
+from .program import TOP, files_below, knows, play
+from .tests import Skip, Test
+
+sys.path.insert(0, os.path.join(TOP, "crates/exb_cases"))
+
+
+class Row:
+    """The word that the program is given with the name of a file, the files that are there, and the status and text that are wanted."""
+
+    def __init__(self, word, name, files, status, printed):
+        self.words, self.files, self.status, self.printed = [word, name], files, status, printed
+
+    def run(self, program, room):
+        for name, data in self.files.items():
+            with open(f"{room}/{name}", "wb") as it:
+                it.write(data)
+        ran = play(program, self.words, room)
+        assert ran == (self.status, self.printed, ""), f"{ran}, where {(self.status, self.printed)} is wanted"
+        after = files_below(room)
+        assert after == self.files, f"files are {sorted(after)}, where {sorted(self.files)} are wanted as they were"
+
+    def text(self):
+        return self.files[self.words[1]].decode(errors="replace")[:2000]
+
+
+def table(program, rows):
+    """Plays each row in an empty folder: how many are as they must be, how many aren't, and what these print."""
+    faults = []
+    for row in rows:
+        with tempfile.TemporaryDirectory(prefix="exbr-verdict-", dir=MEMORY) as room:
+            try:
+                row.run(program, room)
+            except AssertionError as fault:
+                faults.append(f"{fault}\n{row.text()}")
+    return len(rows) - len(faults), len(faults), [], "\n".join(faults)
+
+
+def of_topology(file, verdict, needs):
+    if verdict == "ok":
+        return Row("check", "topology.toml", {"topology.toml": file}, 0, "".join(f"{it}\n" for it in needs(file.decode("utf-8-sig"))))
+    return Row("check", "topology.toml", {"topology.toml": file}, 3, f"exbr: topology: {verdict}\n")
+
+
+def of_file(file, verdict, first):
+    """A file of a net without its topologies: where it has no fault, that of its first bridge is missing."""
+    if verdict == "ok":
+        return Row("net", "net.toml", {"net.toml": file}, 5, f"exbr: missing {first(file)}\n")
+    return Row("net", "net.toml", {"net.toml": file}, 3, f"exbr: net: {verdict}\n")
+
+
+def of_net(file, texts, verdict):
+    files = {"net.toml": file, **{str(at): text for at, text in enumerate(texts, 1)}}
+    return Row("net", "net.toml", files, 3, f"exbr: net: {verdict}\n")
+
+
+def skipped():
+    raise Skip("the plain bridge in Python needs Python 3.11 or later")
+
+
+def verdicts(program):
+    """Each table."""
+    try:
+        import tomllib
+        import verdicts as tables
+        from words import needs
+    except ImportError:
+        return [Test("verdicts", "all tables", skipped)]
+    found = [(name, [of_topology(*it, needs) for it in rows]) for name, rows in tables.topologies()]
+    if knows(program, "net"):
+        found += [(name, [of_file(*it, lambda file: tomllib.loads(file.decode())["bridge"][0]["topology"]) for it in rows])
+                  for name, rows in tables.files_of_nets()]
+        found += [(name, [of_net(*it) for it in rows]) for name, rows in tables.nets_with_topologies()]
+    return [Test("verdicts", name, lambda rows=rows: table(program, rows)) for name, rows in found]
