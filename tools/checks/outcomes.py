@@ -1,5 +1,5 @@
-"""Runs of small inputs (crates/exb_cases/outcomes.py), row by row: the journal and the frames that leave, and each file as the plain bridge
-writes it."""
+"""Runs beside the plain bridge in Python: small inputs of which is said what comes of them (crates/exb_cases/outcomes.py), and generated ones
+(crates/exb_cases/trials.py). What is printed, and each file byte for byte."""
 import os
 import sys
 import tempfile
@@ -11,29 +11,38 @@ from .tests import Skip, Test
 sys.path.insert(0, os.path.join(TOP, "crates/exb_cases"))
 
 
+def as_plain(program, name, files):
+    """Plays a topology with its captures: it writes and prints what the plain bridge does, and makes no other file. What was written, and the summary."""
+    import bridge
+    written, summary = bridge.run(files[name].decode(), files)
+    with tempfile.TemporaryDirectory(prefix="exbr-plain-", dir=MEMORY) as room:
+        for file, data in files.items():
+            with open(f"{room}/{file}", "wb") as it:
+                it.write(data)
+        ran = play(program, ["run", name, "--counters"], room)
+        after = files_below(room)
+    assert ran == (0, f"{summary}\n", ""), f"{ran}, where the plain bridge comes to {summary}"
+    for file, data in {**files, **written}.items():
+        same(file, after.pop(file, None), data)
+    assert not after, f"{sorted(after)[0]} was made"
+    return written, summary
+
+
 def row(program, topology, frames, wanted):
-    """Plays a row: what it says comes of it, in words or as a summary, and no file is another one than that of the plain bridge."""
+    """Plays a row, of which comes what it says, in words or as a summary."""
     import bridge
     import captured
     import outcomes
-    files = outcomes.files_of(topology, frames)
-    written, summary = bridge.run(files["topology.toml"].decode(), files)
-    with tempfile.TemporaryDirectory(prefix="exbr-outcome-", dir=MEMORY) as room:
-        for name, data in files.items():
-            with open(f"{room}/{name}", "wb") as it:
-                it.write(data)
-        ran = play(program, ["run", "topology.toml", "--counters"], room)
-        after = files_below(room)
-    assert ran == (0, f"{summary}\n", ""), f"{ran}, where the plain bridge comes to {summary}"
-    for name, data in {**files, **written}.items():
-        same(name, after.pop(name, None), data)
-    assert not after, f"{sorted(after)[0]} was made"
-    if wanted.startswith("arrivals "):
-        assert summary == wanted, f"{summary}, where {wanted} is wanted"
-        return
-    left = {bridge.number_of(name[4:-5]): captured.read(data)[0] for name, data in written.items() if name.endswith(".pcap")}
-    told = outcomes.told(written["out-journal.txt"].decode().splitlines(), left)
+    written, told = as_plain(program, "topology.toml", outcomes.files_of(topology, frames))
+    if not wanted.startswith("arrivals "):
+        left = {bridge.number_of(name[4:-5]): captured.read(data)[0] for name, data in written.items() if name.endswith(".pcap")}
+        told = outcomes.told(written["out-journal.txt"].decode().splitlines(), left)
     assert told == wanted, f"{told}, where {wanted} is wanted"
+
+
+def trial(program, number, extenders):
+    import trials
+    as_plain(program, "trial.toml", trials.trial(number, extenders))
 
 
 def skipped():
@@ -41,10 +50,13 @@ def skipped():
 
 
 def outcomes(program):
-    """Each row, by its number."""
+    """Each row and each trial, by its number."""
     try:
         import outcomes as tables
+        import trials
     except ImportError:
-        return [Test("outcomes", "all rows", skipped)]
-    rows = [*tables.OUTCOMES, *tables.SUMMARY]
-    return [Test("outcomes", f"row {at}", lambda it=it: row(program, *it)) for at, it in enumerate(rows, 1)]
+        return [Test("outcomes", "all rows and trials", skipped)]
+    found = [Test("outcomes", f"row {at}", lambda it=it: row(program, *it)) for at, it in enumerate([*tables.OUTCOMES, *tables.SUMMARY], 1)]
+    for first, sizes in trials.TRIALS:
+        found += [Test("outcomes", f"trial {first + size} of {size} extenders", lambda it=(first + size, size): trial(program, *it)) for size in sizes]
+    return found

@@ -10,6 +10,10 @@ from .tests import Skip, Test
 sys.path.insert(0, os.path.join(TOP, "crates/exb_cases"))
 
 
+# One extender with one port, which has a capture.
+ONE = b"bridge = { ports = 1 }\nextender = [{ number = 1, on = 'b1', ports = 1 }]\ncaptures = { 'x1.1' = 'in.pcap' }\n"
+
+
 class Row:
     """The word that the program is given with the name of a file, the files that are there, and the status and text that are wanted."""
 
@@ -26,7 +30,7 @@ class Row:
         assert after == self.files, f"files are {sorted(after)}, where {sorted(self.files)} are wanted as they were"
 
     def text(self):
-        return self.files[self.words[1]].decode(errors="replace")[:2000]
+        return self.files.get(self.words[1], b"").decode(errors="replace")[:2000]
 
 
 def table(program, rows):
@@ -42,6 +46,8 @@ def table(program, rows):
 
 
 def of_topology(file, verdict, needs):
+    if verdict == "out of memory":
+        return Row("check", "topology.toml", {"topology.toml": file}, 1, "exbr: out of memory\n")
     if verdict == "ok":
         return Row("check", "topology.toml", {"topology.toml": file}, 0, "".join(f"{it}\n" for it in needs(file.decode("utf-8-sig"))))
     return Row("check", "topology.toml", {"topology.toml": file}, 3, f"exbr: topology: {verdict}\n")
@@ -57,6 +63,14 @@ def of_file(file, verdict, first):
 def of_net(file, texts, verdict):
     files = {"net.toml": file, **{str(at): text for at, text in enumerate(texts, 1)}}
     return Row("net", "net.toml", files, 3, f"exbr: net: {verdict}\n")
+
+
+# Inputs that no run takes: a large capture of no grammar, a topology past its limit, and a folder in the place of a file.
+RUNS = [
+    ("run", "topology.toml", {"topology.toml": ONE, "in.pcap": bytes(67_108_865)}, 4, "exbr: capture x1.1: NotPcap at 0\n"),
+    ("run", "topology.toml", {"topology.toml": bytes(16_777_217), "in.pcap": b""}, 3, "exbr: topology: Large\n"),
+    ("run", ".", {}, 6, "exbr: read fault\n"),
+]
 
 
 def skipped():
@@ -76,4 +90,5 @@ def verdicts(program):
         found += [(name, [of_file(*it, lambda file: tomllib.loads(file.decode())["bridge"][0]["topology"]) for it in rows])
                   for name, rows in tables.files_of_nets()]
         found += [(name, [of_net(*it) for it in rows]) for name, rows in tables.nets_with_topologies()]
+    found.append(("runs", [Row(*it) for it in RUNS]))
     return [Test("verdicts", name, lambda rows=rows: table(program, rows)) for name, rows in found]

@@ -1,8 +1,8 @@
 """Files and the verdict on each, row by row: `ok`, or the first fault and the key at which it stands.
 
 A row is a text (or bytes where it is none) and its verdict, which is what is printed of it behind `exbr: topology: ` by `check`, and
-behind `exbr: net: ` by `net`. What `check` prints of a topology without a fault is told by the plain bridge (`words.needs`). A table has a
-head that stands in front of the text of each of its rows. No row is written by asking the program.
+behind `exbr: net: ` by `net`, or that memory doesn't suffice. What `check` prints of a topology without a fault is told by the plain bridge
+(`words.needs`). A table has a head that stands in front of the text of each of its rows. No row is written by asking the program.
 """
 from . import broken, commands, limits, nets, ports, shape, trees
 

@@ -1,8 +1,9 @@
-//! Inputs that no run takes: files past the limits of their sizes, captures that change, and a folder in the place of a file.
+//! Captures that change before they are read again.
+use crate::compare::{holds, same_status};
 use crate::hex::bytes_of;
-use crate::runs::{bare_shelf, expect_end, put};
+use crate::runs::play;
 use exb_faulty::ChangingShelf;
-use exb_shelf::{FileShelf, MemShelf};
+use exb_shelf::MemSink;
 use std::alloc::Global;
 use std::process::Abort;
 
@@ -75,34 +76,6 @@ const BLOCKS_CHANGED: [Changed; 7] = [
     ),
 ];
 
-// So many zeros.
-fn zeros(rt: &impl Abort, alloc: Global, bytes: usize) -> Vec<u8> {
-    vec![in alloc; 0u8; bytes].expect(rt, "memory")
-}
-
-// A shelf with a topology and a capture.
-fn shelf_of(rt: &impl Abort, alloc: Global, topology: &[u8], capture: &[u8]) -> MemShelf {
-    let mut shelf = bare_shelf(rt, alloc);
-    put(rt, &mut shelf, "t.toml", topology);
-    put(rt, &mut shelf, "zeros.pcap", capture);
-    shelf
-}
-
-// A run of a topology and a capture ends with that status and line, and makes no file.
-fn expect_refused(
-    rt: &impl Abort,
-    alloc: Global,
-    topology: &[u8],
-    capture: &[u8],
-    status: u8,
-    line: &str,
-) {
-    let mut shelf = shelf_of(rt, alloc, topology, capture);
-    expect_end(rt, alloc, "run t.toml", &mut shelf, status, line);
-    assert!(rt; shelf.file("out-x1.1.pcap").is_none());
-    assert!(rt; shelf.file("out-journal.txt").is_none());
-}
-
 // Puts a file on a shelf.
 fn put_there(rt: &impl Abort, shelf: &mut ChangingShelf, name: &str, bytes: &[u8]) {
     shelf.put(name, bytes).expect(rt, "memory");
@@ -121,8 +94,11 @@ fn changing_shelf(rt: &impl Abort, alloc: Global, first: &str, again: &str) -> C
 // A run of a capture that changes so ends with status 10 and that line.
 fn expect_changed(rt: &impl Abort, alloc: Global, first: &str, again: &str, line: &str) {
     let mut shelf = changing_shelf(rt, alloc, first, again);
-    expect_end(rt, alloc, "run t.toml", &mut shelf, 10, line);
-    assert!(rt; shelf.file("out-journal.txt").is_some());
+    let mut out = MemSink::new(alloc, &[]).expect(rt, "memory");
+    let status = play(rt, alloc, "run t.toml", &mut shelf, &mut out);
+    same_status(rt, status, 10, line);
+    holds(rt, out.text() == line.as_bytes(), line);
+    holds(rt, shelf.file("out-journal.txt").is_some(), "the journal");
 }
 
 #[test]
@@ -133,31 +109,4 @@ fn a_capture_that_changes_ends_its_run(rt: HostRuntime) {
     for (again, line) in &BLOCKS_CHANGED {
         expect_changed(&rt, rt.alloc(), BLOCKS, again, line);
     }
-}
-
-#[test]
-fn a_large_capture_is_looked_into(rt: HostRuntime) {
-    let capture = zeros(&rt, rt.alloc(), 67_108_865);
-    let line = "exbr: capture x1.1: NotPcap at 0\n";
-    expect_refused(&rt, rt.alloc(), ONE.as_bytes(), capture.as_slice(), 4, line);
-}
-
-#[test]
-fn a_topology_has_at_most_16777216_bytes(rt: HostRuntime) {
-    let topology = zeros(&rt, rt.alloc(), 16_777_217);
-    let line = "exbr: topology: Large\n";
-    expect_refused(&rt, rt.alloc(), topology.as_slice(), &[], 3, line);
-}
-
-#[test]
-fn a_folder_can_be_opened_and_not_read(rt: HostRuntime) {
-    let mut shelf = FileShelf::new(rt.alloc(), rt);
-    expect_end(
-        &rt,
-        rt.alloc(),
-        "run .",
-        &mut shelf,
-        6,
-        "exbr: read fault\n",
-    );
 }
