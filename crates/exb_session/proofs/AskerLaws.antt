@@ -4,7 +4,6 @@ use Rattle.std.specs.Prelude.{IfSome}
 use Rattle.std.specs.Option.{option_map}
 use Rattle.std.proofs.lemmas.Bool.{eqb-false}
 use Rattle.exb_csp.specs.declared.message.Request.{Request}
-use Rattle.exb_csp.specs.declared.message.Response.{Response}
 use Rattle.exb_csp.specs.declared.message.Body.{Body}
 use Rattle.exb_csp.specs.declared.message.Body.TheVariants as body
 use Rattle.exb_csp.specs.declared.message.Message.{Message}
@@ -13,7 +12,7 @@ use Rattle.exb_csp.specs.Spelling.{IsSpelledRequest, HasSpelling}
 use Rattle.exb_session.specs.declared.asker.Taken.{Taken}
 use Rattle.exb_session.specs.declared.asker.Taken.TheVariants as taken
 use Rattle.exb_session.specs.Kinds.{same_kind}
-use Rattle.exb_session.specs.Asking.{AskerState, begun, asked, message_again, took, took_body, beaten, beaten_while, IsSound, StaysSound, AsksAreSpelled}
+use Rattle.exb_session.specs.Asking.{AskerState, took_body, beaten_while, IsSound, StaysSound, AsksAreSpelled}
 
 -- the waiting is over
 sound_done : (serial : ℕ) → IsSound (record { serial = serial; waiting = None; beats = 0 })

@@ -25,7 +25,7 @@ use Rattle.exb_machine.proofs.Trees.{hangs_there, above_there}
 use Rattle.exb_machine.proofs.Words.{at_here, at_other, each_weaker}
 use Rattle.exb_resting.specs.Rest.Ends.{Message as Note}
 use Rattle.exb_resting.specs.Rest.Pair.{Far, near_empty, far_hears, far_all}
-use Rattle.exb_resting.specs.Rest.Streams.{note_of, plain, addressee, is_of, notes_if, words_of, ups_of, downs_of, near_at, far_at}
+use Rattle.exb_resting.specs.Rest.Streams.{note_of, plain, is_of, notes_if, words_of, ups_of, downs_of, near_at, far_at}
 use Rattle.exb_resting.specs.Rest.Facts.{Facts, IsOwned, WordFacts, MayGoDown, GoesDown}
 use Rattle.exb_resting.proofs.Rest.Decoding.{bare_addressed, bare_plain, tagged_read, is_mine, not_mine}
 use Rattle.exb_resting.proofs.Rest.FarHearing.{OwnSent, hears_own, sent_notes, far_of, Latest, hears_far}

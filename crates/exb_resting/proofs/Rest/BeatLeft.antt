@@ -11,13 +11,13 @@ use Rattle.exb_csp.specs.declared.message.Request.{Request}
 use Rattle.exb_csp.specs.Spelling.{message_bytes}
 use Rattle.exb_session.specs.Asking.{AskerState}
 use Rattle.exb_extender.specs.Machine.{ExtenderState, Beats as EndBeats, beats as extender_beats}
-use Rattle.exb_changing.specs.Machine.{State, Work, Moved, still, beats_in}
+use Rattle.exb_changing.specs.Machine.{State, Work, Moved, beats_in}
 use Rattle.exb_changing.specs.Machine.{beats as control_step}
 use Rattle.exb_changing.specs.Runs.Standing.{OneWaits, waited_for}
 use Rattle.exb_machine.specs.Worlds.{World, Beat, with_near, with_control, next_beat}
 use Rattle.exb_machine.specs.Effects.{only, each}
 use Rattle.exb_machine.specs.Extending.{reacts}
-use Rattle.exb_machine.specs.Hearing.{bridge_request, submits, moves, beats_near}
+use Rattle.exb_machine.specs.Hearing.{bridge_request, moves, beats_near}
 use Rattle.exb_machine.specs.Runs.Sessions.{CanBeSent}
 use Rattle.exb_machine.specs.Stepping.{stepped}
 use Rattle.exb_machine.proofs.Words.{at_here, at_other}

@@ -30,7 +30,6 @@ use Rattle.exb_machine.specs.Effects.{only}
 use Rattle.exb_machine.specs.Extending.{port_number, reacts}
 use Rattle.exb_machine.specs.Runs.Sessions.{Each}
 use Rattle.exb_machine.specs.Stepping.{takes}
-use Rattle.exb_machine.proofs.Trees.{hangs_there}
 use Rattle.exb_machine.proofs.Words.{each_range, each_weaker}
 use Rattle.exb_resting.proofs.Rest.Grows.{Grows, MaySend, does_grows, none_grows, bridge_takes_grows, either, Any}
 

@@ -20,7 +20,7 @@ use Rattle.exb_resting.specs.Rest.Ends.{Message as Note, Sending}
 use Rattle.exb_resting.specs.Rest.Stage.{IdleLeft, IsSettled}
 use Rattle.exb_resting.specs.Rest.Streams.{sending_of, addressee, plain, note_of, is_of, is_the, notes_if, words_of, ups_of, pair_at}
 use Rattle.exb_resting.specs.Rest.Facts.{Facts, WordFacts, IsOwned, MayComeUp, ComesUp, IsInvariant}
-use Rattle.exb_resting.specs.Rest.Costs.{costs, HelloLeft, IsSwept, StageBy, Stage, SettleEnds}
+use Rattle.exb_resting.specs.Rest.Costs.{IsSwept, StageBy, Stage, SettleEnds}
 use Rattle.exb_resting.proofs.Rest.Progress.{never_none}
 use Rattle.exb_resting.proofs.Rest.IdleRounds.{idle_done}
 use Rattle.exb_resting.proofs.Rest.Reading.{waiting_at}

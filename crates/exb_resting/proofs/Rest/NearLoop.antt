@@ -16,7 +16,7 @@ use Rattle.exb_machine.proofs.Frames.{bare_spelled}
 use Rattle.exb_machine.proofs.Words.{at_here, at_other}
 use Rattle.exb_resting.specs.Rest.Ends.{Message as Note, Request as Asks, Sending, End, aged, again, is_due, one_if}
 use Rattle.exb_resting.specs.Rest.Pair.{Near, near_rests}
-use Rattle.exb_resting.specs.Rest.Streams.{note_of, sending_of, end_of, serial_of, notes_if, downs_of, ups_of, near_at, far_at}
+use Rattle.exb_resting.specs.Rest.Streams.{note_of, sending_of, end_of, serial_of, notes_if, downs_of, near_at}
 use Rattle.exb_resting.specs.Rest.Facts.{IsLatest, IsReached}
 use Rattle.exb_resting.proofs.Rest.Decoding.{note_request, control_spelled, control_tagged}
 use Rattle.exb_resting.proofs.Rest.FarBeat.{sending_aged, due_is, not_twelfth}

@@ -2,7 +2,7 @@
 use Rattle.std.proofs.Common.{◌≡◌, inl, ⊎_elim, ℕ, ◌+◌, ◌≤◌, ◌<◌, true, false, List, [], ◌∷◌, Option, Some, None, refl, sym, ◌∙◌, subst, arith}
 use Rattle.std.specs.Prelude.{⊤}
 use Rattle.std.specs.List.{AllByRecursion}
-use Rattle.exb_resting.specs.Rest.Ends.{Message, Request, Answer, Ack, Hello, Sending, End, is_got, unless_acked, aged, again, submitted}
+use Rattle.exb_resting.specs.Rest.Ends.{Message, Request, Answer, Ack, Hello, Sending, aged, again}
 use Rattle.exb_ecp.specs.Machine.{after}
 use Rattle.exb_resting.specs.Rest.Pair.{Near, Far, Pair, near_beat, near_beats, near_empty, near_up, far_empty, far_beat, far_down, pass_round}
 use Rattle.exb_resting.specs.Rest.Words.{IsDown, IsCurrent}

@@ -25,7 +25,7 @@ use Rattle.exb_machine.proofs.Trees.{hangs_there, above_there}
 use Rattle.exb_machine.proofs.Words.{at_here, at_other, at_itself, each_weaker}
 use Rattle.exb_resting.specs.Rest.Ends.{Message as Note, End}
 use Rattle.exb_resting.specs.Rest.Pair.{Near, Far, far_empty}
-use Rattle.exb_resting.specs.Rest.Streams.{note_of, plain, is_of, notes_if, words_of, ups_of, downs_of, near_at, far_at, pair_at, end_of}
+use Rattle.exb_resting.specs.Rest.Streams.{note_of, plain, is_of, notes_if, words_of, ups_of, downs_of, near_at, far_at, end_of}
 use Rattle.exb_resting.specs.Rest.Facts.{Facts, IsAbove, IsOwned, WordFacts, IsReached, ComesUp}
 use Rattle.exb_resting.proofs.Rest.Decoding.{is_mine}
 use Rattle.exb_resting.proofs.Rest.Grows.{Longer, Grows, MaySend, does_grows, never_longer}

@@ -15,7 +15,7 @@ use Rattle.exb_resting.specs.Rest.Ends.{Message as Note, Request as Asks, Answer
 use Rattle.exb_resting.specs.Rest.Pair.{Near, Far, Pair, near_beat, near_beats, beats_while, near_empty, near_up, far_hears, far_gets, far_takes, far_again, far_all, far_empty, far_down, with_got, pass_round}
 use Rattle.exb_resting.specs.Rest.Stage.{Waiting, AtMost, Idle, IdleAtMost}
 use Rattle.exb_resting.specs.Rest.Streams.{pair_at}
-use Rattle.exb_resting.specs.Rest.Facts.{Facts, FarFacts, QueueFacts, Matters}
+use Rattle.exb_resting.specs.Rest.Facts.{Facts, QueueFacts, Matters}
 use Rattle.exb_resting.specs.Rest.Costs.{HasHello, HelloLeft, IsSwept, StageBy, Stage}
 use Rattle.exb_resting.proofs.Rest.Progress.{falls}
 use Rattle.exb_resting.proofs.Rest.IdleRounds.{idle_falls}

@@ -46,7 +46,7 @@ use Rattle.exb_changing.specs.Machine.{State, Work, Moved, still, heard, goes_on
 use Rattle.exb_changing.specs.Runs.Standing.{OneWaits}
 use Rattle.exb_changing.proofs.Runs.Counting.{answers_count, hearing_counts, others_leave_counts}
 use Rattle.exb_changing.proofs.Runs.Taking.{stray_is_still}
-use Rattle.exb_machine.specs.Worlds.{World, Way, Up, Down, Step, Carry, Control, Lose, Beat, with_far, with_near, push_down, push_up, at, next_beat}
+use Rattle.exb_machine.specs.Worlds.{World, Way, Up, Down, Step, Beat, with_far, with_near, next_beat}
 use Rattle.exb_machine.specs.Effects.{Effect, only, each}
 use Rattle.exb_machine.specs.Controls.{announced, is_of, channel_at_trunk}
 use Rattle.exb_machine.specs.Extending.{hung_on, port_number, sent_at, sent_to, sends, reacts, takes_from_below, does}
