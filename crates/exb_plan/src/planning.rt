@@ -9,7 +9,7 @@ ghost use Rattle.exb_config.specs.Tables.{bridge_of};
 ghost use Rattle.exb_plans.specs.Sets.{seen, sets_of};
 ghost use Rattle.exb_plan.specs.Spaces.{held_by, HasSpaces};
 ghost use Rattle.exb_plans.specs.Held.{HoldsNeeded};
-ghost use Rattle.exb_plans.specs.Between.{goes_up, goes_down, refusal_between};
+ghost use Rattle.exb_plans.specs.Between.{goes_up, refusal_between};
 ghost use Rattle.exb_plans.specs.Plans.{change_of, claimed, decision, held_after};
 ghost use Rattle.exb_plan.specs.Working.{IsPlaced, IsAlike, SpacesOf};
 ghost use Rattle.exb_plans.specs.Making.{IsAnyExtended, how_many, is_at, refusal_by};
