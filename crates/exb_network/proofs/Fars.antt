@@ -1,11 +1,9 @@
 -- The extenders by number.
 use Rattle.std.proofs.Common.{◌≡◌, ◌≢◌, ◌⊎◌, ◌↔◌, ℕ, zero, suc, ◌+◌, ◌%◌, ◌<◌, ◌≤◌, ◌==◌, ◌&&◌, ◌||◌, Bool, true, false, not, IsTrue, List, [], ◌∷◌, ◌++◌, length, set, get_or, nat_lt, refl, ap, sym, ◌∙◌, subst, arith, inl, inr, eq-eqb}
-use Rattle.std.specs.Int.{bit_at}
 use Rattle.std.specs.Prelude.{if◌then◌else◌, Option, Some, None, slice_get, slice_index, replicate}
 use Rattle.std.specs.Option.{is_some}
 use Rattle.std.proofs.lemmas.Bool.{cases_eq, cases_lt, cases_Bool, ne_eqb, and_from, and_parts, lt-ltb, ltb-true, false≢true}
 use Rattle.std.proofs.lemmas.List.{get_or_past, length-set}
-use Rattle.std.proofs.lemmas.Nat.Bits.{bit_at-zero}
 use mathlib.Core.Path.{fun_ext}
 use Rattle.exb_model.specs.Tree.{Shape, is_extender}
 use Rattle.exb_model.proofs.Words.{get_or-same}
@@ -17,6 +15,8 @@ use Rattle.exb_machine.specs.Worlds.{at}
 use Rattle.exb_extender.specs.Resting.{rests, rested}
 use Rattle.exb_extender.proofs.RestingLemmas.{awake_is, one_more, rests_rested, same_tables, same_end}
 use Rattle.exb_network.specs.Devices.{Devices, state_at, far_of, first_far, if_rests, is_there, has_extender, IsPoweredOn, AreSame, AreNoted, sent_at, waits_at}
+use Rattle.exb_network.specs.Numbers.{number_in}
+use Rattle.exb_network.proofs.Bits.{none_in_0}
 
 -- ---- one of them changes
 module _ {A : Type 0} where
@@ -132,8 +132,8 @@ module _ (ports : List ℕ) (xs : List (Option Fields)) (passed : ℕ) (d : Devi
 
   -- and it is noted whether it sends, and whether it rests
   pub noted_after : (f g : Fields) (sending waiting sending_now waiting_now : ℕ) (idle rest : Bool) → x ≡ Some g → AreNoted xs sending waiting passed →
-      ((k : ℕ) → bit_at sending_now k ≡ (if k == n then (if not idle then 1 else 0) else bit_at sending k)) →
-      ((k : ℕ) → bit_at waiting_now k ≡ (if k == n then (if not rest then 1 else 0) else bit_at waiting k)) →
+      ((k : ℕ) → number_in sending_now k ≡ (if k == n then (if not idle then 1 else 0) else number_in sending k)) →
+      ((k : ℕ) → number_in waiting_now k ≡ (if k == n then (if not rest then 1 else 0) else number_in waiting k)) →
       (IsTrue idle ↔ (f.ecp.sending ≡ None)) → rest ≡ rests (state_of f) → AreNoted (set xs n (Some f)) sending_now waiting_now passed
   noted_after f g sending waiting sending_now waiting_now idle rest same noted sends wakes quiet is =
       record {
@@ -153,14 +153,14 @@ module _ (ports : List ℕ) (xs : List (Option Fields)) (passed : ℕ) (d : Devi
       here true q = (λ e. q.0 refl, λ e. refl)
       here false q = (λ e. absurd (omega (arith, e)), λ e. absurd (false≢true (q.1 e)))
 
-      noted_at : (k : ℕ) → (bit_at sending_now k ≡ 0) ↔ (sent_at (slice_get (set xs n (Some f)) k) ≡ None)
+      noted_at : (k : ℕ) → (number_in sending_now k ≡ 0) ↔ (sent_at (slice_get (set xs n (Some f)) k) ≡ None)
       noted_at k =
           elim (cases_eq k n) [
             | inl at ↦
-                let bit : bit_at sending_now n ≡ mark idle = rw (at, eq-eqb n n refl) at (sends k) in
+                let bit : number_in sending_now n ≡ mark idle = rw (at, eq-eqb n n refl) at (sends k) in
                 rw (at, placed, bit) (here idle quiet)
             | inr ne ↦
-                let bit : bit_at sending_now k ≡ bit_at sending k = rw (ne_eqb k n ne) at (sends k) in
+                let bit : number_in sending_now k ≡ number_in sending k = rw (ne_eqb k n ne) at (sends k) in
                 rw (get_set_other xs n k (Some f) ne, bit) (noted.noted k)
           ]
 
@@ -168,14 +168,14 @@ module _ (ports : List ℕ) (xs : List (Option Fields)) (passed : ℕ) (d : Devi
       marked true = refl
       marked false = refl
 
-      waits : (k : ℕ) → bit_at waiting_now k ≡ waits_at (slice_get (set xs n (Some f)) k)
+      waits : (k : ℕ) → number_in waiting_now k ≡ waits_at (slice_get (set xs n (Some f)) k)
       waits k =
           elim (cases_eq k n) [
             | inl at ↦
-                let bit : bit_at waiting_now n ≡ mark rest = rw (at, eq-eqb n n refl) at (wakes k) in
+                let bit : number_in waiting_now n ≡ mark rest = rw (at, eq-eqb n n refl) at (wakes k) in
                 rw (at, placed) (bit ∙ marked rest ∙ ap (λ (b : Bool). if b then 0 else 1) is)
             | inr ne ↦
-                let bit : bit_at waiting_now k ≡ bit_at waiting k = rw (ne_eqb k n ne) at (wakes k) in
+                let bit : number_in waiting_now k ≡ number_in waiting k = rw (ne_eqb k n ne) at (wakes k) in
                 rw (get_set_other xs n k (Some f) ne) (bit ∙ noted.waits k)
           ]
 
@@ -198,14 +198,14 @@ module _ (ports : List ℕ) (xs : List (Option Fields)) (passed : ℕ) (d : Devi
       waits_so : waits_at (slice_get (set xs n (Some f)) n) ≡ waits_at (slice_get xs n)
       waits_so = ap waits_at placed ∙ ap (λ (s : ExtenderState). if rests s then 0 else 1) is ∙ sym (ap waits_at (found g same))
 
-      noted_at : (k : ℕ) → (bit_at sending k ≡ 0) ↔ (sent_at (slice_get (set xs n (Some f)) k) ≡ None)
+      noted_at : (k : ℕ) → (number_in sending k ≡ 0) ↔ (sent_at (slice_get (set xs n (Some f)) k) ≡ None)
       noted_at k =
           elim (cases_eq k n) [
             | inl at ↦ rw (at, sends) (noted.noted n)
             | inr ne ↦ rw (get_set_other xs n k (Some f) ne) (noted.noted k)
           ]
 
-      waits : (k : ℕ) → bit_at waiting k ≡ waits_at (slice_get (set xs n (Some f)) k)
+      waits : (k : ℕ) → number_in waiting k ≡ waits_at (slice_get (set xs n (Some f)) k)
       waits k =
           elim (cases_eq k n) [
             | inl at ↦ rw (at, waits_so) (noted.waits n)
@@ -235,7 +235,7 @@ same_passed ports xs old new =
 
 -- those that wait are there and don't rest
 pub waiting_is : (ports : List ℕ) (xs : List (Option Fields)) (sending waiting passed : ℕ) → AreNoted xs sending waiting passed → (n : ℕ) →
-    bit_at waiting n ≡ (if has_extender (devices ports xs passed) n && not (rests (far_of (devices ports xs passed) n)) then 1 else 0)
+    number_in waiting n ≡ (if has_extender (devices ports xs passed) n && not (rests (far_of (devices ports xs passed) n)) then 1 else 0)
 waiting_is ports xs sending waiting passed noted n = noted.waits n ∙ by_get (slice_get xs n)
   where
     other : Bool → ℕ
@@ -260,8 +260,10 @@ quiet_is passed n ports None = ap (λ (e : State). e.sending) (same_end passed (
 abbrev pub ArePoweredOn : List ℕ → List (Option Fields) → Type 0
 ArePoweredOn ports xs = (k : ℕ) (x : Option Fields) → slice_get xs k ≡ Some x → IsPoweredOn k (slice_index ports k) x
 
-pub powered_none : (ports : List ℕ) → ArePoweredOn ports []
-powered_none ports k x e = absurd cc
+-- the bridge is none
+pub powered_first : (ports : List ℕ) → ArePoweredOn ports (None ∷ [])
+powered_first ports zero x e = (let is : None ≡ x = cc in subst (IsPoweredOn 0 (slice_index ports 0)) is refl)
+powered_first ports (suc k) x e = absurd cc
 
 get_push : {A : Type 0} (xs : List A) (y : A) (k : ℕ) (x : A) → slice_get (xs ++ y ∷ []) k ≡ Some x → (slice_get xs k ≡ Some x) ⊎ ((k ≡ length xs) × (y ≡ x))
 get_push [] y zero x e = inr (refl, (let is : y ≡ x = cc in is))
@@ -308,10 +310,14 @@ powered_waits n ports (Some f) is = sym (ap (λ (s : ExtenderState). if rests s 
 
 -- those that wait of those made so far
 abbrev pub AreWaiting : List (Option Fields) → ℕ → Type 0
-AreWaiting xs waiting = (n : ℕ) → bit_at waiting n ≡ waits_at (slice_get xs n)
+AreWaiting xs waiting = (n : ℕ) → number_in waiting n ≡ waits_at (slice_get xs n)
 
-pub waiting_none : AreWaiting [] 0
-waiting_none n = bit_at-zero n
+pub waiting_first : AreWaiting (None ∷ []) 0
+waiting_first n = none_in_0 n ∙ sym (by_place n)
+  where
+    by_place : (n : ℕ) → waits_at (slice_get (None ∷ []) n) ≡ 0
+    by_place zero = refl
+    by_place (suc n) = refl
 
 get_new : {A : Type 0} (xs : List A) (y : A) → slice_get (xs ++ y ∷ []) (length xs) ≡ Some y
 get_new [] y = refl
@@ -324,21 +330,21 @@ get_old (x ∷ xs) y zero other = refl
 get_old (x ∷ xs) y (suc k) other = get_old xs y k (λ e. other (ap suc e))
 
 pub waiting_more : (ports n : ℕ) (xs : List (Option Fields)) (x : Option Fields) (waiting now : ℕ) (known : Bool) → length xs ≡ n → IsPoweredOn n ports x → known ≡ is_some x →
-    ((k : ℕ) → bit_at now k ≡ (if k == n then (if known then 1 else 0) else bit_at waiting k)) → AreWaiting xs waiting → AreWaiting (xs ++ x ∷ []) now
+    ((k : ℕ) → number_in now k ≡ (if k == n then (if known then 1 else 0) else number_in waiting k)) → AreWaiting xs waiting → AreWaiting (xs ++ x ∷ []) now
 waiting_more ports n xs x waiting now known long is same bits before k =
     elim (cases_eq k n) [
       | inl e ↦
-          let bit : bit_at now n ≡ (if known then 1 else 0) = rw (e, eq-eqb n n refl) at (bits k) in
+          let bit : number_in now n ≡ (if known then 1 else 0) = rw (e, eq-eqb n n refl) at (bits k) in
           let new : slice_get (xs ++ x ∷ []) n ≡ Some x = rw long at (get_new xs x) in
           rw (e, new) (bit ∙ ap (λ (b : Bool). if b then 1 else 0) same ∙ powered_waits n ports x is)
       | inr ne ↦
-          let bit : bit_at now k ≡ bit_at waiting k = rw (ne_eqb k n ne) at (bits k) in
+          let bit : number_in now k ≡ number_in waiting k = rw (ne_eqb k n ne) at (bits k) in
           rw (get_old xs x k (λ e. ne (e ∙ long))) (bit ∙ before k)
     ]
 
 pub powered_noted : (ports : List ℕ) (xs : List (Option Fields)) (waiting : ℕ) → length xs ≡ 65 → ArePoweredOn ports xs → AreWaiting xs waiting → AreNoted xs 0 waiting 0
 powered_noted ports xs waiting long all waits =
-    record { few = long; noted = λ n. (λ e. by_get n (slice_get xs n) refl, λ e. bit_at-zero n); waits = waits; low = omega arith }
+    record { few = long; noted = λ n. (λ e. by_get n (slice_get xs n) refl, λ e. none_in_0 n); waits = waits; low = omega arith }
   where
     by_get : (n : ℕ) (x : Option (Option Fields)) → slice_get xs n ≡ x → sent_at x ≡ None
     by_get n None e = refl

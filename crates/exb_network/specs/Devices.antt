@@ -1,11 +1,11 @@
 -- The extenders of a network as the world has them: the state of each, by its number.
 use Rattle.std.specs.Prelude.{◌≡◌, ◌↔◌, ℕ, ◌==◌, ◌||◌, ◌<◌, Bool, true, false, if◌then◌else◌, List, Option, Some, None, length, slice_get, slice_index}
-use Rattle.std.specs.Int.{bit_at}
 use Rattle.exb_model.specs.Tree.{Shape}
 use Rattle.exb_ecp.specs.Machine.{Sending}
 use Rattle.exb_extender.specs.Fields.{Fields, state_of}
 use Rattle.exb_extender.specs.Machine.{ExtenderState, at_power_on, beats}
 use Rattle.exb_extender.specs.Resting.{rests, rested}
+use Rattle.exb_network.specs.Numbers.{number_in}
 
 -- By device, how many ports it has, and the extender, where it is one. And how many beats, modulo 16, have passed at those
 -- that rest and aren't counted in them yet.
@@ -66,6 +66,6 @@ waits_at None = 0
 -- rest; and beats are counted modulo 16.
 pub record AreNoted (extenders : List (Option Fields)) (sending waiting passed : ℕ) : Type 0 where
   pub few : length extenders ≡ 65
-  pub noted : (n : ℕ) → (bit_at sending n ≡ 0) ↔ (sent_at (slice_get extenders n) ≡ None)
-  pub waits : (n : ℕ) → bit_at waiting n ≡ waits_at (slice_get extenders n)
+  pub noted : (n : ℕ) → (number_in sending n ≡ 0) ↔ (sent_at (slice_get extenders n) ≡ None)
+  pub waits : (n : ℕ) → number_in waiting n ≡ waits_at (slice_get extenders n)
   pub low : passed < 16

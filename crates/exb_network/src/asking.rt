@@ -11,6 +11,7 @@ ghost use Rattle.exb_machine.specs.Hearing.{asks, bridge_acknowledgement, bridge
 ghost use Rattle.exb_machine.specs.Worlds.{World, with_control, with_table};
 ghost use Rattle.exb_machine.specs.Runs.Asks.{CanGo};
 ghost use Rattle.exb_machine.specs.Runs.Sessions.{AreLow, Each};
+ghost use Rattle.exb_network.specs.Numbers.{IsNumber};
 ghost use Rattle.exb_network.specs.Worlds.{world_in, IsAt, Does};
 
 use crate::forms::channel_tag;
@@ -59,10 +60,10 @@ pub(crate) fn spell_acknowledgement(sequence: u16, into: &mut ControlBuf)
     exb_ecp::write(BRIDGE, &header(true, sequence), &[], into);
 }
 
-/// That the number of an extender of the tree is below 65, as a fact for whoever calls it. It does nothing.
+/// That the number of an extender of the tree is 1 to 64, as a fact for whoever calls it. It does nothing.
 pub(crate) fn has_low_number(site: &Site, extender: u8)
     requires { is_extender site.now.tree extender ≡ true }
-    ensures { extender < 65 }
+    ensures { IsNumber extender }
 {
     let tree = site.tree();
     tree.is_tree();
@@ -79,7 +80,7 @@ fn put(
 ) -> Result<(), NoMemory>
     requires at { IsAt site.now core.old }
     requires place { place < 64 }
-    requires known { below < 65 }
+    requires known { IsNumber below }
     ensures { OnOk result (Does (puts place below frame (world_in core.old)) site.now core.new post.old.log post.new.log) }
 {
     let _ = site;

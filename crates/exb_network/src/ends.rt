@@ -1,9 +1,9 @@
 //! The bridge's ends of the transport between it and its extenders (ECP, IEEE 802.1Q, clause 43).
-ghost use Rattle.std.specs.Prelude.{◌≡◌, ◌↔◌, ℕ, ◌<◌, ◌≤◌, false, IfNone, IfOk, IfSome, None, length};
-ghost use Rattle.std.specs.Int.{bit_at};
+ghost use Rattle.std.specs.Prelude.{◌≡◌, ◌↔◌, ℕ, ◌≤◌, false, IfNone, IfOk, IfSome, None, length};
 ghost use Rattle.exb_ecp.specs.Machine.{new_state, submitted, stopped, acknowledged, heard, is_fresh, beaten, beat_of};
 ghost use Rattle.exb_machine.specs.Worlds.{at};
 ghost use Rattle.exb_network.specs.Ends.{near_of, IsNextSending};
+ghost use Rattle.exb_network.specs.Numbers.{number_in, IsNumber};
 
 use crate::numbers::{first_in, meet, with_bit};
 use exb_ecp::{Beat, Ecp};
@@ -16,8 +16,8 @@ use std::marker::Model;
 #[derive(Drop)]
 pub(crate) struct Ends {
     ends: Vec<Ecp>,
-    /// Bit n is set where the end with extender n sends something.
-    sending: u128,
+    /// The extenders with which the end sends something.
+    sending: u64,
 }
 
 impl Model for Ends {
@@ -46,7 +46,7 @@ impl Ends {
 
     /// Submits a payload to an extender in place of what is sent there; gives its sequence.
     pub(crate) fn submit(&mut self, extender: u8, payload: &[u8]) -> u16
-        requires known { extender < 65 }
+        requires known { IsNumber extender }
         requires fits { length payload.now ≤ 1024 }
         ensures state { near_of self.new ≡ at extender (submitted payload.now (stopped (near_of self.old extender))) (near_of self.old) }
         ensures sequence { result ≡ (near_of self.old extender).next }
@@ -61,7 +61,7 @@ impl Ends {
 
     /// Ends what is sent to an extender.
     pub(crate) fn stop(&mut self, extender: u8)
-        requires { extender < 65 }
+        requires { IsNumber extender }
         ensures { near_of self.new ≡ at extender (stopped (near_of self.old extender)) (near_of self.old) }
     {
         let end = &mut self.ends[extender as usize];
@@ -72,7 +72,7 @@ impl Ends {
 
     /// Takes an acknowledgement of an extender.
     pub(crate) fn acked(&mut self, extender: u8, sequence: u16)
-        requires { extender < 65 }
+        requires { IsNumber extender }
         ensures { near_of self.new ≡ at extender (acknowledged sequence (near_of self.old extender)) (near_of self.old) }
     {
         let end = &mut self.ends[extender as usize];
@@ -83,7 +83,7 @@ impl Ends {
 
     /// Whether a request of an extender has another sequence than the last one, which it then is.
     pub(crate) fn received(&mut self, extender: u8, sequence: u16) -> bool
-        requires { extender < 65 }
+        requires { IsNumber extender }
         ensures state { near_of self.new ≡ at extender (heard sequence (near_of self.old extender)) (near_of self.old) }
         ensures fresh { result ≡ is_fresh sequence (near_of self.old extender) }
     {
@@ -96,7 +96,7 @@ impl Ends {
 
     /// A beat passes at the end with an extender.
     pub(crate) fn beat(&mut self, extender: u8) -> Beat
-        requires { extender < 65 }
+        requires { IsNumber extender }
         ensures state { near_of self.new ≡ at extender (beaten (near_of self.old extender)) (near_of self.old) }
         ensures due { result ≡ beat_of (near_of self.old extender).sending }
     {
@@ -107,16 +107,16 @@ impl Ends {
         due
     }
 
-    /// Whether an end with one of these extenders sends something; each is a bit of its number.
-    pub(crate) fn are_sending(&self, among: u128) -> bool
-        ensures { (result ≡ false) ↔ ((n : ℕ) → bit_at among n ≡ 1 → (near_of self.now n).sending ≡ None) }
+    /// Whether an end with one of these extenders sends something.
+    pub(crate) fn are_sending(&self, among: u64) -> bool
+        ensures { (result ≡ false) ↔ ((n : ℕ) → number_in among n ≡ 1 → (near_of self.now n).sending ≡ None) }
     {
         meet(self.sending, among)
     }
 
     /// The first end, by extender from a number on, that sends something.
     pub(crate) fn next_sending(&self, from: u8) -> Option<u8>
-        requires { from < 128 }
+        requires { from ≤ 65 }
         ensures found { IfSome result (IsNextSending self.now from) }
         ensures none { IfNone result ((n : ℕ) → from ≤ n → (near_of self.now n).sending ≡ None) }
     {
@@ -125,7 +125,7 @@ impl Ends {
 
     /// The end with an extender.
     pub(crate) fn with(&self, extender: u8) -> &Ecp
-        requires { extender < 65 }
+        requires { IsNumber extender }
         ensures { result.now ≡ near_of self.now extender }
     {
         &self.ends[extender as usize]

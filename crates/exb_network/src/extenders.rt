@@ -1,6 +1,5 @@
 //! The extenders of a network.
 ghost use Rattle.std.specs.Prelude.{◌≡◌, ◌↔◌, ◌&&◌, ℕ, ◌≤◌, ◌<◌, true, false, not, if◌then◌else◌, is_none, IfOk, IfSome, None, [], slice_index};
-ghost use Rattle.std.specs.Int.{bit_at};
 ghost use Rattle.std.specs.List.{All};
 ghost use Rattle.exb_model.specs.Frames.{is_control_frame};
 ghost use Rattle.exb_model.specs.Setup.{IsValid, shape_of};
@@ -14,6 +13,7 @@ ghost use Rattle.exb_extender.specs.Sending.{form_sent, sent_by, CanBeGiven};
 ghost use Rattle.exb_network.specs.Forms.{CanGo};
 ghost use Rattle.exb_machine.specs.Worlds.{at};
 ghost use Rattle.exb_network.specs.Devices.{far_of, first_far, has_extender, if_rests, IsPoweredOn, AreSame};
+ghost use Rattle.exb_network.specs.Numbers.{number_in, IsNumber};
 
 use crate::numbers::{meet, with_bit};
 use exb_extender::{Extender, Form, Out, Sends, Side};
@@ -30,10 +30,10 @@ pub(crate) struct Extenders {
     /// How many ports each device has, 0 where there is none.
     ports: [u8; DEVICES as usize],
     extenders: Vec<Option<Extender>>,
-    /// Bit n is set where extender n sends something that waits for an acknowledgement.
-    sending: u128,
-    /// Bit n is set where extender n is there and doesn't rest.
-    waiting: u128,
+    /// Those that send something that waits for an acknowledgement.
+    sending: u64,
+    /// Those that are there and don't rest.
+    waiting: u64,
     /// How many beats, modulo 16, have passed at all that rest. They aren't counted in these yet: so a beat costs nothing
     /// at an extender that rests.
     passed: u8,
@@ -102,8 +102,10 @@ impl Extenders {
     {
         let ports = port_counts(setup);
         let mut extenders = Vec::new(alloc);
-        let mut waiting = 0u128;
-        for number in 0..DEVICES {
+        // The bridge isn't one.
+        extenders.push(None)?;
+        let mut waiting = 0u64;
+        for number in 1..DEVICES {
             let extender = at_power_on(alloc, number, ports[number as usize])?;
             waiting = with_bit(waiting, number, extender.is_some());
             extenders.push(extender)?;
@@ -134,6 +136,7 @@ impl Extenders {
     /// An extender takes a frame from upstream, or from one of its cascade ports.
     #[inline(always)]
     pub(crate) fn take(&mut self, number: u8, from: Side, frame: &[u8], sends: &mut Sends)
+        requires known { IsNumber number }
         requires there { has_extender self.old number ≡ true }
         requires from { CanTake (far_of self.old number) from }
         ensures state { far_of self.new ≡ at number (react (Arrives from frame.now) (far_of self.old number)).0 (far_of self.old) }
@@ -152,6 +155,7 @@ impl Extenders {
     #[cold]
     #[inline(never)]
     fn hear(&mut self, number: u8, from: Side, frame: &[u8], sends: &mut Sends)
+        requires known { IsNumber number }
         requires there { has_extender self.old number ≡ true }
         requires from { CanTake (far_of self.old number) from }
         ensures state { far_of self.new ≡ at number (react (Arrives from frame.now) (far_of self.old number)).0 (far_of self.old) }
@@ -205,6 +209,7 @@ impl Extenders {
 
     /// A beat passes at an extender.
     pub(crate) fn beat(&mut self, number: u8, sends: &mut Sends)
+        requires known { IsNumber number }
         requires there { has_extender self.old number ≡ true }
         ensures state { far_of self.new ≡ at number (react Beats (far_of self.old number)).0 (far_of self.old) }
         ensures sends { sent_by [] sends.new ≡ (react Beats (far_of self.old number)).1 }
@@ -230,9 +235,9 @@ impl Extenders {
         self.passed = (self.passed + 1) % 16;
     }
 
-    /// The extenders that don't rest, each a bit of its number.
-    pub(crate) fn waiting(&self) -> u128
-        ensures { (n : ℕ) → bit_at result n ≡ (if has_extender self.now n && not (rests (far_of self.now n)) then 1 else 0) }
+    /// The extenders that don't rest, as a set of numbers.
+    pub(crate) fn waiting(&self) -> u64
+        ensures { (n : ℕ) → number_in result n ≡ (if has_extender self.now n && not (rests (far_of self.now n)) then 1 else 0) }
     {
         self.waiting
     }
@@ -249,9 +254,9 @@ impl Extenders {
         }
     }
 
-    /// Whether one of these extenders, each a bit of its number, sends something that waits for an acknowledgement.
-    pub(crate) fn are_sending(&self, among: u128) -> bool
-        ensures { (result ≡ false) ↔ ((n : ℕ) → bit_at among n ≡ 1 → (far_of self.now n).ecp.sending ≡ None) }
+    /// Whether one of these extenders sends something that waits for an acknowledgement.
+    pub(crate) fn are_sending(&self, among: u64) -> bool
+        ensures { (result ≡ false) ↔ ((n : ℕ) → number_in among n ≡ 1 → (far_of self.now n).ecp.sending ≡ None) }
     {
         meet(self.sending, among)
     }

@@ -1,12 +1,13 @@
 //! What the bridge hears from its extenders: announcements (LLDP, IEEE 802.1AB), acknowledgements and requests (ECP), and
 //! the answers that these carry.
-ghost use Rattle.std.specs.Prelude.{◌≡◌, ◌<◌, ℕ, List, true, OnOk, Ok};
+ghost use Rattle.std.specs.Prelude.{◌≡◌, ℕ, List, true, OnOk, Ok};
 ghost use Rattle.exb_ecp.specs.Frames.{pdu_in};
 ghost use Rattle.exb_model.specs.Tree.{is_extender};
 ghost use Rattle.exb_machine.specs.Hearing.{hears, hears_frame, hears_message, hears_pdu, hears_request, stops};
 ghost use Rattle.exb_machine.specs.Worlds.{World};
 ghost use Rattle.exb_machine.specs.Runs.Asks.{AsksWell};
 ghost use Rattle.exb_network.specs.Ends.{near_of};
+ghost use Rattle.exb_network.specs.Numbers.{IsNumber};
 ghost use Rattle.exb_network.specs.Sites.{limits_in};
 ghost use Rattle.exb_network.specs.Worlds.{world_in, IsAt, Does};
 
@@ -43,7 +44,7 @@ fn hear_announcement(
 
 /// An answer that is taken ends the sending of its request.
 fn stop_answered(taken: &Taken, number: u8, near: &mut Ends)
-    requires { number < 65 }
+    requires { IsNumber number }
     ensures { (w : World) → w.near ≡ near_of near.old → stops taken.now number w ≡ record w { near = near_of near.new } }
 {
     match taken {

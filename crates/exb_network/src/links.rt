@@ -1,12 +1,12 @@
 //! The links of a network: two directions for each extender.
-ghost use Rattle.std.specs.Prelude.{◌≡◌, ◌↔◌, ℕ, ◌<◌, ◌≤◌, ◌++◌, ◌∷◌, [], false, IfNone, IfOk, IfSome, OnOk, filter, slice_get};
-ghost use Rattle.std.specs.Int.{bit_at};
+ghost use Rattle.std.specs.Prelude.{◌≡◌, ◌↔◌, ℕ, ◌≤◌, ◌++◌, ◌∷◌, [], false, IfNone, IfOk, IfSome, OnOk, filter, slice_get};
 ghost use Rattle.std.specs.Option.{option_copied};
 ghost use Rattle.exb_link.specs.Words.{is_control, is_data, without_data, without_control};
 ghost use Rattle.exb_machine.specs.Worlds.{at};
 ghost use Rattle.exb_network.specs.Directions.{words_of, IsNextBusy};
+ghost use Rattle.exb_network.specs.Numbers.{number_in, IsNumber};
 
-use crate::numbers::{first_in, meet, with_bit};
+use crate::numbers::{first_in, has, meet, with_bit};
 use exb_link::{Link, Word};
 use exb_model::memory::NoMemory;
 use exb_model::port::DEVICES;
@@ -17,8 +17,8 @@ use std::marker::Model;
 #[derive(Drop)]
 pub(crate) struct Direction {
     links: Vec<Link>,
-    /// Bit n is set where a word is on the link of extender n.
-    busy: u128,
+    /// The extenders on whose links a word is.
+    busy: u64,
 }
 
 impl Model for Direction {
@@ -48,7 +48,7 @@ impl Direction {
     /// Puts a word behind all others on the link of an extender.
     #[inline(always)]
     pub(crate) fn push(&mut self, extender: u8, word: Word) -> Result<(), NoMemory>
-        requires { extender < 65 }
+        requires { IsNumber extender }
         ensures { OnOk result (words_of self.new ≡ at extender (words_of self.old extender ++ word ∷ []) (words_of self.old)) }
     {
         let link = &mut self.links[extender as usize];
@@ -64,7 +64,7 @@ impl Direction {
     /// Takes the first data word out.
     #[inline(always)]
     pub(crate) fn take_data(&mut self, extender: u8) -> Option<Word>
-        requires { extender < 65 }
+        requires { IsNumber extender }
         ensures word { result ≡ slice_get (filter is_data (words_of self.old extender)) 0 }
         ensures rest { words_of self.new ≡ at extender (without_data (words_of self.old extender)) (words_of self.old) }
     {
@@ -79,7 +79,7 @@ impl Direction {
     #[cold]
     #[inline(never)]
     pub(crate) fn take_control(&mut self, extender: u8, place: u64) -> Option<Word>
-        requires { extender < 65 }
+        requires { IsNumber extender }
         ensures word { result ≡ slice_get (filter is_control (words_of self.old extender)) place }
         ensures rest { words_of self.new ≡ at extender (without_control (words_of self.old extender) place) (words_of self.old) }
     {
@@ -92,7 +92,7 @@ impl Direction {
 
     /// The control word at a position.
     pub(crate) fn control_at(&self, extender: u8, place: u64) -> Option<&Word>
-        requires { extender < 65 }
+        requires { IsNumber extender }
         ensures { option_copied result ≡ slice_get (filter is_control (words_of self.now extender)) place }
     {
         self.links[extender as usize].control_at(place)
@@ -101,7 +101,7 @@ impl Direction {
     /// The link of an extender.
     #[inline(always)]
     pub(crate) fn link(&self, extender: u8) -> &Link
-        requires { extender < 65 }
+        requires { IsNumber extender }
         ensures { result.now ≡ words_of self.now extender }
     {
         &self.links[extender as usize]
@@ -110,26 +110,26 @@ impl Direction {
     /// Whether a word is on the link of an extender.
     #[inline(always)]
     pub(crate) fn has_word(&self, extender: u8) -> bool
-        requires { extender < 65 }
+        requires { IsNumber extender }
         ensures { (result ≡ false) ↔ (words_of self.now extender ≡ []) }
     {
-        (self.busy >> extender) & 1 == 1
+        has(self.busy, extender)
     }
 
     /// The first link, by extender from a number on, that has a word.
     #[inline(always)]
     pub(crate) fn next_busy(&self, from: u8) -> Option<u8>
-        requires { from < 128 }
+        requires { from ≤ 65 }
         ensures found { IfSome result (IsNextBusy self.now from) }
         ensures none { IfNone result ((n : ℕ) → from ≤ n → words_of self.now n ≡ []) }
     {
         first_in(self.busy, from)
     }
 
-    /// Whether links of these extenders, each a bit of its number, have a word.
+    /// Whether links of these extenders have a word.
     #[inline(always)]
-    pub(crate) fn have_words(&self, among: u128) -> bool
-        ensures { (result ≡ false) ↔ ((n : ℕ) → bit_at among n ≡ 1 → words_of self.now n ≡ []) }
+    pub(crate) fn have_words(&self, among: u64) -> bool
+        ensures { (result ≡ false) ↔ ((n : ℕ) → number_in among n ≡ 1 → words_of self.now n ≡ []) }
     {
         meet(self.busy, among)
     }

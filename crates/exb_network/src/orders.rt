@@ -58,13 +58,13 @@ pub(crate) fn deepest_first(
     Ok(order)
 }
 
-/// The extenders, each a bit of its number.
-pub(crate) fn all_extenders(tree: &Tree) -> u128
+/// The extenders, as a set of numbers.
+pub(crate) fn all_extenders(tree: &Tree) -> u64
     ensures { AreExtenders tree.now result }
 {
     tree.is_tree();
-    let mut extenders = 0u128;
-    for number in 0..DEVICES {
+    let mut extenders = 0u64;
+    for number in 1..DEVICES {
         extenders = with_bit(extenders, number, tree.is_extender(number));
     }
     extenders

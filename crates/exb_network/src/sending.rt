@@ -8,6 +8,7 @@ ghost use Rattle.exb_machine.specs.Extending.{hung_on, sent_at, sent_to, sends};
 ghost use Rattle.exb_machine.specs.Worlds.{moment_of};
 ghost use Rattle.exb_network.specs.Forms.{IsSide, CanGo};
 ghost use Rattle.exb_network.specs.Leaving.{row_sent, AreOuter, GoesBehind, Joins, JoinsAt};
+ghost use Rattle.exb_network.specs.Numbers.{IsNumber};
 ghost use Rattle.exb_network.specs.Rows.{ports_in};
 ghost use Rattle.exb_network.specs.Worlds.{world_in, IsAt, Does};
 
@@ -59,7 +60,7 @@ fn send_at(
     post: &mut Post,
 ) -> Result<(), NoMemory>
     requires at { IsAt site.now core.old }
-    requires number { number < 65 }
+    requires number { IsNumber number }
     requires port { (0 < port) × (port ≤ 64) }
     ensures { OnOk result (Does (sent_at number port (hung_on site.now.tree (port_of number port)) word.stamp word.bytes (world_in core.old)) site.now core.new post.old.log post.new.log) }
 {
@@ -97,7 +98,7 @@ fn send_up(
     post: &mut Post,
 ) -> Result<(), NoMemory>
     requires at { IsAt site.now core.old }
-    requires number { number < 65 }
+    requires number { IsNumber number }
     ensures { OnOk result (Does (sent_to site.now.tree number word.stamp Side.Up word.bytes (world_in core.old)) site.now core.new post.old.log post.new.log) }
 {
     let _ = site;
@@ -123,7 +124,7 @@ pub(crate) fn send_to(
     post: &mut Post,
 ) -> Result<(), NoMemory>
     requires at { IsAt site.now core.old }
-    requires number { number < 65 }
+    requires number { IsNumber number }
     requires side { IsSide side }
     ensures { OnOk result (Does (sent_to site.now.tree number word.stamp side word.bytes (world_in core.old)) site.now core.new post.old.log post.new.log) }
 {
@@ -144,7 +145,7 @@ pub(crate) fn send_frame(
     post: &mut Post,
 ) -> Result<(), NoMemory>
     requires at { IsAt site.now core.old }
-    requires number { number < 65 }
+    requires number { IsNumber number }
     requires can { CanGo came.now.frame.now out.now }
     ensures { OnOk result (Does (sends site.now.tree number came.now.stamp (out_sent came.now.frame.now out.now) (world_in core.old)) site.now core.new post.old.log post.new.log) }
 {
@@ -237,7 +238,7 @@ fn send_behind(
     post: &mut Post,
 ) -> Result<(), NoMemory>
     requires at { IsAt site.now core.old }
-    requires number { row.old.device < 65 }
+    requires number { IsNumber row.old.device }
     requires can { CanGo came.now.frame.now out.now }
     requires outer { AreOuter site.now.tree row.old.device came.now.frame.now (ports_in row.old) }
     ensures device { row.new.device ≡ row.old.device }
@@ -263,7 +264,7 @@ fn send_frames(
     post: &mut Post,
 ) -> Result<(), NoMemory>
     requires at { IsAt site.now core.old }
-    requires number { number < 65 }
+    requires number { IsNumber number }
     requires can { All (CanGo came.now.frame.now) outs.now }
     ensures { OnOk result (Does (each (sends site.now.tree number came.now.stamp) (map (out_sent came.now.frame.now) outs.now) (world_in core.old)) site.now core.new post.old.log post.new.log) }
 {
@@ -285,7 +286,7 @@ fn send_own(
     post: &mut Post,
 ) -> Result<(), NoMemory>
     requires at { IsAt site.now core.old }
-    requires number { number < 65 }
+    requires number { IsNumber number }
     ensures { OnOk result (Does (each (sends site.now.tree number stamp) (own_sent frame.now) (world_in core.old)) site.now core.new post.old.log post.new.log) }
 {
     if frame.is_empty() {
@@ -308,7 +309,7 @@ pub(crate) fn send_all(
     post: &mut Post,
 ) -> Result<(), NoMemory>
     requires at { IsAt site.now core.old }
-    requires number { number < 65 }
+    requires number { IsNumber number }
     requires can { All (CanGo came.now.frame.now) reaction.now.frames.items }
     ensures { OnOk result (Does (each (sends site.now.tree number came.now.stamp) (sent_by came.now.frame.now reaction.now) (world_in core.old)) site.now core.new post.old.log post.new.log) }
 {

@@ -12,6 +12,7 @@ ghost use Rattle.exb_machine.specs.Runs.Asks.{AsksWell};
 ghost use Rattle.exb_machine.specs.Runs.Laws.{HasBytes};
 ghost use Rattle.exb_network.specs.Idle.{IsIdle};
 ghost use Rattle.exb_network.specs.Networks.{network_of, step_of, IsLive, IsStepped};
+ghost use Rattle.exb_network.specs.Numbers.{IsNumber};
 ghost use Rattle.exb_network.specs.Sites.{limits_in};
 ghost use Rattle.exb_network.specs.Steps.{way_of};
 ghost use Rattle.exb_network.specs.Turns.{order_of, IsTurn};
@@ -379,7 +380,7 @@ pub(crate) fn is_settled(site: &Site, core: &Core) -> bool
 
 /// The link of an extender in a direction.
 pub(crate) fn link_of(core: &Core, number: u8, way: Way) -> &Link
-    requires { number < 65 }
+    requires { IsNumber number }
     ensures { result.now ≡ words_on number (way_of way) (world_in core.now) }
 {
     match way {

@@ -11,11 +11,11 @@ use Rattle.exb_network.specs.declared.log.Left.{Left}
 use Rattle.exb_network.specs.declared.log.Log.{Log}
 use Rattle.exb_network.specs.Worlds.{if_tracing, world_in, Does}
 use Rattle.exb_network.proofs.Cores.{leaves}
-use Rattle.exb_network.proofs.Hanging.{hung_low}
+use Rattle.exb_network.proofs.Hanging.{hung_numbered}
 use Rattle.exb_network.proofs.sending.send_at.Goals as goal
 
 pub push-requires : goal.push-requires
-push-requires c = hung_low c.tree-tree.result.now c.is_tree.ensures c.at-place.result c.in-Some.below (sym c.hung_on.ensures ∙ c.in-Some.is)
+push-requires c = hung_numbered c.tree-tree.result.now c.is_tree.ensures c.at-place.result c.in-Some.below (sym c.hung_on.ensures ∙ c.in-Some.is)
 
 pub returns-in-None : goal.returns-in-None
 returns-in-None c =

@@ -1,12 +1,15 @@
-use Rattle.std.proofs.Common.{ℕ, [], ◌∷◌, sym, subst, arith, length-append}
+use Rattle.std.proofs.Common.{ℕ, [], ◌∷◌, refl, sym, subst, arith, length-append}
 use Rattle.exb_model.specs.Setup.{shape_of}
 use Rattle.exb_network.specs.Devices.{IsPoweredOn}
 use Rattle.std.specs.Prelude.{slice_index}
-use Rattle.exb_network.proofs.Fars.{powered_more, powered_fars, powered_all, powered_only, powered_noted, waiting_more}
+use Rattle.exb_network.proofs.Fars.{powered_more, powered_fars, powered_all, powered_only, powered_first, powered_noted, waiting_first, waiting_more}
 use Rattle.exb_network.proofs.extenders.Extenders.new.Goals as goal
 
 pub at_power_on-requires-clause-ports : goal.at_power_on-requires-clause-ports
 at_power_on-requires-clause-ports c = c.port_counts-ports.ensures.few c.loop-number.number
+
+pub loop-number-init : goal.loop-number-init
+loop-number-init c = rw (c.in_ok-push.ensures.items, c.new-extenders.ensures.items) (record { length = refl; powered = powered_first c.port_counts-ports.result; waiting = waiting_first })
 
 pub loop-number-preserved : goal.loop-number-preserved
 loop-number-preserved c =
@@ -14,7 +17,7 @@ loop-number-preserved c =
     let xs = c.loop-number.extenders.items in
     let made = c.in_ok-extender.extender in
     let here = subst (λ (m : ℕ). IsPoweredOn m (slice_index ports m) made) (sym c.loop-number.invariant.length) c.in_ok-extender.ensures in
-    rw c.in_ok-push.ensures.items (
+    rw c.in_ok-push-2.ensures.items (
     record {
       length = omega (arith, length-append xs (made ∷ []), c.loop-number.invariant.length);
       powered = powered_more ports xs made c.loop-number.invariant.powered here;
