@@ -60,15 +60,6 @@ pub(crate) fn spell_acknowledgement(sequence: u16, into: &mut ControlBuf)
     exb_ecp::write(BRIDGE, &header(true, sequence), &[], into);
 }
 
-/// That the number of an extender of the tree is 1 to 64, as a fact for whoever calls it. It does nothing.
-pub(crate) fn has_low_number(site: &Site, extender: u8)
-    requires { is_extender site.now.tree extender ≡ true }
-    ensures { IsNumber extender }
-{
-    let tree = site.tree();
-    tree.is_tree();
-}
-
 /// A control frame goes out at a port of the bridge, counted from 0, onto the link of the extender that hangs there.
 fn put(
     site: &Site,
@@ -146,7 +137,7 @@ pub(crate) fn send_to_extender(
     requires long { 12 ≤ length frame.now }
     ensures { OnOk result (Does (to_extender site.now.tree extender frame.now (world_in core.old)) site.now core.new post.old.log post.new.log) }
 {
-    has_low_number(site, extender);
+    site.has_low_number(extender);
     let port = site.on(extender);
     if port.device() == 0 {
         let bytes = post.store.copy(post.alloc, frame)?;
@@ -170,7 +161,7 @@ fn ask(
     requires askable { CanGo site.now.tree asked.now }
     ensures { OnOk result (Does (asks site.now.tree asked.now (world_in core.old)) site.now core.new post.old.log post.new.log) }
 {
-    has_low_number(site, asked.extender);
+    site.has_low_number(asked.extender);
     exb_csp::write(&asked.message, &mut buffers.message);
     let payload = buffers.message.as_slice();
     let sequence = core.near.submit(asked.extender, payload);

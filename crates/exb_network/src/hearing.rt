@@ -11,7 +11,7 @@ ghost use Rattle.exb_network.specs.Numbers.{IsNumber};
 ghost use Rattle.exb_network.specs.Sites.{limits_in};
 ghost use Rattle.exb_network.specs.Worlds.{world_in, IsAt, Does};
 
-use crate::asking::{follow, has_low_number, send_to_extender, spell_acknowledgement};
+use crate::asking::{follow, send_to_extender, spell_acknowledgement};
 use crate::ends::Ends;
 use crate::site::{Core, Room, Site};
 use exb_control::Taken;
@@ -67,7 +67,7 @@ fn hear_message(
     requires asks { AsksWell site.now.tree (limits_in site.now) (world_in core.old).control }
     ensures { OnOk result (Does (hears_message site.now.tree (limits_in site.now) number (Ok message.now) (world_in core.old)) site.now core.new room.old.post.log room.new.post.log) }
 {
-    has_low_number(site, number);
+    site.has_low_number(number);
     let Ok(taken) = core.control.answered(number, message, &mut room.outbox) else {
         return Err(NoMemory);
     };
@@ -90,7 +90,7 @@ fn hear_request(
     requires asks { AsksWell site.now.tree (limits_in site.now) (world_in core.old).control }
     ensures { OnOk result (Does (hears_request site.now.tree (limits_in site.now) number sequence payload.now (world_in core.old)) site.now core.new room.old.post.log room.new.post.log) }
 {
-    has_low_number(site, number);
+    site.has_low_number(number);
     spell_acknowledgement(sequence, &mut room.buffers.control);
     let frame = room.buffers.control.as_slice();
     send_to_extender(site, number, frame, core, &mut room.post)?;
@@ -116,7 +116,7 @@ fn hear_pdu(
     requires asks { AsksWell site.now.tree (limits_in site.now) (world_in core.old).control }
     ensures { OnOk result (Does (hears_pdu site.now.tree (limits_in site.now) number (pdu_in frame.now) frame.now (world_in core.old)) site.now core.new room.old.post.log room.new.post.log) }
 {
-    has_low_number(site, number);
+    site.has_low_number(number);
     let Ok(pdu) = exb_ecp::read(frame) else {
         return Ok(());
     };
