@@ -14,14 +14,14 @@ use Rattle.exb_changing.specs.Machine.{State}
 use Rattle.exb_control.specs.Controls.{state_of, first_of}
 use Rattle.exb_machine.specs.Worlds.{World, first_world}
 use Rattle.exb_network.specs.declared.site.Core.{Core}
-use Rattle.exb_network.specs.Devices.{far_of, first_far, has_extender}
-use Rattle.exb_network.specs.Directions.{words_of, IsNoted}
-use Rattle.exb_network.specs.Ends.{near_of, AreNoted}
-use Rattle.exb_network.specs.Indices.{next_of}
+use Rattle.exb_boxes.specs.Devices.{far_of, first_far, has_extender}
+use Rattle.exb_boxes.specs.Directions.{words_of, IsNoted}
+use Rattle.exb_boxes.specs.Ends.{near_of, AreNoted}
+use Rattle.exb_boxes.specs.Indices.{next_of}
 use Rattle.exb_network.specs.Sites.{Site, limits_in}
 use Rattle.exb_network.specs.Worlds.{world_in, IsAt}
-use Rattle.exb_network.proofs.Bits.{none_in_0}
-use Rattle.exb_network.proofs.Places.{alike}
+use Rattle.exb_boxes.proofs.Bits.{none_in_0}
+use Rattle.exb_boxes.proofs.Places.{alike}
 
 -- nothing is on any link, and no end sends anything
 pub none_busy : (links : List (List Word)) → length links ≡ 65 → words_of links ≡ alike [] → IsNoted links 0

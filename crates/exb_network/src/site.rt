@@ -4,17 +4,12 @@ ghost use Rattle.exb_model.specs.Setup.{IsPlace, IsValid, port_at, shape_of, sta
 ghost use Rattle.exb_model.specs.Tree.{by_depth, is_extender, on};
 ghost use Rattle.exb_machine.specs.Settling.{deepest_first};
 ghost use Rattle.exb_machine.specs.Worlds.{first_world};
-ghost use Rattle.exb_network.specs.Numbers.{IsNumber};
+ghost use Rattle.exb_boxes.specs.Numbers.{IsNumber};
 ghost use Rattle.exb_network.specs.Sites.{limits_in, AreExtenders, ArePlaces};
 ghost use Rattle.exb_network.specs.Worlds.{world_in, IsAt};
 
-use crate::ends::Ends;
-use crate::extenders::Extenders;
-use crate::indices::Indices;
-use crate::links::Direction;
-use crate::log::{Log, Post};
 use crate::orders::{all_extenders, deepest_first, downward_places, upward_places};
-use crate::store::Store;
+use exb_boxes::{Direction, Ends, Extenders, Indices, Log, Post, Store};
 use exb_control::{Control, Outbox};
 use exb_extender::Sends;
 use exb_model::buffers::ControlBuf;
