@@ -6,7 +6,7 @@ use Rattle.exb_resting.specs.Flight.Showing.{left_at}
 use Rattle.exb_nets.specs.NetHistory.{Crossing, crosses}
 use Rattle.exb_model.specs.Input.{Arrival}
 use Rattle.exb_machine.specs.Worlds.{Arrive, Left}
-use Rattle.exb_network.specs.declared.log.Left.{Left as Leaving}
+use Rattle.exb_boxes.specs.declared.log.Left.{Left as Leaving}
 use Rattle.exb_network.specs.Networks.{Network}
 use Rattle.exb_network.specs.Worlds.{all_left}
 use Rattle.exb_schedule.specs.Segments.{IsPlayedOut}

@@ -21,11 +21,11 @@ use Rattle.exb_extender.specs.Sending.{bytes_in, out_sent, sent_by}
 use Rattle.exb_machine.specs.Worlds.{World, at, with_far}
 use Rattle.exb_machine.specs.Effects.{Effect, each}
 use Rattle.exb_machine.specs.Extending.{does, sends, reacts, takes_from_below, arrives_at, ignored, stamp_of, port_number}
-use Rattle.exb_network.specs.declared.log.Log.{Log}
+use Rattle.exb_boxes.specs.declared.log.Log.{Log}
 use Rattle.exb_network.specs.declared.site.Core.{Core}
 use Rattle.exb_network.specs.Arrivals.{IsPortAt}
-use Rattle.exb_network.specs.Devices.{Devices, far_of}
-use Rattle.exb_network.specs.Forms.{CanGo}
+use Rattle.exb_boxes.specs.Devices.{Devices, far_of}
+use Rattle.exb_boxes.specs.Forms.{CanGo}
 use Rattle.exb_network.specs.Sites.{Site}
 use Rattle.exb_network.specs.Worlds.{world_in, all_left, IsAt, Does, KeepsTrace}
 use Rattle.exb_network.proofs.Cores.{far_in, does_nothing}

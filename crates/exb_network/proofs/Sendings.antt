@@ -12,9 +12,9 @@ use Rattle.exb_extender.specs.Forwarding.{Sent, up}
 use Rattle.exb_extender.specs.Sending.{bytes_in, own_sent, out_sent, sent_by}
 use Rattle.exb_machine.specs.Effects.{Effect, each}
 use Rattle.exb_machine.specs.Extending.{sends, sent_to}
-use Rattle.exb_network.specs.declared.log.Log.{Log}
+use Rattle.exb_boxes.specs.declared.log.Log.{Log}
 use Rattle.exb_network.specs.declared.site.Core.{Core}
-use Rattle.exb_network.specs.Forms.{IsSide, CanGo, GoesOn}
+use Rattle.exb_boxes.specs.Forms.{IsSide, CanGo, GoesOn}
 use Rattle.exb_network.specs.Sites.{Site}
 use Rattle.exb_network.specs.Worlds.{world_in, IsAt, Does}
 use Rattle.exb_network.proofs.Cores.{does_nothing}

@@ -17,10 +17,10 @@ use Rattle.exb_machine.specs.Extending.{hung_on}
 use Rattle.exb_machine.specs.Hearing.{bridge_request, puts, puts_tagged, to_extender, submits}
 use Rattle.exb_machine.specs.Runs.Sessions.{AreLow}
 use Rattle.exb_machine.proofs.Trees.{extender_there, hung_is}
-use Rattle.exb_network.specs.declared.log.Log.{Log}
+use Rattle.exb_boxes.specs.declared.log.Log.{Log}
 use Rattle.exb_network.specs.declared.site.Core.{Core}
-use Rattle.exb_network.specs.Directions.{words_of}
-use Rattle.exb_network.specs.Ends.{near_of}
+use Rattle.exb_boxes.specs.Directions.{words_of}
+use Rattle.exb_boxes.specs.Ends.{near_of}
 use Rattle.exb_network.specs.Sites.{Site}
 use Rattle.exb_network.specs.Worlds.{world_in, IsAt, Does}
 use Rattle.exb_network.proofs.Cores.{IsNoted, near_in, does_nothing, sends_down}

@@ -13,10 +13,10 @@ use Rattle.exb_machine.specs.Extending.{hung_on, port_number, sends}
 use Rattle.exb_machine.specs.Worlds.{World}
 use Rattle.exb_model.specs.ETags.{stripped}
 use Rattle.exb_model.specs.Tree.{Shape, device}
-use Rattle.exb_network.specs.declared.log.Log.{Log}
+use Rattle.exb_boxes.specs.declared.log.Log.{Log}
 use Rattle.exb_network.specs.declared.site.Core.{Core}
 use Rattle.exb_network.specs.Leading.{Leads}
-use Rattle.exb_network.specs.Rows.{Row, ports_in}
+use Rattle.exb_boxes.specs.Rows.{Row, ports_in}
 use Rattle.exb_network.specs.Sites.{Site}
 use Rattle.exb_network.specs.Worlds.{world_in, IsAt}
 

@@ -13,10 +13,11 @@ ghost use Rattle.exb_machine.specs.Runs.Asks.{CanGo};
 ghost use Rattle.exb_machine.specs.Runs.Sessions.{AreLow, Each};
 ghost use Rattle.exb_network.specs.Worlds.{world_in, IsAt, Does};
 
-use crate::forms::channel_tag;
-use crate::log::{Post, add_events, note_out};
 use crate::sending::hung_on;
 use crate::site::{Buffers, Core, Room, Site};
+use exb_boxes::Post;
+use exb_boxes::forms::channel_tag;
+use exb_boxes::log::{add_events, note_out};
 use exb_changing::Asked;
 use exb_ecp::Pdu;
 use exb_frame::etag::tag_into;

@@ -4,14 +4,14 @@ ghost use Rattle.exb_model.specs.Tree.{device, is_extender};
 ghost use Rattle.exb_extender.specs.Machine.{Arrives, Beats, CanTake};
 ghost use Rattle.exb_machine.specs.Extending.{arrives_at, port_number, reacts, takes_from_above, takes_from_below};
 ghost use Rattle.exb_network.specs.Arrivals.{arrival_of, IsPortAt};
-ghost use Rattle.exb_network.specs.Devices.{far_of};
+ghost use Rattle.exb_boxes.specs.Devices.{far_of};
 ghost use Rattle.exb_network.specs.Worlds.{world_in, IsAt, Does, KeepsTrace};
 
 use crate::arrivals::{Arrived, Came};
-use crate::log::Log;
 use crate::passing::pass_on;
 use crate::sending::{send_all, send_frame, send_on};
 use crate::site::{Core, Room, Site};
+use exb_boxes::Log;
 use exb_extender::{Out, Side};
 use exb_link::Word;
 use exb_model::event::Event;
