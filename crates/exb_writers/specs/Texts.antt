@@ -15,7 +15,6 @@ use Rattle.exb_outputs.specs.Names.{IsCut}
 use Rattle.exb_model.specs.declared.event.Event.{Event}
 use Rattle.exb_machine.specs.Worlds.{Left}
 use Rattle.exb_resting.specs.Flight.Showing.{left_at}
-use Rattle.exb_counters.specs.declared.counters.Counters.{Counters}
 
 -- ---- the outputs of a plan
 -- what a file holds over a history, by its kind, with these lines of the trace
