@@ -1,13 +1,14 @@
 use Rattle.std.proofs.Common.{◌≡◌, ℕ, ◌<◌, ◌^◌, List, ◌∷◌, Some, drop, ap, sym, subst, ◌∙◌, arith}
 use Rattle.std.proofs.lemmas.Result.{err_from_is_err_and}
 use Rattle.exb_play.proofs.Ports.{ports-all}
-use Rattle.exb_outputs.proofs.ShelvingLemmas.{writing-port}
+use Rattle.exb_outputs.proofs.ShelvingLemmas.{fault_counts, fault_no_change, fault_plays, is_writing, writing-port}
 use Rattle.exb_model.specs.Texts.{Counts}
 use Rattle.exb_model.specs.declared.setup.Timed.{Timed}
 use Rattle.exb_merge.specs.Replays.{ids_in, HasPort, standings}
 use Rattle.exb_schedule.specs.Playing.{letters_in}
 use Rattle.exb_schedule.specs.Worlds.{network_of}
 use Rattle.exb_play.specs.Playing.{mode_of}
+use Rattle.exb_inputs.specs.Answers.{fault_of}
 use Rattle.exb_inputs.specs.Shelving.{OnlyReads}
 use Rattle.exb_resting.specs.Flight.Showing.{left_at}
 use Rattle.exb_outputs.proofs.Sizes.{counted_of}
@@ -162,6 +163,16 @@ returns-in_err-second-clause-never g c t =
     let led = (c.events.invariant.goes_on run start).leads t in
     c.in_err-second.ensures.never t change led.streams led.replays)
 
+pub returns-in_err-go_on-clause-never : goal.returns-in_err-go_on-clause-never
+returns-in_err-go_on-clause-never g c t =
+    let e = err_from_is_err_and c.from_residual-in_err-go_on.result c.from_residual-in_err-go_on.ensures.1 in
+    rw (e.1, e.2) (λ change run start. fault_no_change c.in_err-go_on.field-0.0 change)
+
+pub returns-in_err-go_on-clause-causes : goal.returns-in_err-go_on-clause-causes
+returns-in_err-go_on-clause-causes g c =
+    let e = err_from_is_err_and c.from_residual-in_err-go_on.result c.from_residual-in_err-go_on.ensures.1 in
+    rw (e.1, e.2) (fault_plays c.in_err-go_on.field-0.0)
+
 pub returns-in_err-second-clause-only : goal.returns-in_err-second-clause-only
 returns-in_err-second-clause-only g c =
     let S = g.S.Shelf in
@@ -194,7 +205,7 @@ returns-in_err-second-clause-port g c =
 pub returns-in_err-go_on-clause-port : goal.returns-in_err-go_on-clause-port
 returns-in_err-go_on-clause-port g c =
     let e = err_from_is_err_and c.from_residual-in_err-go_on.result c.from_residual-in_err-go_on.ensures.1 in
-    rw (e.1, e.2) (writing-port (λ (q : ℕ). HasPort q (standings c.args.feed.now.programme.captures)) c.in_err-go_on.field-0.0 c.in_err-go_on.ensures.causes)
+    rw (e.1, e.2) (writing-port (λ (q : ℕ). HasPort q (standings c.args.feed.now.programme.captures)) (fault_of c.in_err-go_on.field-0.0) (is_writing c.in_err-go_on.field-0.0))
 
 pub returns-in_err-second-clause-faults : goal.returns-in_err-second-clause-faults
 returns-in_err-second-clause-faults g c =
@@ -204,4 +215,4 @@ returns-in_err-second-clause-faults g c =
 pub returns-in_err-go_on-clause-faults : goal.returns-in_err-go_on-clause-faults
 returns-in_err-go_on-clause-faults g c =
     let e = err_from_is_err_and c.from_residual-in_err-go_on.result c.from_residual-in_err-go_on.ensures.1 in
-    rw (e.1, e.2) (counts_from _ _ _ _ (c.in_ok-second.ensures.faults.once ∙ c.events.invariant.none_counted) (counts_as c.in_err-go_on.field-0.0 _ _ c.in_err-go_on.ensures.faults))
+    rw (e.1, e.2) (counts_from _ _ _ _ (c.in_ok-second.ensures.faults.once ∙ c.events.invariant.none_counted) (fault_counts c.in_err-go_on.field-0.0 _ _ c.in_err-go_on.ensures.faults))
