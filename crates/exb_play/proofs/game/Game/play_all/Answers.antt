@@ -1,6 +1,7 @@
-use Rattle.std.proofs.Common.{◌≡◌, ℕ, ◌<◌, ◌^◌, List, ◌∷◌, Some, drop, ap, sym, subst, ◌∙◌, arith}
+use Rattle.std.proofs.Common.{◌≡◌, ℕ, ◌<◌, ◌^◌, List, ◌∷◌, Err, drop, ap, subst, ◌∙◌, arith}
 use Rattle.std.proofs.lemmas.Result.{err_from_is_err_and}
-use Rattle.exb_play.proofs.Ports.{ports-all}
+use Rattle.exb_play.proofs.Ports.{again-never, ports-all}
+use Rattle.exb_inputs.proofs.Ports.{again-counts, again-port}
 use Rattle.exb_outputs.proofs.ShelvingLemmas.{fault_counts, fault_no_change, fault_plays, is_writing, writing-port}
 use Rattle.exb_model.specs.Texts.{Counts}
 use Rattle.exb_model.specs.declared.setup.Timed.{Timed}
@@ -17,7 +18,7 @@ use Rattle.exb_play.proofs.PortCounts.{sizes-fit}
 use Rattle.exb_play.proofs.Going.{all-kept, all-played, can-go-on, cut-reading, seconds-fit}
 use Rattle.exb_play.proofs.Keeping.{feed-written, goes-reading, goes-writing}
 use Rattle.exb_outputs.proofs.Keeping.{ready-read}
-use Rattle.exb_inputs.proofs.ShelvingLemmas.{fewer_then, counts_as, counts_from}
+use Rattle.exb_inputs.proofs.ShelvingLemmas.{fewer_then, counts_from}
 use Rattle.exb_play.proofs.Taking.{comes-commands, comes-fewer, comes-ids}
 use Rattle.exb_play.proofs.Telling.{arrivals-low}
 use Rattle.exb_inputs.proofs.Outcomes.{none_at, some_at}
@@ -83,8 +84,8 @@ events-preserved g c =
           (subst (λ (mine : List ℕ). OnlyReads mine (S.file c.events.shelf) (S.file c.gather.new.shelf) (S.ids c.events.shelf) (S.ids c.gather.new.shelf)) inv.same c.gather.ensures.reads))
           c.go_on.ensures.only;
       ports = λ q has. inv.ports q (ports-all c.events.feed.programme c.gather.new.self.programme (got.first ∷ got.more) got.comes q has);
-      faults = fewer_then _ _ _ (fewer_then _ _ _ inv.faults c.gather.ensures.faults.none_fell) c.go_on.ensures.faults.none_fell;
-      none_counted = c.in_ok-go_on.ensures.faults.once ∙ c.in_ok-second.ensures.faults.once ∙ inv.none_counted;
+      faults = fewer_then _ _ _ (fewer_then _ _ _ inv.faults c.gather.ensures.faults) c.go_on.ensures.faults.none_fell;
+      none_counted = c.in_ok-go_on.ensures.faults.once ∙ c.in_ok-second.ensures.counts ∙ inv.none_counted;
     }
 
 pub events-smaller : goal.events-smaller
@@ -161,7 +162,7 @@ returns-in_err-second-clause-never g c t =
     rw (e.1, e.2)
     (λ change run start.
     let led = (c.events.invariant.goes_on run start).leads t in
-    c.in_err-second.ensures.never t change led.streams led.replays)
+    again-never c.in_err-second.field-0.0 (λ p at is. c.in_err-second.ensures.never t p at (ap Err is) led.streams led.replays) change)
 
 pub returns-in_err-go_on-clause-never : goal.returns-in_err-go_on-clause-never
 returns-in_err-go_on-clause-never g c t =
@@ -200,7 +201,8 @@ returns-clause-only g c =
 pub returns-in_err-second-clause-port : goal.returns-in_err-second-clause-port
 returns-in_err-second-clause-port g c =
     let e = err_from_is_err_and c.from_residual.result c.from_residual.ensures.1 in
-    rw (e.1, e.2) (λ p at is. c.events.invariant.ports p (c.in_err-second.ensures.port p at is))
+    rw (e.1, e.2)
+    (again-port (λ (q : ℕ). HasPort q (standings c.args.feed.now.programme.captures)) c.in_err-second.field-0.0 (λ p at is. c.events.invariant.ports p (c.in_err-second.ensures.port p at (ap Err is))))
 
 pub returns-in_err-go_on-clause-port : goal.returns-in_err-go_on-clause-port
 returns-in_err-go_on-clause-port g c =
@@ -210,9 +212,9 @@ returns-in_err-go_on-clause-port g c =
 pub returns-in_err-second-clause-faults : goal.returns-in_err-second-clause-faults
 returns-in_err-second-clause-faults g c =
     let e = err_from_is_err_and c.from_residual.result c.from_residual.ensures.1 in
-    rw (e.1, e.2) (counts_from _ _ _ _ c.events.invariant.none_counted (counts_as c.in_err-second.field-0.0 _ _ c.in_err-second.ensures.faults))
+    rw (e.1, e.2) (counts_from _ _ _ _ c.events.invariant.none_counted (again-counts c.in_err-second.field-0.0 _ _ c.in_err-second.ensures.faults c.in_err-second.ensures.counts))
 
 pub returns-in_err-go_on-clause-faults : goal.returns-in_err-go_on-clause-faults
 returns-in_err-go_on-clause-faults g c =
     let e = err_from_is_err_and c.from_residual-in_err-go_on.result c.from_residual-in_err-go_on.ensures.1 in
-    rw (e.1, e.2) (counts_from _ _ _ _ (c.in_ok-second.ensures.faults.once ∙ c.events.invariant.none_counted) (fault_counts c.in_err-go_on.field-0.0 _ _ c.in_err-go_on.ensures.faults))
+    rw (e.1, e.2) (counts_from _ _ _ _ (c.in_ok-second.ensures.counts ∙ c.events.invariant.none_counted) (fault_counts c.in_err-go_on.field-0.0 _ _ c.in_err-go_on.ensures.faults))
