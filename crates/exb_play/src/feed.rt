@@ -62,7 +62,11 @@ fn spare(alloc: Global, played: &mut Vec<Arrival>) -> Vec<u8> {
 
 impl Feed<'_> {
     /// Takes what comes first, and answers its second; None exactly where nothing is left.
-    fn take_first<S: Shelf>(&mut self, alloc: Global, shelf: &mut S) -> Result<Option<u64>, CaptureFault>
+    fn take_first<S: Shelf>(
+        &mut self,
+        alloc: Global,
+        shelf: &mut S,
+    ) -> Result<Option<u64>, CaptureFault>
         requires feed { CanFeed (S.ids shelf.old) self.old }
         ensures feed { OnOk result (CanFeed (S.ids shelf.new) self.new) }
         ensures taken { IfOk result (λ next. IfSome next (λ second. (d : Coming) × IsTaken S.tells (S.file shelf.old) (S.file shelf.new) (S.ids shelf.old) (S.ids shelf.new) self.old d self.new × (second_by d ≡ second))) }
