@@ -1,8 +1,8 @@
 -- Rows: their ports, lowest first.
-use Rattle.std.proofs.Common.{◌≡◌, ◌≢◌, ◌⊎◌, ℕ, zero, suc, ◌+◌, ◌-◌, ◌*◌, ◌/◌, ◌%◌, ◌^◌, ◌<◌, ◌≤◌, ◌==◌, ◌&&◌, not, Bool, true, false, cond, bit_and, bit_or, count_ones, List, [], ◌∷◌, ◌++◌, length, nat_lt, nat_le, refl, ap, sym, ◌∙◌, subst, arith, inl, inr, append_assoc, append-nil, length-append}
+use Rattle.std.proofs.Common.{◌≡◌, ◌≢◌, ◌⊎◌, ℕ, zero, suc, ◌+◌, ◌-◌, ◌*◌, ◌/◌, ◌%◌, ◌^◌, ◌<◌, ◌≤◌, ◌==◌, ◌&&◌, not, true, false, cond, bit_or, count_ones, List, [], ◌∷◌, ◌++◌, length, nat_lt, nat_le, refl, ap, sym, ◌∙◌, arith, inl, inr, append_assoc, append-nil, length-append}
 use Rattle.std.specs.List.{flat_map, range_with_len}
 use Rattle.std.specs.Int.{w64, bit_at, trailing_zeros}
-use Rattle.std.proofs.lemmas.Bool.{cases_eq, cases_lt, and_from, and_right, ne_eqb, eq-eqb, lt-ltb, le-leb, le-ltb}
+use Rattle.std.proofs.lemmas.Bool.{cases_eq, and_from, and_right, ne_eqb, eq-eqb, lt-ltb, le-leb}
 use Rattle.std.proofs.lemmas.Nat.{ones-le, ones_le_self}
 use Rattle.std.proofs.lemmas.Nat.Bits.{bit_at-lt, bit_at-suc, bit_at_lowest, bit_at_set_same, bit_at_set_other}
 use native.Mathlib.Nat.{pow-suc}

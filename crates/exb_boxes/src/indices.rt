@@ -1,5 +1,5 @@
 //! The index of the next record of each port.
-ghost use Rattle.std.specs.Prelude.{◌≡◌, ◌+◌, ◌<◌, ◌^◌, IfOk, replicate};
+ghost use Rattle.std.specs.Prelude.{◌≡◌, ◌+◌, ◌<◌, ◌^◌, IfOk};
 ghost use Rattle.exb_boxes.specs.Tables.{at};
 ghost use Rattle.exb_boxes.specs.Indices.{next_of};
 

@@ -1,4 +1,4 @@
-use Rattle.std.proofs.Common.{◌≡◌, ◌^◌, ◌<◌, length, rules, ap, subst, ◌∙◌}
+use Rattle.std.proofs.Common.{◌^◌, ◌<◌, length, rules, ap, ◌∙◌}
 use Rattle.exb_boxes.specs.Rows.{Row, ports_in}
 use Rattle.exb_boxes.proofs.RowPorts.{row_count, row_few}
 use Rattle.exb_boxes.proofs.rows.Row.count.Goals as goal

@@ -1,4 +1,4 @@
-use Rattle.std.proofs.Common.{◌≡◌, ℕ, ◌^◌, ◌<◌, ◌∷◌, rules, ap, sym, subst, ◌∙◌}
+use Rattle.std.proofs.Common.{ℕ, ◌^◌, ◌<◌, ◌∷◌, rules, ap, sym, subst, ◌∙◌}
 use Rattle.std.specs.Int.{trailing_zeros, w64}
 use Rattle.exb_csp.proofs.PlainLemmas.{without}
 use Rattle.exb_boxes.specs.Rows.{Row, ports_in}

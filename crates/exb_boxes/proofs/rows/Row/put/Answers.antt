@@ -1,4 +1,4 @@
-use Rattle.std.proofs.Common.{◌≡◌, ℕ, List, [], ◌∷◌, ◌++◌, ap, sym, subst, ◌∙◌}
+use Rattle.std.proofs.Common.{[], ◌∷◌, ◌++◌, ap, sym, subst, ◌∙◌}
 use Rattle.exb_csp.specs.AllTables.{port_of}
 use Rattle.exb_boxes.specs.Rows.{Row, ports_in, HasNoneFrom}
 use Rattle.exb_boxes.proofs.RowPorts.{row_more}
