@@ -1,4 +1,4 @@
-use Rattle.std.proofs.Common.{◌≡◌, ℕ, ◌+◌, ◌-◌, List, [], ◌∷◌, ◌++◌, ap, ◌∙◌, arith}
+use Rattle.std.proofs.Common.{◌≡◌, ℕ, ◌+◌, List, [], ◌∷◌, ◌++◌, ap, ◌∙◌, arith}
 use Rattle.exb_csp.specs.AllTables.{port_of}
 use Rattle.exb_boxes.proofs.RowPorts.{none_in}
 use Rattle.exb_boxes.proofs.rows.Row.of.Goals as goal
