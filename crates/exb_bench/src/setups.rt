@@ -1,6 +1,6 @@
 //! Bridges with extenders of 64 ports, the rows of a set and number spaces.
 
-use exb_control::Fabric;
+use exb_control::ActiveConfig;
 use exb_model::list::List;
 use exb_model::memory::NoMemory;
 use exb_model::setup::{ExtenderSetup, Place, Setup};
@@ -73,8 +73,8 @@ pub(crate) fn spaces(alloc: Global, setup: &mut Setup, count: u8) -> Result<u64,
     if !setup.valid() {
         return Ok(0);
     }
-    match Fabric::new(alloc, setup) {
-        Ok(_fabric) => Ok(1),
+    match ActiveConfig::new(alloc, setup) {
+        Ok(_active) => Ok(1),
         Err(fault) => Err(fault),
     }
 }

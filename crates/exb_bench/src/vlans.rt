@@ -1,11 +1,11 @@
 //! Changes of a port where there are many VLANs, each with a set of its own.
 ghost use Rattle.std.specs.Prelude.{◌≡◌, ◌<◌, true, IsSome};
 ghost use Rattle.exb_changing.specs.Fitting.{Fits};
-ghost use Rattle.exb_control.specs.Fabrics.{IsPrepared, IsInForce};
+ghost use Rattle.exb_control.specs.ActiveConfigs.{IsPrepared, IsInForce};
 
 use crate::setups::hang;
 use exb_changing::Job;
-use exb_control::{Fabric, Stage};
+use exb_control::{ActiveConfig, Stage};
 use exb_model::command::Command;
 use exb_model::memory::NoMemory;
 use exb_model::port::PortId;
@@ -93,30 +93,30 @@ fn is_in_force(stage: &Stage) -> bool
 }
 
 // Commits the change that is prepared, if one is, and ends it; how many requests it has before its commit.
-fn commit(fabric: &mut Fabric) -> Result<u64, NoMemory> {
-    let Some(asks) = prepared(fabric.stage()) else {
+fn commit(active: &mut ActiveConfig) -> Result<u64, NoMemory> {
+    let Some(asks) = prepared(active.stage()) else {
         return Ok(0);
     };
-    fabric.commit()?;
-    if is_in_force(fabric.stage()) {
-        fabric.finish();
+    active.commit()?;
+    if is_in_force(active.stage()) {
+        active.finish();
     }
     Ok(asks)
 }
 
 // Carries out a change; how many requests it has before its commit.
-fn play(fabric: &mut Fabric, job: &Job) -> Result<u64, NoMemory>
-    requires { Fits fabric.old.shape job.now }
+fn play(active: &mut ActiveConfig, job: &Job) -> Result<u64, NoMemory>
+    requires { Fits active.old.shape job.now }
 {
-    if !is_at_rest(fabric.stage()) || fabric.start(job)?.is_some() {
+    if !is_at_rest(active.stage()) || active.start(job)?.is_some() {
         return Ok(0);
     }
-    commit(fabric)
+    commit(active)
 }
 
 // Carries out a command on a port, if it is an external one.
-fn order(fabric: &mut Fabric, port: PortId, doing: Doing) -> Result<u64, NoMemory> {
-    if !fabric.tree().is_external(port) {
+fn order(active: &mut ActiveConfig, port: PortId, doing: Doing) -> Result<u64, NoMemory> {
+    if !active.tree().is_external(port) {
         return Ok(0);
     }
     let vid = Vid::default();
@@ -127,20 +127,20 @@ fn order(fabric: &mut Fabric, port: PortId, doing: Doing) -> Result<u64, NoMemor
         Doing::Rise => Command::Up { port },
         Doing::Fall => Command::Down { port },
     };
-    play(fabric, &Job::Ordered { number: 1, command })
+    play(active, &Job::Ordered { number: 1, command })
 }
 
 // The ports go up.
-fn raise(fabric: &mut Fabric) -> Result<(), NoMemory> {
+fn raise(active: &mut ActiveConfig) -> Result<(), NoMemory> {
     for place in 0..SPARE + 1 {
-        order(fabric, port(place), Doing::Rise)?;
+        order(active, port(place), Doing::Rise)?;
     }
     Ok(())
 }
 
 // Two changes after one another so many times; how many requests they have in all, and one more.
 fn turns(
-    fabric: &mut Fabric,
+    active: &mut ActiveConfig,
     of: PortId,
     first: Doing,
     second: Doing,
@@ -148,19 +148,19 @@ fn turns(
 ) -> Result<u64, NoMemory> {
     let mut asks = 1u64;
     for _time in 0..times {
-        asks = asks.wrapping_add(order(fabric, of, first)?);
-        asks = asks.wrapping_add(order(fabric, of, second)?);
+        asks = asks.wrapping_add(order(active, of, first)?);
+        asks = asks.wrapping_add(order(active, of, second)?);
     }
     Ok(asks)
 }
 
 // The changes that `member` or `port` names.
-fn changes(fabric: &mut Fabric, what: &str, times: u32) -> Result<u64, NoMemory> {
-    raise(fabric)?;
+fn changes(active: &mut ActiveConfig, what: &str, times: u32) -> Result<u64, NoMemory> {
+    raise(active)?;
     if what == "member" {
-        turns(fabric, port(SPARE), Doing::Join, Doing::Leave, times)
+        turns(active, port(SPARE), Doing::Join, Doing::Leave, times)
     } else {
-        turns(fabric, port(IN_ALL), Doing::Fall, Doing::Rise, times)
+        turns(active, port(IN_ALL), Doing::Fall, Doing::Rise, times)
     }
 }
 
@@ -176,6 +176,6 @@ pub(crate) fn change(
     if !setup.valid() {
         return Ok(0);
     }
-    let mut fabric = Fabric::new(alloc, setup)?;
-    changes(&mut fabric, what, times)
+    let mut active = ActiveConfig::new(alloc, setup)?;
+    changes(&mut active, what, times)
 }

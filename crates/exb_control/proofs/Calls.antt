@@ -42,7 +42,7 @@ when_ok (Err e) fine p = absurd (cc)
 pub moved : (m : Moved) (old : Parts) (core : Core) (queue : List Job) (heard : Heard) (given : ℕ) (failed : Bool) (events : List Event) (asks : List Asked) (out : Outbox) →
     events ≡ [] → asks ≡ [] →
     reached (state_of (parts_of core queue heard given failed)) out.events out.asks (table_of core.learned) ≡ reached_by m events asks (table_of old.learned) →
-    core.fabric.shape ≡ old.fabric.shape → core.fabric.limits ≡ old.fabric.limits → failed ≡ old.failed → IsQuiet out →
+    core.active.shape ≡ old.active.shape → core.active.limits ≡ old.active.limits → failed ≡ old.failed → IsQuiet out →
     IsMoved m old (parts_of core queue heard given failed) out
 moved m old core queue heard given failed events asks out none no_ask e shape limits same quiet =
     let r : reached (state_of (parts_of core queue heard given failed)) out.events out.asks (table_of core.learned) ≡ reached_by m [] [] (table_of old.learned) =
@@ -115,7 +115,7 @@ spells_beat : (t : Shape) (o : Option Work) (q : Option AskAt) (askers : ℕ →
 spells_beat t o q askers k = record { known = k.known; work = k.work; askers = repeats_beat q askers k.askers }
 
 pub kept_beat : (core core' : Core) (queue : List Job) (heard : Heard) (given : ℕ) (failed : Bool) → core' ≡ record core { sessions = core'.sessions } →
-    askers_of core'.sessions ≡ after_beat (ask_at core.fabric.stage core.place) (askers_of core.sessions) → IsKept core queue heard given failed → IsKept core' queue heard given failed
+    askers_of core'.sessions ≡ after_beat (ask_at core.active.stage core.place) (askers_of core.sessions) → IsKept core queue heard given failed → IsKept core' queue heard given failed
 kept_beat core core' queue heard given failed rest askers kept =
     subst (λ (x : Core). IsKept x queue heard given failed) (sym rest)
     (record {
@@ -125,20 +125,20 @@ kept_beat core core' queue heard given failed rest askers kept =
           record {
             fit = sound.fit;
             asks = sound.asks;
-            steady = rw askers (steady_beat (to_come queue given) _ (ask_at core.fabric.stage core.place) (askers_of core.sessions) sound.steady);
-            spells = rw askers (spells_beat core.fabric.shape _ (ask_at core.fabric.stage core.place) (askers_of core.sessions) sound.spells);
+            steady = rw askers (steady_beat (to_come queue given) _ (ask_at core.active.stage core.place) (askers_of core.sessions) sound.steady);
+            spells = rw askers (spells_beat core.active.shape _ (ask_at core.active.stage core.place) (askers_of core.sessions) sound.spells);
           };
     })
 
 pub beat_moves : (core core' : Core) (queue : List Job) (heard : Heard) (given : ℕ) (failed : Bool) (events : List Event) (asks asks' : List Asked) →
     core' ≡ record core { sessions = core'.sessions } →
-    askers_of core'.sessions ≡ after_beat (ask_at core.fabric.stage core.place) (askers_of core.sessions) →
-    asks' ≡ asks ++ messages_at_beat (ask_at core.fabric.stage core.place) (askers_of core.sessions) →
+    askers_of core'.sessions ≡ after_beat (ask_at core.active.stage core.place) (askers_of core.sessions) →
+    asks' ≡ asks ++ messages_at_beat (ask_at core.active.stage core.place) (askers_of core.sessions) →
     reached (state_of (parts_of core' queue heard given failed)) events asks' (table_of core'.learned)
     ≡ reached_by (beats (state_of (parts_of core queue heard given failed))) events asks (table_of core.learned)
 beat_moves core core' queue heard given failed events asks asks' rest askers told =
     ap (λ (x : Core). reached (state_of (parts_of x queue heard given failed)) events asks' (table_of x.learned)) rest
-    ∙ beats_as core.fabric.stage core.place (state_of (parts_of core queue heard given failed)) (askers_of core'.sessions) events asks asks' (table_of core.learned) refl askers told
+    ∙ beats_as core.active.stage core.place (state_of (parts_of core queue heard given failed)) (askers_of core'.sessions) events asks asks' (table_of core.learned) refl askers told
 
 -- ---- announcements
 pub heard_it : (decide : Decide) (t : Shape) (ports : List ℕ) (n : ℕ) (a : Announce) (s : State) (heard' : ℕ → Bool) (events : List Event) (asks : List Asked) (table : Table) →

@@ -13,7 +13,7 @@ use Rattle.exb_changing.specs.declared.job.Phase.TheVariants.{Preparing, Cleanin
 use Rattle.exb_control.specs.declared.stage.Stage.{Stage}
 use Rattle.exb_control.specs.declared.stage.Stage.TheVariants.{AtRest, Prepared, InForce}
 use Rattle.exb_changing.specs.Deciding.{Decide, bridge_after, release}
-use Rattle.exb_control.specs.Fabrics.{Fabric, bridge_in, held_in, bridge_at_end, held_at_end}
+use Rattle.exb_control.specs.ActiveConfigs.{ActiveConfig, bridge_in, held_in, bridge_at_end, held_at_end}
 use Rattle.exb_changing.specs.Fitting.{Fits, AreFit}
 use Rattle.exb_changing.specs.Machine.{Work, State}
 use Rattle.exb_changing.specs.Counting.{requests_of, requests_in, requests_by, bridge_left, held_left, unheard, planned}
@@ -30,7 +30,7 @@ drop_at (k ∷ js) (suc i) j e = drop_at js i j e
 
 -- ---- the jobs that wait
 -- those before a place are run
-pub record IsCounting (v0 v : Fabric) (q : List Job) (place count : ℕ) : Type 0 where
+pub record IsCounting (v0 v : ActiveConfig) (q : List Job) (place count : ℕ) : Type 0 where
   pub stage : v.stage ≡ AtRest
   pub shape : v.shape ≡ v0.shape
   pub limits : v.limits ≡ v0.limits
@@ -103,17 +103,17 @@ missing_as t heard s ports same =
     ∙ ap (λ (hs : ℕ → Bool). count_by (λ n. nat_lt 0 n && nat_lt 0 (slice_index t.ports n) && not (hs n)) (range_with_len 1 64)) (sym same)
 
 pub all_planned : (t : Shape) (decide : Decide) (f : Front) (c : Core) (heard : Heard) (b : Bridge) (h : Held) (q : List Job) (asked waiting missing : ℕ) →
-    AsksOrRests c → heard.ports ≡ t.ports → f.heard ≡ heard.heard → f.queue ≡ q → b ≡ bridge_at_end c.fabric.stage (bridge_in c.fabric) → h ≡ held_at_end c.fabric.stage (held_in c.fabric) →
-    asked ≡ left_at c.fabric.stage c.place → waiting ≡ requests_in decide b h q → missing ≡ unheard_to heard 64 →
+    AsksOrRests c → heard.ports ≡ t.ports → f.heard ≡ heard.heard → f.queue ≡ q → b ≡ bridge_at_end c.active.stage (bridge_in c.active) → h ≡ held_at_end c.active.stage (held_in c.active) →
+    asked ≡ left_at c.active.stage c.place → waiting ≡ requests_in decide b h q → missing ≡ unheard_to heard 64 →
     asked + waiting + missing ≡ planned t decide (state_in f c)
 unfolding planned
 all_planned t decide f c heard b h q asked waiting missing rests ports same is bridge held left requests none =
     let s = state_in f c in
-    let end : requests_in decide b h q ≡ requests_in decide (bridge_at_end c.fabric.stage s.bridge) (held_at_end c.fabric.stage s.held) s.queue =
+    let end : requests_in decide b h q ≡ requests_in decide (bridge_at_end c.active.stage s.bridge) (held_at_end c.active.stage s.held) s.queue =
     ap (λ (x : Bridge). requests_in decide x h q) bridge
-    ∙ ap (λ (x : Held). requests_in decide (bridge_at_end c.fabric.stage s.bridge) x q) held
-    ∙ ap (λ (js : List Job). requests_in decide (bridge_at_end c.fabric.stage s.bridge) (held_at_end c.fabric.stage s.held) js) (sym is) in
+    ∙ ap (λ (x : Held). requests_in decide (bridge_at_end c.active.stage s.bridge) x q) held
+    ∙ ap (λ (js : List Job). requests_in decide (bridge_at_end c.active.stage s.bridge) (held_at_end c.active.stage s.held) js) (sym is) in
     ap (λ k. k + waiting + missing) left
-    ∙ ap (λ k. left_at c.fabric.stage c.place + k + missing) (requests ∙ end)
-    ∙ ap (λ k. k + missing) (requests_with c.fabric.stage c.place decide s refl rests)
+    ∙ ap (λ k. left_at c.active.stage c.place + k + missing) (requests ∙ end)
+    ∙ ap (λ k. k + missing) (requests_with c.active.stage c.place decide s refl rests)
     ∙ ap (λ k. requests_by decide s.work s + k) (none ∙ missing_as t heard s ports (ap heard_of same))

@@ -1,4 +1,4 @@
--- What becomes of a job, and what then holds of the fabric.
+-- What becomes of a job, and what then holds of the active configuration.
 use Rattle.std.proofs.Common.{◌≡◌, ℕ, ◌*◌, ◌≤◌, ◌&&◌, true, List, [], Option, Some, None, filter, refl, sym, ◌∙◌, ap, subst, arith}
 use Rattle.std.specs.Prelude.{nat_lt}
 use Rattle.std.specs.List.{range_with_len}
@@ -27,7 +27,7 @@ use Rattle.exb_control.specs.declared.stage.Stage.{Stage}
 use Rattle.exb_control.specs.declared.stage.Stage.TheVariants.{AtRest, Prepared}
 use Rattle.exb_changing.specs.Deciding.{Outcome, Refused, Ready, decide, outcome_by, outcome_between, opening_asks, opening_change, cascades_of, channel_of, bridge_after, release}
 use Rattle.exb_changing.specs.Fitting.{Fits, HasExternals}
-use Rattle.exb_control.specs.Fabrics.{HoldsIn, IsShort, stage_of, cause_of, held_after, decision_of}
+use Rattle.exb_control.specs.ActiveConfigs.{HoldsIn, IsShort, stage_of, cause_of, held_after, decision_of}
 use Rattle.exb_changing.specs.Planned.{IsPlanned}
 use Rattle.exb_plans.proofs.Lengths.{flat_at_most, few_range}
 use Rattle.exb_changing.proofs.Short.{channel_few, changes_are_short}

@@ -6,7 +6,7 @@ use Rattle.exb_session.specs.Asking.{begun}
 use Rattle.exb_changing.specs.declared.job.Job.{Job}
 use Rattle.exb_control.specs.declared.stage.Stage.TheVariants.{AtRest}
 use Rattle.exb_changing.specs.Beginning.{first_jobs, first_held}
-use Rattle.exb_control.specs.Fabrics.{bridge_in, held_in}
+use Rattle.exb_control.specs.ActiveConfigs.{bridge_in, held_in}
 use Rattle.exb_control.specs.declared.working.Core.{Core}
 use Rattle.exb_control.specs.Controls.{state_of, first_of}
 use Rattle.exb_control.specs.Steps.{Heard, heard_of, askers_of}
@@ -16,9 +16,9 @@ use Rattle.exb_control.specs.Insides.{parts_of, IsKept}
 use Rattle.exb_changing.proofs.FirstJobs.{few_first, fit_first}
 use Rattle.exb_session.proofs.AskerLaws.{stays_sound}
 
-module _ (s : Setup) (core : Core) (queue : List Job) (heard : Heard) (shape : core.fabric.shape ≡ shape_of s) (rest : core.fabric.stage ≡ AtRest)
+module _ (s : Setup) (core : Core) (queue : List Job) (heard : Heard) (shape : core.active.shape ≡ shape_of s) (rest : core.active.stage ≡ AtRest)
     (jobs : queue ≡ first_jobs (shape_of s)) (askers : askers_of core.sessions ≡ λ n. begun) where
-  pub begins_as : bridge_in core.fabric ≡ start_of s → held_in core.fabric ≡ first_held (shape_of s) (limits_of s) → heard_of heard.heard ≡ (λ n. false) →
+  pub begins_as : bridge_in core.active ≡ start_of s → held_in core.active ≡ first_held (shape_of s) (limits_of s) → heard_of heard.heard ≡ (λ n. false) →
       state_of (parts_of core queue heard 0 false) ≡ first_of s
   begins_as bridge held none = rw (jobs, rest, bridge, held, none, askers) refl
 
@@ -27,7 +27,7 @@ module _ (s : Setup) (core : Core) (queue : List Job) (heard : Heard) (shape : c
       let few : length queue ≤ 4160 = rw jobs (few_first (shape_of s)) in
       rw askers (record { idle = λ n. refl; room = λ n. omega arith })
 
-  spells_first : Spells core.fabric.shape None (askers_of core.sessions)
+  spells_first : Spells core.active.shape None (askers_of core.sessions)
   spells_first = rw askers (record { known = tt; work = tt; askers = λ n. record { sound = stays_sound.begins; spelled = tt } })
 
   pub begins_kept : heard.ports ≡ (shape_of s).ports → IsKept core queue heard 0 false

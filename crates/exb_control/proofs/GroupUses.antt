@@ -1,4 +1,4 @@
--- The uses of groups that the fabric keeps, step by step.
+-- The uses of groups that the active configuration keeps, step by step.
 use Rattle.std.proofs.Common.{◌≡◌, ℕ, ◌+◌, ◌<◌, ◌≤◌, cond, Bool, true, List, [], Option, Some, None, length, refl, sym, ◌∙◌, ap, subst}
 use Rattle.std.specs.Prelude.{slice_index_or}
 use Rattle.exb_model.specs.declared.command.Command.{Command}
@@ -28,7 +28,7 @@ use Rattle.exb_changing.specs.declared.job.Job.TheVariants as job
 use Rattle.exb_control.specs.declared.stage.Stage.{Stage}
 use Rattle.exb_control.specs.declared.stage.Stage.TheVariants.{AtRest, Prepared, InForce}
 use Rattle.exb_changing.specs.Deciding.{Outcome, Refused, Ready, decide, outcome_by, bridge_after, release}
-use Rattle.exb_control.specs.Fabrics.{Fabric, IsPrepared, bridge_in, held_in, stage_of, held_after, in_force, bridge_at_end, held_at_end}
+use Rattle.exb_control.specs.ActiveConfigs.{ActiveConfig, IsPrepared, bridge_in, held_in, stage_of, held_after, in_force, bridge_at_end, held_at_end}
 use Rattle.exb_changing.specs.Fitting.{Fits, HasExternals}
 use Rattle.exb_control.specs.GroupUses.{AreUses, IsKept}
 use Rattle.exb_changing.specs.Planned.{IsPlanned}
@@ -92,10 +92,10 @@ module _ (t : Shape) (valid : IsTree t) (l : Limits) (few : l.channels ≤ 4094)
       between_counted (job.AutomaticUp p) (command.Up p) (extended_external t p fits) refl (refusal_between t l b (after (command.Up p) b)) refl counted
   decided_counted (job.Ordered n c) fits counted = between_counted (job.Ordered n c) c fits refl (refusal_between t l b (after c b)) refl counted
 
--- ---- the fabric
-module _ (f : Fabric) (uses : List (List ℕ)) (is : IsKept f uses) where
+-- ---- the active configuration
+module _ (f : ActiveConfig) (uses : List (List ℕ)) (is : IsKept f uses) where
   pub rows_fit : (k : ℕ) → k < 64 → is_cascade f.shape k ≡ true → length (slice_index_or uses k []) ≡ (groups_at f.spaces k).limit
-  rows_fit k low c = is.uses.rows k low c ∙ sym (is.fabric.spaces.groups k (is.fabric.spaces.spaces k ∙ place_true f.shape k low c))
+  rows_fit k low c = is.uses.rows k low c ∙ sym (is.active.spaces.groups k (is.active.spaces.spaces k ∙ place_true f.shape k low c))
 
   module _ (rest : f.stage ≡ AtRest) where
     rest_counted : IsCounted f.shape (bridge_in f) (held_in f) uses
@@ -124,7 +124,7 @@ module _ (f : Fabric) (uses : List (List ℕ)) (is : IsKept f uses) where
             counted =
                 subst (λ (s : Stage). IsCounted f.shape (bridge_at_end s (bridge_in f)) (held_at_end s (in_spaces f.shape (held_by w))) next) (sym stage)
                 (subst (λ (h : Held). IsCounted f.shape (bridge_at_end (stage_of j o) (bridge_in f)) (held_at_end (stage_of j o) h) next) (sym held)
-                (decided_counted f.shape is.fabric.tree f.limits is.fabric.channels is.fabric.groups (bridge_in f) is.fabric.external (held_in f) needed next j fits
+                (decided_counted f.shape is.active.tree f.limits is.active.channels is.active.groups (bridge_in f) is.active.external (held_in f) needed next j fits
                 (by_outcome d o stage held decided)));
             rows = λ k low c. rows k ∙ is.uses.rows k low c;
           }

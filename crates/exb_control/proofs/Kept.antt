@@ -1,4 +1,4 @@
--- What holds of every fabric, step by step.
+-- What holds of every active configuration, step by step.
 use Rattle.std.proofs.Common.{◌≡◌, refl, sym, ◌∙◌, ap, subst}
 use Rattle.exb_model.specs.Tree.{Shape, IsTree, is_extended}
 use Rattle.exb_model.specs.declared.setup.Setup.{Setup}
@@ -16,16 +16,16 @@ use Rattle.exb_changing.specs.declared.job.Job.{Job}
 use Rattle.exb_control.specs.declared.stage.Stage.{Stage}
 use Rattle.exb_control.specs.declared.stage.Stage.TheVariants.{AtRest, Prepared, InForce}
 use Rattle.exb_changing.specs.Deciding.{decide}
-use Rattle.exb_control.specs.Fabrics.{Fabric, IsFabric, IsPrepared, IsInForce, HoldsIn, fabric_of, bridge_in, held_in, stage_of, cause_of, held_after, decision_of, in_force, bridge_at_end, held_at_end}
+use Rattle.exb_control.specs.ActiveConfigs.{ActiveConfig, IsActiveConfig, IsPrepared, IsInForce, HoldsIn, active_config_of, bridge_in, held_in, stage_of, cause_of, held_after, decision_of, in_force, bridge_at_end, held_at_end}
 use Rattle.exb_changing.specs.Fitting.{Fits, HasExternals}
 use Rattle.exb_changing.proofs.Places.{needed_placed, placed_needed}
 use Rattle.exb_changing.proofs.Commands.{start_external, start_absent}
 use Rattle.exb_control.proofs.Decided.{said_cause, said_stage, cause_is, stage_is, cause_placed, stage_placed, held_placed, decided_holds, external_job}
 
 -- ---- the beginning
-pub new_fabric : (s : Setup) → IsValid s → (t : Shape) → t ≡ shape_of s → (config : Tables) (v : Spaces) → bridge_of config ≡ start_of s → HasPvids (bridge_of config) →
-    HasSpaces t (limits_of s) v → HoldsFirst t (held_by v) → IsFabric (fabric_of t s.channels s.groups config v AtRest)
-new_fabric s valid t is config v start pvids has first = record {
+pub new_active : (s : Setup) → IsValid s → (t : Shape) → t ≡ shape_of s → (config : Tables) (v : Spaces) → bridge_of config ≡ start_of s → HasPvids (bridge_of config) →
+    HasSpaces t (limits_of s) v → HoldsFirst t (held_by v) → IsActiveConfig (active_config_of t s.channels s.groups config v AtRest)
+new_active s valid t is config v start pvids has first = record {
   tree = subst IsTree (sym is) valid.tree;
   channels = valid.channels;
   groups = valid.groups;
@@ -42,7 +42,7 @@ new_fabric s valid t is config v start pvids has first = record {
     }
 
 -- ---- a job is decided
-module _ (f : Fabric) (is : IsFabric f) (rest : f.stage ≡ AtRest) where
+module _ (f : ActiveConfig) (is : IsActiveConfig f) (rest : f.stage ≡ AtRest) where
   pub rest_needed : HoldsNeeded f.shape (bridge_in f) (held_in f)
   rest_needed = subst (HoldsIn f.shape (bridge_in f) (held_in f)) rest is.holds
 
@@ -63,7 +63,7 @@ module _ (f : Fabric) (is : IsFabric f) (rest : f.stage ≡ AtRest) where
     pub started_held : in_spaces f.shape (held_by w) ≡ held_after (decide f.shape f.limits (bridge_in f) (held_in f) j) (held_in f)
     started_held = ap (in_spaces f.shape) held ∙ sym (held_placed f.shape is.tree f.limits (bridge_in f) (held_by f.spaces) j fits)
 
-    pub started : HasSpaces f.shape f.limits w → IsFabric (record f { spaces = w; stage = said_stage j d })
+    pub started : HasSpaces f.shape f.limits w → IsActiveConfig (record f { spaces = w; stage = said_stage j d })
     started has = record {
       tree = is.tree;
       channels = is.channels;
@@ -94,8 +94,8 @@ module _ (t : Shape) (b : Bridge) (h : Held) (external : HasExternals t b) where
   end_holds (Prepared j x) holds = holds.2
   end_holds (InForce j x) holds = holds.1
 
-module _ (f : Fabric) (is : IsFabric f) (config : Tables) (pvids : HasPvids (bridge_of config)) (effect : bridge_of config ≡ bridge_at_end f.stage (bridge_in f)) where
-  pub committed : IsPrepared f.stage → (s : Stage) → s ≡ in_force f.stage → IsFabric (record f { config = config; stage = s })
+module _ (f : ActiveConfig) (is : IsActiveConfig f) (config : Tables) (pvids : HasPvids (bridge_of config)) (effect : bridge_of config ≡ bridge_at_end f.stage (bridge_in f)) where
+  pub committed : IsPrepared f.stage → (s : Stage) → s ≡ in_force f.stage → IsActiveConfig (record f { config = config; stage = s })
   committed p s now = record {
     tree = is.tree;
     channels = is.channels;
@@ -109,7 +109,7 @@ module _ (f : Fabric) (is : IsFabric f) (config : Tables) (pvids : HasPvids (bri
   }
 
   -- a change ends, and no change is at work
-  pub ended : (w : Spaces) → HasSpaces f.shape f.limits w → in_spaces f.shape (held_by w) ≡ held_at_end f.stage (held_in f) → IsFabric (record f { config = config; spaces = w; stage = AtRest })
+  pub ended : (w : Spaces) → HasSpaces f.shape f.limits w → in_spaces f.shape (held_by w) ≡ held_at_end f.stage (held_in f) → IsActiveConfig (record f { config = config; spaces = w; stage = AtRest })
   ended w has held = record {
     tree = is.tree;
     channels = is.channels;

@@ -5,7 +5,7 @@ use Rattle.std.specs.Option.{is_none}
 use Rattle.exb_model.specs.declared.event.Event.{Event}
 use Rattle.exb_learn.specs.Calls.{Table}
 use Rattle.exb_learn.specs.Entries.{table_of}
-use Rattle.exb_control.specs.Fabrics.{Fabric, bridge_in, held_in}
+use Rattle.exb_control.specs.ActiveConfigs.{ActiveConfig, bridge_in, held_in}
 use Rattle.exb_changing.specs.Fitting.{AreFit}
 use Rattle.exb_changing.specs.declared.asked.Asked.{Asked}
 use Rattle.exb_changing.specs.declared.job.Job.{Job}
@@ -23,7 +23,7 @@ use Rattle.exb_control.specs.Soundness.{MayAsk, IsSteady, AsksOrRests}
 use Rattle.exb_control.proofs.Steps.{joined}
 
 -- ---- nothing is started
-pub state_at_rest : (f : Front) (c : Core) → c.fabric.stage ≡ AtRest → state_in f c ≡ rest_of f c
+pub state_at_rest : (f : Front) (c : Core) → c.active.stage ≡ AtRest → state_in f c ≡ rest_of f c
 state_at_rest f c rest = rw rest refl
 
 waits_as : (f : Front) (c : Core) (j : Job) → waits (rest_of f c) j ≡ waits_for f.heard j
@@ -32,14 +32,14 @@ waits_as f c (job.AutomaticUp p) = refl
 waits_as f c (job.Ordered n k) = refl
 
 pub none_waits : (decide : Decide) (q : List Job) (f : Front) (c : Core) (events : List Event) (asks : List Asked) (t : Table) →
-    c.fabric.stage ≡ AtRest → first_in q ≡ None →
+    c.active.stage ≡ AtRest → first_in q ≡ None →
     reached (state_in (with_queue q f) c) events asks t ≡ reached_by (goes_on decide q (rest_of f c)) events asks t
 unfolding goes_on
 none_waits decide [] f c events asks t rest none = rw (rest, append-nil events, append-nil asks) refl
 none_waits decide (j ∷ js) f c events asks t rest none = absurd (cc)
 
 pub first_waits : (decide : Decide) (q : List Job) (j : Job) (f : Front) (heard : List Bool) (c : Core) (events : List Event) (asks : List Asked) (t : Table) →
-    c.fabric.stage ≡ AtRest → first_in q ≡ Some j → f.heard ≡ heard → waits_for heard j ≡ true →
+    c.active.stage ≡ AtRest → first_in q ≡ Some j → f.heard ≡ heard → waits_for heard j ≡ true →
     reached (state_in (with_queue q f) c) events asks t ≡ reached_by (goes_on decide q (rest_of f c)) events asks t
 unfolding goes_on
 first_waits decide [] j f heard c events asks t rest is same wait = absurd (cc)
@@ -75,8 +75,8 @@ some_or : (o : Option Work) → (is_none o ≡ true → ⊥) → IsBusy o
 some_or None never = absurd (never refl)
 some_or (Some w) never = record { work = w; is = refl }
 
-pub busy_of : (c : Core) → AsksOrRests c → is_at_rest c.fabric.stage ≡ false → IsBusy (work_at c.fabric.stage c.place)
-busy_of c asks busy = some_or (work_at c.fabric.stage c.place) (λ none. let rest = asks none in at_rest (rw rest at busy))
+pub busy_of : (c : Core) → AsksOrRests c → is_at_rest c.active.stage ≡ false → IsBusy (work_at c.active.stage c.place)
+busy_of c asks busy = some_or (work_at c.active.stage c.place) (λ none. let rest = asks none in at_rest (rw rest at busy))
   where
     at_rest : true ≡ false → ⊥
     at_rest e = cc
@@ -89,25 +89,25 @@ rests_of (InForce j x) e = absurd (cc)
 module _ (decide : Decide) (j : Job) (js : List Job) (f : Front) (heard : List Bool) (old new : Core) (events events' : List Event) (asks asks' : List Asked)
     (same : f.heard ≡ heard) (goes : waits_for heard j ≡ false)
     (e : reached (state_in f new) events' asks' (table_of new.learned) ≡
-    reached_by (starts j (decide (bridge_in old.fabric) (held_in old.fabric) j) (rest_of f old)) events asks (table_of old.learned)) where
+    reached_by (starts j (decide (bridge_in old.active) (held_in old.active) j) (rest_of f old)) events asks (table_of old.learned)) where
   here : waits (rest_of f old) j ≡ false
   here = waits_as f old j ∙ ap (λ (h : List Bool). waits_for h j) same ∙ goes
 
-  pub starts_busy : AsksOrRests new → is_at_rest new.fabric.stage ≡ false →
+  pub starts_busy : AsksOrRests new → is_at_rest new.active.stage ≡ false →
       reached (state_in (with_queue js f) new) events' asks' (table_of new.learned) ≡ reached_by (goes_on decide (j ∷ js) (rest_of f old)) events asks (table_of old.learned)
   unfolding goes_on
   starts_busy rests busy =
       let work = busy_of new rests busy in
-      rw here (started_busy js (starts j (decide (bridge_in old.fabric) (held_in old.fabric) j) (rest_of f old)) _ (state_in f new) work.work events events' asks asks' _ _ e work.is)
+      rw here (started_busy js (starts j (decide (bridge_in old.active) (held_in old.active) j) (rest_of f old)) _ (state_in f new) work.work events events' asks asks' _ _ e work.is)
 
-  pub starts_resting : is_at_rest new.fabric.stage ≡ true →
+  pub starts_resting : is_at_rest new.active.stage ≡ true →
       reached_by (goes_on decide js (rest_of f new)) events' asks' (table_of new.learned) ≡ reached_by (goes_on decide (j ∷ js) (rest_of f old)) events asks (table_of old.learned)
   unfolding goes_on
   starts_resting rest =
-      let at = rests_of new.fabric.stage rest in
+      let at = rests_of new.active.stage rest in
       let is = state_at_rest f new at in
       rw here (ap (λ (s : State). reached_by (goes_on decide js s) events' asks' (table_of new.learned)) (sym is)
-      ∙ started_rests js (starts j (decide (bridge_in old.fabric) (held_in old.fabric) j) (rest_of f old)) (goes_on decide js) (state_in f new) events events' asks asks' _ _ e
+      ∙ started_rests js (starts j (decide (bridge_in old.active) (held_in old.active) j) (rest_of f old)) (goes_on decide js) (state_in f new) events events' asks asks' _ _ e
       (ap (λ (st : Stage). work_at st new.place) at))
 
 pub first_is : (q : List Job) (j : Job) → first_in q ≡ Some j → q ≡ j ∷ after_first q
@@ -116,17 +116,17 @@ first_is (i ∷ js) j e = let one : i ≡ j = cc in rw one refl
 
 -- ---- the loop over the queue
 pub record IsOnWay (heard : List Bool) (q0 q : List Job) (c0 c : Core) (events0 events : List Event) (asks0 asks : List Asked) : Type 0 where
-  pub stage : c.fabric.stage ≡ AtRest
-  pub shape : c.fabric.shape ≡ c0.fabric.shape
-  pub limits : c.fabric.limits ≡ c0.fabric.limits
-  pub fit : AreFit c0.fabric.shape q
+  pub stage : c.active.stage ≡ AtRest
+  pub shape : c.active.shape ≡ c0.active.shape
+  pub limits : c.active.limits ≡ c0.active.limits
+  pub fit : AreFit c0.active.shape q
   pub way : (f : Front) → f.heard ≡ heard →
-      reached_by (goes_on (decide_of c0.fabric) q (rest_of f c)) events asks (table_of c.learned)
-      ≡ reached_by (goes_on (decide_of c0.fabric) q0 (rest_of f c0)) events0 asks0 (table_of c0.learned)
+      reached_by (goes_on (decide_of c0.active) q (rest_of f c)) events asks (table_of c.learned)
+      ≡ reached_by (goes_on (decide_of c0.active) q0 (rest_of f c0)) events0 asks0 (table_of c0.learned)
   pub steady : (k : ℕ) → MayAsk (2 ^ 21 * length q0 + k) (askers_of c0.sessions) → MayAsk (2 ^ 21 * length q + k) (askers_of c.sessions)
 
 -- jobs are decided as before
-pub same_decide : (c0 c : Fabric) → c.shape ≡ c0.shape → c.limits ≡ c0.limits → decide_of c ≡ decide_of c0
+pub same_decide : (c0 c : ActiveConfig) → c.shape ≡ c0.shape → c.limits ≡ c0.limits → decide_of c ≡ decide_of c0
 same_decide c0 c shape limits = rw (shape, limits) refl
 
 pub steady_rests : (k : ℕ) (stage : Stage) (place : ℕ) (askers : ℕ → AskerState) → stage ≡ AtRest → IsSteady k (work_at stage place) askers → MayAsk k askers

@@ -14,7 +14,7 @@ use Rattle.exb_changing.specs.declared.job.Phase.TheVariants.{Preparing}
 use Rattle.exb_control.specs.declared.stage.Stage.{Stage}
 use Rattle.exb_control.specs.declared.stage.Stage.TheVariants.{AtRest, Prepared, InForce}
 use Rattle.exb_changing.specs.Deciding.{Outcome, Refused, Ready}
-use Rattle.exb_control.specs.Fabrics.{IsShort, HoldsIn, cause_of, held_after, stage_of}
+use Rattle.exb_control.specs.ActiveConfigs.{IsShort, HoldsIn, cause_of, held_after, stage_of}
 use Rattle.exb_changing.specs.Machine.{State, commits, prepares, starts}
 use Rattle.exb_control.specs.Steps.{reached_by, next_of, advances, asks_in}
 

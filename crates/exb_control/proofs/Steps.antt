@@ -16,7 +16,7 @@ use Rattle.exb_changing.specs.declared.job.Phase.TheVariants.{Preparing, Cleanin
 use Rattle.exb_control.specs.declared.stage.Stage.{Stage}
 use Rattle.exb_control.specs.declared.stage.Stage.TheVariants.{AtRest, Prepared, InForce}
 use Rattle.exb_changing.specs.Deciding.{bridge_after, release}
-use Rattle.exb_control.specs.Fabrics.{IsPrepared, IsInForce}
+use Rattle.exb_control.specs.ActiveConfigs.{IsPrepared, IsInForce}
 use Rattle.exb_changing.specs.Machine.{State, Moved, still, ends, cleans, commits, committed, downs_of, followed_by}
 use Rattle.exb_control.specs.Queues.{first_in}
 use Rattle.exb_control.specs.Controls.{work_from, work_at, forgotten_all}

@@ -14,7 +14,7 @@ use Rattle.exb_relay.specs.declared.send.Ingress.TheVariants as ingress
 use Rattle.exb_relay.specs.Sends.{sends_of, ingress_of}
 use Rattle.exb_relay.specs.Spaces.{numbers_of}
 use Rattle.exb_changing.specs.Machine.{Moved}
-use Rattle.exb_control.specs.Fabrics.{Fabric, bridge_in}
+use Rattle.exb_control.specs.ActiveConfigs.{ActiveConfig, bridge_in}
 use Rattle.exb_control.specs.declared.outbox.Outbox.{Outbox}
 use Rattle.exb_control.specs.Controls.{Parts, state_of, forgotten_all}
 
@@ -30,8 +30,8 @@ pub record IsMoved (m : Moved) (old new : Parts) (out : Outbox) : Type 0 where
   pub events : out.events ≡ m.events
   pub asks : out.asks ≡ m.asks
   pub table : table_of new.learned ≡ forgotten_all m.downs (table_of old.learned)
-  pub shape : new.fabric.shape ≡ old.fabric.shape
-  pub limits : new.fabric.limits ≡ old.fabric.limits
+  pub shape : new.active.shape ≡ old.active.shape
+  pub limits : new.active.limits ≡ old.active.limits
   pub failed : new.failed ≡ old.failed
   pub quiet : IsQuiet out
 
@@ -48,7 +48,7 @@ abbrev pub taught : Bridge → Arrival → Table → Table
 taught b a t = if is_relayed b a.port a.bytes then after_any (relay_call a.port a.bytes (passes b a.port a.bytes)) t else t
 
 -- what is sent for it, with what is learned before it
-abbrev pub sends_for : Fabric → Entries → Arrival → List SendTo
+abbrev pub sends_for : ActiveConfig → Entries → Arrival → List SendTo
 sends_for v learned a =
     if is_relayed (bridge_in v) a.port a.bytes then sends_of v.shape (bridge_in v) (look_of learned) (numbers_of v.spaces) a.port a.bytes
     else []
@@ -58,11 +58,11 @@ ingress_for b a = if is_relayed b a.port a.bytes then ingress_of b a.port a.byte
 
 -- A frame came: it is relayed or ignored, and what it teaches is learned. Nothing else has changed.
 pub record HasCome (a : Arrival) (old new : Parts) (out : Outbox) : Type 0 where
-  pub events : out.events ≡ arrival_event (bridge_in old.fabric) a ∷ []
+  pub events : out.events ≡ arrival_event (bridge_in old.active) a ∷ []
   pub asks : out.asks ≡ []
-  pub sends : out.sends.items ≡ sends_for old.fabric old.learned a
-  pub ingress : out.ingress ≡ ingress_for (bridge_in old.fabric) a
-  pub table : table_of new.learned ≡ taught (bridge_in old.fabric) a (table_of old.learned)
+  pub sends : out.sends.items ≡ sends_for old.active old.learned a
+  pub ingress : out.ingress ≡ ingress_for (bridge_in old.active) a
+  pub table : table_of new.learned ≡ taught (bridge_in old.active) a (table_of old.learned)
   pub rest : new ≡ record old { learned = new.learned }
 
 -- the VLAN in which a frame passes

@@ -17,7 +17,7 @@ use Rattle.exb_changing.specs.declared.job.Phase.TheVariants.{Preparing, Cleanin
 use Rattle.exb_control.specs.declared.stage.Stage.{Stage}
 use Rattle.exb_control.specs.declared.stage.Stage.TheVariants.{AtRest, Prepared, InForce}
 use Rattle.exb_changing.specs.Deciding.{Decide, decide}
-use Rattle.exb_control.specs.Fabrics.{Fabric, bridge_in, held_in}
+use Rattle.exb_control.specs.ActiveConfigs.{ActiveConfig, bridge_in, held_in}
 use Rattle.exb_changing.specs.Machine.{Work, State, Moved, still, heard}
 use Rattle.exb_changing.specs.Beginning.{first_state}
 use Rattle.exb_control.specs.Queues.{is_empty}
@@ -26,7 +26,7 @@ use Rattle.exb_control.specs.Queues.{is_empty}
 -- of its phase, the jobs that wait, which extenders were heard, the bridge's ends of the sessions by extender,
 -- how many commands were given, what is learned, and whether memory ran out.
 pub record Parts : Type 0 where
-  pub fabric : Fabric
+  pub active : ActiveConfig
   pub place : ℕ
   pub queue : List Job
   pub heard : List Bool
@@ -57,16 +57,16 @@ abbrev pub state_of : Parts → State
 state_of v =
     record {
       queue = v.queue;
-      work = work_at v.fabric.stage v.place;
-      bridge = bridge_in v.fabric;
-      held = held_in v.fabric;
+      work = work_at v.active.stage v.place;
+      bridge = bridge_in v.active;
+      held = held_in v.active;
       heard = λ n. is_heard v.heard n;
       askers = λ n. asker_at v.askers n;
       given = v.given;
     }
 
 -- how its jobs are decided
-abbrev pub decide_of : Fabric → Decide
+abbrev pub decide_of : ActiveConfig → Decide
 decide_of f = decide f.shape f.limits
 
 -- no job waits and no change is at work

@@ -9,7 +9,7 @@ use Rattle.exb_control.specs.Soundness.{IsSound}
 abbrev pub parts_of : Core → List Job → Heard → ℕ → Bool → Parts
 parts_of c queue heard given failed =
     record {
-      fabric = c.fabric;
+      active = c.active;
       place = c.place;
       queue = queue;
       heard = heard.heard;
@@ -20,5 +20,5 @@ parts_of c queue heard given failed =
     }
 
 pub record IsKept (c : Core) (queue : List Job) (heard : Heard) (given : ℕ) (failed : Bool) : Type 0 where
-  pub ports : heard.ports ≡ c.fabric.shape.ports
+  pub ports : heard.ports ≡ c.active.shape.ports
   pub sound : failed ≡ false → IsSound c queue given

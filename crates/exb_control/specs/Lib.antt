@@ -1,4 +1,4 @@
-pub mod Fabrics
+pub mod ActiveConfigs
 pub mod GroupUses
 pub mod Queues
 pub mod Controls

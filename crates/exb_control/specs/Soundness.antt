@@ -58,7 +58,7 @@ IsSteady k (Some w) askers = IsWaiting k w askers
 
 -- where no request is outstanding, no change is at work
 abbrev pub AsksOrRests : Core → Type 0
-AsksOrRests c = is_none (work_at c.fabric.stage c.place) ≡ true → c.fabric.stage ≡ AtRest
+AsksOrRests c = is_none (work_at c.active.stage c.place) ≡ true → c.active.stage ≡ AtRest
 
 -- the requests of these jobs and of the commands that may still be given, at most 2^21 each
 abbrev pub to_come : List Job → ℕ → ℕ
@@ -66,7 +66,7 @@ to_come queue given = 2 ^ 21 * (length queue + (65536 - given))
 
 -- what holds while memory hasn't run out
 pub record IsSound (c : Core) (queue : List Job) (given : ℕ) : Type 0 where
-  pub fit : AreFit c.fabric.shape queue
+  pub fit : AreFit c.active.shape queue
   pub asks : AsksOrRests c
-  pub steady : IsSteady (to_come queue given) (work_at c.fabric.stage c.place) (askers_of c.sessions)
-  pub spells : Spells c.fabric.shape (work_at c.fabric.stage c.place) (askers_of c.sessions)
+  pub steady : IsSteady (to_come queue given) (work_at c.active.stage c.place) (askers_of c.sessions)
+  pub spells : Spells c.active.shape (work_at c.active.stage c.place) (askers_of c.sessions)

@@ -14,7 +14,7 @@ use Rattle.exb_changing.specs.declared.job.Phase.{Phase}
 use Rattle.exb_changing.specs.declared.job.Phase.TheVariants.{Preparing, Cleaning}
 use Rattle.exb_control.specs.declared.stage.Stage.{Stage}
 use Rattle.exb_control.specs.declared.stage.Stage.TheVariants.{AtRest, Prepared, InForce}
-use Rattle.exb_control.specs.Fabrics.{bridge_in, held_in}
+use Rattle.exb_control.specs.ActiveConfigs.{bridge_in, held_in}
 use Rattle.exb_changing.specs.Machine.{State, Moved, still, ends, works, commits, messages_due}
 use Rattle.exb_control.specs.declared.working.Core.{Core}
 use Rattle.exb_control.specs.Queues.{first_in}
@@ -39,15 +39,15 @@ rest_of f c =
     record {
       queue = f.queue;
       work = None;
-      bridge = bridge_in c.fabric;
-      held = held_in c.fabric;
+      bridge = bridge_in c.active;
+      held = held_in c.active;
       heard = heard_of f.heard;
       askers = askers_of c.sessions;
       given = f.given;
     }
 
 abbrev pub state_in : Front → Core → State
-state_in f c = record (rest_of f c) { work = work_at c.fabric.stage c.place }
+state_in f c = record (rest_of f c) { work = work_at c.active.stage c.place }
 
 abbrev pub with_queue : List Job → Front → Front
 with_queue queue f = record f { queue = queue }

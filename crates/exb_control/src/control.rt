@@ -7,8 +7,8 @@ ghost use Rattle.exb_session.specs.Asking.{took};
 ghost use Rattle.exb_learn.specs.Calls.{empty_table};
 ghost use Rattle.exb_learn.specs.Entries.{table_of};
 
+use crate::active_config::ActiveConfig;
 use crate::announcements::Heard;
-use crate::fabric::Fabric;
 use crate::frames::{Arrived, arrive};
 use crate::jobs::first_jobs;
 use crate::numbers::{channel_of, port_of};
@@ -67,7 +67,7 @@ impl Model for Control {
 
 impl Control {
     ghost use Rattle.exb_changing.specs.Counting.{planned};
-    ghost use Rattle.exb_control.specs.Fabrics.{IsFabric, held_in};
+    ghost use Rattle.exb_control.specs.ActiveConfigs.{IsActiveConfig, held_in};
     ghost use Rattle.exb_changing.specs.Machine.{ordered, answered, beats};
     ghost use Rattle.exb_control.specs.Boxes.{IsMoved, IsStill, HasCome, HasTicked};
     ghost use Rattle.exb_control.specs.Spelled.{CanBeSpelled};
@@ -78,21 +78,21 @@ impl Control {
         requires { IsValid setup.now }
         ensures state { IfOk result (λ made. state_of made ≡ first_of setup.now) }
         ensures learned { IfOk result (λ made. table_of made.learned ≡ empty_table setup.now.ageing) }
-        ensures shape { IfOk result (λ made. made.fabric.shape ≡ shape_of setup.now) }
-        ensures limits { IfOk result (λ made. made.fabric.limits ≡ limits_of setup.now) }
+        ensures shape { IfOk result (λ made. made.active.shape ≡ shape_of setup.now) }
+        ensures limits { IfOk result (λ made. made.active.limits ≡ limits_of setup.now) }
         ensures failed { IfOk result (λ made. made.failed ≡ false) }
     {
         let mut queue = Queue::new(alloc);
         let sessions = Sessions::new(alloc)?;
-        let fabric = Fabric::new(alloc, setup)?;
-        let begun = first_jobs(fabric.tree(), &mut queue);
+        let active = ActiveConfig::new(alloc, setup)?;
+        let begun = first_jobs(active.tree(), &mut queue);
         if begun.is_err() {
-            // By a call, since an early end is far longer to prove where it lets a fabric go.
-            drop(fabric);
+            // By a call, since an early end is far longer to prove where it lets an active configuration go.
+            drop(active);
             return Err(NoMemory);
         }
         let core = Core {
-            fabric,
+            active,
             place: 0,
             sessions,
             learned: Learned::new(alloc, setup.ageing),
@@ -110,14 +110,14 @@ impl Control {
     /// A command is given. Commands are numbered from 1 in the order in which they are given.
     pub fn command(&mut self, command: &Command, out: &mut Outbox) -> Result<(), ControlFault>
         requires few { self.old.given < 65536 }
-        requires names { NamesExternal self.old.fabric.shape command.now }
-        ensures ok { OnOk result (IsMoved (ordered (decide_of self.old.fabric) command.now (state_of self.old)) self.old self.new out.new) }
-        ensures spelled { OnOk result (All (CanBeSpelled self.old.fabric.shape) out.new.asks) }
+        requires names { NamesExternal self.old.active.shape command.now }
+        ensures ok { OnOk result (IsMoved (ordered (decide_of self.old.active) command.now (state_of self.old)) self.old self.new out.new) }
+        ensures spelled { OnOk result (All (CanBeSpelled self.old.active.shape) out.new.asks) }
         ensures failed { (result ≡ Err ControlFault.Failed) ↔ (self.old.failed ≡ true) }
         ensures memory { OnErr result (self.new.failed ≡ true) }
         ensures still { self.old.failed ≡ true → IsStill self.old self.new out.new }
-        ensures shape { self.new.fabric.shape ≡ self.old.fabric.shape }
-        ensures limits { self.new.fabric.limits ≡ self.old.fabric.limits }
+        ensures shape { self.new.active.shape ≡ self.old.active.shape }
+        ensures limits { self.new.active.limits ≡ self.old.active.limits }
     {
         out.empty();
         if self.failed {
@@ -148,20 +148,20 @@ impl Control {
         announce: &Announce,
         out: &mut Outbox,
     ) -> Result<(), ControlFault>
-        requires { is_extender self.old.fabric.shape extender ≡ true }
-        ensures ok { OnOk result (IsMoved (announced (decide_of self.old.fabric) self.old.fabric.shape extender announce.now (state_of self.old)) self.old self.new out.new) }
-        ensures spelled { OnOk result (All (CanBeSpelled self.old.fabric.shape) out.new.asks) }
+        requires { is_extender self.old.active.shape extender ≡ true }
+        ensures ok { OnOk result (IsMoved (announced (decide_of self.old.active) self.old.active.shape extender announce.now (state_of self.old)) self.old self.new out.new) }
+        ensures spelled { OnOk result (All (CanBeSpelled self.old.active.shape) out.new.asks) }
         ensures failed { (result ≡ Err ControlFault.Failed) ↔ (self.old.failed ≡ true) }
         ensures memory { OnErr result (self.new.failed ≡ true) }
         ensures still { self.old.failed ≡ true → IsStill self.old self.new out.new }
-        ensures shape { self.new.fabric.shape ≡ self.old.fabric.shape }
-        ensures limits { self.new.fabric.limits ≡ self.old.fabric.limits }
+        ensures shape { self.new.active.shape ≡ self.old.active.shape }
+        ensures limits { self.new.active.limits ≡ self.old.active.limits }
     {
         out.empty();
         if self.failed {
             return Err(ControlFault::Failed);
         }
-        self.core.fabric.is_fabric();
+        self.core.active.is_active_config();
         if !self.heard.is_of(extender, announce) {
             return Ok(());
         }
@@ -187,21 +187,21 @@ impl Control {
         message: &Message,
         out: &mut Outbox,
     ) -> Result<Taken, ControlFault>
-        requires { is_extender self.old.fabric.shape extender ≡ true }
-        ensures ok { OnOk result (IsMoved (answered (decide_of self.old.fabric) extender message.now (state_of self.old)) self.old self.new out.new) }
-        ensures spelled { OnOk result (All (CanBeSpelled self.old.fabric.shape) out.new.asks) }
+        requires { is_extender self.old.active.shape extender ≡ true }
+        ensures ok { OnOk result (IsMoved (answered (decide_of self.old.active) extender message.now (state_of self.old)) self.old self.new out.new) }
+        ensures spelled { OnOk result (All (CanBeSpelled self.old.active.shape) out.new.asks) }
         ensures taken { IfOk result (λ taken. taken ≡ (took ((state_of self.old).askers extender) message.now).1) }
         ensures failed { (result ≡ Err ControlFault.Failed) ↔ (self.old.failed ≡ true) }
         ensures memory { OnErr result (self.new.failed ≡ true) }
         ensures still { self.old.failed ≡ true → IsStill self.old self.new out.new }
-        ensures shape { self.new.fabric.shape ≡ self.old.fabric.shape }
-        ensures limits { self.new.fabric.limits ≡ self.old.fabric.limits }
+        ensures shape { self.new.active.shape ≡ self.old.active.shape }
+        ensures limits { self.new.active.limits ≡ self.old.active.limits }
     {
         out.empty();
         if self.failed {
             return Err(ControlFault::Failed);
         }
-        self.core.fabric.is_fabric();
+        self.core.active.is_active_config();
         let done = take(
             extender,
             message,
@@ -230,13 +230,13 @@ impl Control {
         frame: &[u8],
         out: &mut Outbox,
     ) -> Result<(), ControlFault>
-        requires { is_external self.old.fabric.shape port ≡ true }
+        requires { is_external self.old.active.shape port ≡ true }
         ensures ok { OnOk result (HasCome (record { port = port; index = index; moment = moment; bytes = frame.now }) self.old self.new out.new) }
         ensures failed { (result ≡ Err ControlFault.Failed) ↔ (self.old.failed ≡ true) }
         ensures memory { OnErr result (self.new.failed ≡ true) }
         ensures still { self.old.failed ≡ true → IsStill self.old self.new out.new }
-        ensures shape { self.new.fabric.shape ≡ self.old.fabric.shape }
-        ensures limits { self.new.fabric.limits ≡ self.old.fabric.limits }
+        ensures shape { self.new.active.shape ≡ self.old.active.shape }
+        ensures limits { self.new.active.limits ≡ self.old.active.limits }
     {
         out.empty();
         if self.failed {
@@ -250,7 +250,7 @@ impl Control {
         };
         let done = arrive(
             self.alloc,
-            &self.core.fabric,
+            &self.core.active,
             &mut self.core.learned,
             &arrived,
             out,
@@ -270,8 +270,8 @@ impl Control {
         ensures failed { (result ≡ Err ControlFault.Failed) ↔ (self.old.failed ≡ true) }
         ensures memory { OnErr result (self.new.failed ≡ true) }
         ensures still { self.old.failed ≡ true → IsStill self.old self.new out.new }
-        ensures shape { self.new.fabric.shape ≡ self.old.fabric.shape }
-        ensures limits { self.new.fabric.limits ≡ self.old.fabric.limits }
+        ensures shape { self.new.active.shape ≡ self.old.active.shape }
+        ensures limits { self.new.active.limits ≡ self.old.active.limits }
     {
         out.empty();
         if self.failed {
@@ -288,12 +288,12 @@ impl Control {
     /// A beat: the outstanding request goes out again at each sixteenth beat without its answer.
     pub fn beat(&mut self, out: &mut Outbox) -> Result<(), ControlFault>
         ensures ok { OnOk result (IsMoved (beats (state_of self.old)) self.old self.new out.new) }
-        ensures spelled { OnOk result (All (CanBeSpelled self.old.fabric.shape) out.new.asks) }
+        ensures spelled { OnOk result (All (CanBeSpelled self.old.active.shape) out.new.asks) }
         ensures failed { (result ≡ Err ControlFault.Failed) ↔ (self.old.failed ≡ true) }
         ensures memory { OnErr result (self.new.failed ≡ true) }
         ensures still { self.old.failed ≡ true → IsStill self.old self.new out.new }
-        ensures shape { self.new.fabric.shape ≡ self.old.fabric.shape }
-        ensures limits { self.new.fabric.limits ≡ self.old.fabric.limits }
+        ensures shape { self.new.active.shape ≡ self.old.active.shape }
+        ensures limits { self.new.active.limits ≡ self.old.active.limits }
     {
         out.empty();
         if self.failed {
@@ -310,30 +310,30 @@ impl Control {
     pub fn settled(&self) -> bool
         ensures { result ≡ is_settled (state_of self.now) }
     {
-        self.queue.is_empty() && outstanding(&self.core.fabric, self.core.place).is_none()
+        self.queue.is_empty() && outstanding(&self.core.active, self.core.place).is_none()
     }
 
     /// The channel that a port of an extender holds; None for other ports, and where it holds none.
     pub fn of(&self, port: PortId) -> Option<u16>
-        ensures { result ≡ channel_at_trunk self.now.fabric.shape (held_in self.now.fabric) port }
+        ensures { result ≡ channel_at_trunk self.now.active.shape (held_in self.now.active) port }
     {
-        channel_of(&self.core.fabric, &self.heard, port)
+        channel_of(&self.core.active, &self.heard, port)
     }
 
     /// The port that holds a channel of a cascade port of the bridge, 1 to 64.
     pub fn port(&self, bridge_port: u8, channel: u16) -> Option<PortId>
         requires from1 { 1 ≤ bridge_port }
         requires to64 { bridge_port ≤ 64 }
-        requires cascade { is_cascade self.now.fabric.shape (bridge_port - 1) ≡ true }
-        ensures { result ≡ (held_in self.now.fabric).port (bridge_port - 1) channel }
+        requires cascade { is_cascade self.now.active.shape (bridge_port - 1) ≡ true }
+        ensures { result ≡ (held_in self.now.active).port (bridge_port - 1) channel }
     {
-        port_of(&self.core.fabric, bridge_port, channel)
+        port_of(&self.core.active, bridge_port, channel)
     }
 
     /// How many requests and announcements are still to come before all jobs are done: requests that aren't answered,
     /// and extenders that weren't heard. Where no job waits it needs no memory.
     pub fn planned(&self) -> Result<u64, NoMemory>
-        ensures count { IfOk result (λ count. count ≡ planned self.now.fabric.shape (decide_of self.now.fabric) (state_of self.now)) }
+        ensures count { IfOk result (λ count. count ≡ planned self.now.active.shape (decide_of self.now.active) (state_of self.now)) }
         ensures none { self.now.failed ≡ false → self.now.queue ≡ [] → is_err result ≡ false }
     {
         if self.failed {
@@ -344,9 +344,9 @@ impl Control {
 
     /// The tree of extenders.
     pub fn tree(&self) -> &Tree
-        ensures { result.now ≡ self.now.fabric.shape }
+        ensures { result.now ≡ self.now.active.shape }
     {
-        self.core.fabric.tree()
+        self.core.active.tree()
     }
 
     /// The seconds that have passed.
@@ -372,10 +372,10 @@ impl Control {
         let _ = &self.core;
     }
 
-    /// What holds of the fabric, as a fact for whoever calls it. It does nothing.
-    pub fn is_fabric(&self)
-        ensures { IsFabric self.now.fabric }
+    /// What holds of the active configuration, as a fact for whoever calls it. It does nothing.
+    pub fn is_active_config(&self)
+        ensures { IsActiveConfig self.now.active }
     {
-        self.core.fabric.is_fabric();
+        self.core.active.is_active_config();
     }
 }

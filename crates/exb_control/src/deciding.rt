@@ -12,7 +12,7 @@ ghost use Rattle.exb_plan.specs.Decisions.{IfDecided};
 ghost use Rattle.exb_plan.specs.Recount.{HaveRowsOf};
 ghost use Rattle.exb_changing.specs.Deciding.{cascade_asks, opening_asks, opening_change, bridge_after, decide};
 ghost use Rattle.exb_changing.specs.Fitting.{Fits};
-ghost use Rattle.exb_control.specs.Fabrics.{decision_of, held_after};
+ghost use Rattle.exb_control.specs.ActiveConfigs.{decision_of, held_after};
 
 use exb_changing::Job;
 use exb_config::Config;

@@ -4,11 +4,11 @@ ghost use Rattle.exb_model.specs.EagerHistory.{is_relayed, arrival_event};
 ghost use Rattle.exb_config.specs.Tables.{bridge_of};
 ghost use Rattle.exb_learn.specs.Entries.{table_of};
 ghost use Rattle.exb_learn.specs.Histories.{relay_call, after_any};
-ghost use Rattle.exb_control.specs.Fabrics.{bridge_in};
+ghost use Rattle.exb_control.specs.ActiveConfigs.{bridge_in};
 ghost use Rattle.exb_control.specs.Arrivals.{arrival_of};
 ghost use Rattle.exb_control.specs.Boxes.{taught, sends_for, ingress_for, vid_in};
 
-use crate::fabric::Fabric;
+use crate::active_config::ActiveConfig;
 use crate::outbox::Outbox;
 use exb_config::Config;
 use exb_frame::{is_relayed_kind, source};
@@ -72,7 +72,7 @@ fn relayed(alloc: Global, arrived: &Arrived, spare: &mut Vec<u8>) -> Result<Even
 /// A frame comes into an empty outbox. It is looked up before it is learned from.
 pub(crate) fn arrive(
     alloc: Global,
-    fabric: &Fabric,
+    active: &ActiveConfig,
     learned: &mut Learned,
     arrived: &Arrived,
     out: &mut Outbox,
@@ -80,13 +80,13 @@ pub(crate) fn arrive(
     requires events { out.old.events ≡ [] }
     requires sends { out.old.sends.items ≡ [] }
     requires ingress { out.old.ingress ≡ Ingress.Dropped }
-    ensures events { OnOk result (out.new.events ≡ arrival_event (bridge_in fabric.now) (arrival_of arrived.now) ∷ []) }
+    ensures events { OnOk result (out.new.events ≡ arrival_event (bridge_in active.now) (arrival_of arrived.now) ∷ []) }
     ensures asks { out.new.asks ≡ out.old.asks }
-    ensures sends { OnOk result (out.new.sends.items ≡ sends_for fabric.now learned.old (arrival_of arrived.now)) }
-    ensures ingress { OnOk result (out.new.ingress ≡ ingress_for (bridge_in fabric.now) (arrival_of arrived.now)) }
-    ensures table { OnOk result (table_of learned.new ≡ taught (bridge_in fabric.now) (arrival_of arrived.now) (table_of learned.old)) }
+    ensures sends { OnOk result (out.new.sends.items ≡ sends_for active.now learned.old (arrival_of arrived.now)) }
+    ensures ingress { OnOk result (out.new.ingress ≡ ingress_for (bridge_in active.now) (arrival_of arrived.now)) }
+    ensures table { OnOk result (table_of learned.new ≡ taught (bridge_in active.now) (arrival_of arrived.now) (table_of learned.old)) }
 {
-    if !is_relayed(fabric.config(), arrived.port, arrived.bytes) {
+    if !is_relayed(active.config(), arrived.port, arrived.bytes) {
         return out.events.push(Event::Ignored {
             port: arrived.port,
             index: arrived.index,
@@ -95,12 +95,12 @@ pub(crate) fn arrive(
     learned.reserve()?;
     let event = relayed(alloc, arrived, &mut out.spare)?;
     out.events.push(event)?;
-    fabric.is_fabric();
+    active.is_active_config();
     out.ingress = relay(
-        fabric.tree(),
-        fabric.config(),
+        active.tree(),
+        active.config(),
         learned,
-        fabric.spaces(),
+        active.spaces(),
         arrived.port,
         arrived.bytes,
         &mut out.sends,

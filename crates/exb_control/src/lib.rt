@@ -1,4 +1,4 @@
-//! The controlling bridge's control (after IEEE 802.1BR; the protocol is this project's own). Its fabric is the
+//! The controlling bridge's control (after IEEE 802.1BR; the protocol is this project's own). Its `ActiveConfig` is the
 //! configuration in force with its numbers and the change at work, and decides and does each change as the machine of
 //! `exb_changing` says. The control opens each extender once that was heard, lets ports go up, carries out commands one
 //! after another, relays frames and learns from them. Upwards it promises that each call is exactly a step of the
@@ -7,12 +7,12 @@
 //! stand on.
 #![tactic(auto)]
 
+pub mod active_config;
 mod announcements;
 mod beginning;
 pub mod control;
 mod copying;
 mod deciding;
-pub mod fabric;
 mod frames;
 mod jobs;
 mod numbers;
@@ -25,10 +25,10 @@ pub mod stage;
 mod turns;
 mod working;
 
+pub use active_config::ActiveConfig;
 pub use control::{Control, ControlFault};
 pub use exb_changing::{Asked, Job};
 pub use exb_relay::{Ingress, SendTo};
 pub use exb_session::Taken;
-pub use fabric::Fabric;
 pub use outbox::Outbox;
 pub use stage::Stage;

@@ -1,6 +1,6 @@
 //! How far a change is.
 ghost use Rattle.std.specs.Prelude.{◌≡◌};
-ghost use Rattle.exb_control.specs.Fabrics.{in_force};
+ghost use Rattle.exb_control.specs.ActiveConfigs.{in_force};
 
 use exb_changing::Job;
 use exb_plans::Change;

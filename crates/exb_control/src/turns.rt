@@ -29,23 +29,23 @@ fn turn(
     events: &mut List<Event>,
     asks: &mut List<Asked>,
 ) -> Result<bool, NoMemory>
-    requires stage { core.old.fabric.stage ≡ Stage.AtRest }
-    requires fit { AreFit core.old.fabric.shape queue.old }
+    requires stage { core.old.active.stage ≡ Stage.AtRest }
+    requires fit { AreFit core.old.active.shape queue.old }
     requires may { MayAsk (2 ^ 21 * length queue.old) (askers_of core.old.sessions) }
     ensures ends { IfOk result (λ goes. goes ≡ false → (f : Front) → f.heard ≡ heard.now.heard →
         reached (state_in (with_queue queue.new f) core.new) events.new asks.new (table_of core.new.learned)
-        ≡ reached_by (goes_on (decide_of core.old.fabric) queue.old (rest_of f core.old)) events.old asks.old (table_of core.old.learned)) }
+        ≡ reached_by (goes_on (decide_of core.old.active) queue.old (rest_of f core.old)) events.old asks.old (table_of core.old.learned)) }
     ensures goes { IfOk result (λ goes. goes ≡ true → (f : Front) → f.heard ≡ heard.now.heard →
-        reached_by (goes_on (decide_of core.old.fabric) queue.new (rest_of f core.new)) events.new asks.new (table_of core.new.learned)
-        ≡ reached_by (goes_on (decide_of core.old.fabric) queue.old (rest_of f core.old)) events.old asks.old (table_of core.old.learned)) }
+        reached_by (goes_on (decide_of core.old.active) queue.new (rest_of f core.new)) events.new asks.new (table_of core.new.learned)
+        ≡ reached_by (goes_on (decide_of core.old.active) queue.old (rest_of f core.old)) events.old asks.old (table_of core.old.learned)) }
     ensures steady { OnOk result ((k : ℕ) → MayAsk (2 ^ 21 * length queue.old + k) (askers_of core.old.sessions) →
-        IsSteady (2 ^ 21 * length queue.new + k) (work_at core.new.fabric.stage core.new.place) (askers_of core.new.sessions)) }
+        IsSteady (2 ^ 21 * length queue.new + k) (work_at core.new.active.stage core.new.place) (askers_of core.new.sessions)) }
     ensures rests { OnOk result (AsksOrRests core.new) }
-    ensures stage { IfOk result (λ goes. goes ≡ true → core.new.fabric.stage ≡ Stage.AtRest) }
-    ensures fit { OnOk result (AreFit core.old.fabric.shape queue.new) }
+    ensures stage { IfOk result (λ goes. goes ≡ true → core.new.active.stage ≡ Stage.AtRest) }
+    ensures fit { OnOk result (AreFit core.old.active.shape queue.new) }
     ensures shorter { IfOk result (λ goes. goes ≡ true → length queue.new < length queue.old) }
-    ensures shape { core.new.fabric.shape ≡ core.old.fabric.shape }
-    ensures limits { core.new.fabric.limits ≡ core.old.fabric.limits }
+    ensures shape { core.new.active.shape ≡ core.old.active.shape }
+    ensures limits { core.new.active.limits ≡ core.old.active.limits }
 {
     let Some(job) = queue.first() else {
         return Ok(false);
@@ -55,7 +55,7 @@ fn turn(
     }
     start(core, &job, events, asks)?;
     queue.remove_first();
-    Ok(is_at_rest(&core.fabric))
+    Ok(is_at_rest(&core.active))
 }
 
 /// Goes on with the jobs that wait, where no change is at work.
@@ -66,18 +66,18 @@ pub(crate) fn go_on(
     events: &mut List<Event>,
     asks: &mut List<Asked>,
 ) -> Result<(), NoMemory>
-    requires stage { core.old.fabric.stage ≡ Stage.AtRest }
-    requires fit { AreFit core.old.fabric.shape queue.old }
+    requires stage { core.old.active.stage ≡ Stage.AtRest }
+    requires fit { AreFit core.old.active.shape queue.old }
     requires may { MayAsk (2 ^ 21 * length queue.old) (askers_of core.old.sessions) }
     ensures reached { OnOk result ((f : Front) → f.heard ≡ heard.now.heard →
         reached (state_in (with_queue queue.new f) core.new) events.new asks.new (table_of core.new.learned)
-        ≡ reached_by (goes_on (decide_of core.old.fabric) queue.old (rest_of f core.old)) events.old asks.old (table_of core.old.learned)) }
+        ≡ reached_by (goes_on (decide_of core.old.active) queue.old (rest_of f core.old)) events.old asks.old (table_of core.old.learned)) }
     ensures steady { OnOk result ((k : ℕ) → MayAsk (2 ^ 21 * length queue.old + k) (askers_of core.old.sessions) →
-        IsSteady (2 ^ 21 * length queue.new + k) (work_at core.new.fabric.stage core.new.place) (askers_of core.new.sessions)) }
+        IsSteady (2 ^ 21 * length queue.new + k) (work_at core.new.active.stage core.new.place) (askers_of core.new.sessions)) }
     ensures rests { OnOk result (AsksOrRests core.new) }
-    ensures fit { OnOk result (AreFit core.old.fabric.shape queue.new) }
-    ensures shape { core.new.fabric.shape ≡ core.old.fabric.shape }
-    ensures limits { core.new.fabric.limits ≡ core.old.fabric.limits }
+    ensures fit { OnOk result (AreFit core.old.active.shape queue.new) }
+    ensures shape { core.new.active.shape ≡ core.old.active.shape }
+    ensures limits { core.new.active.limits ≡ core.old.active.limits }
 {
     'turns: loop {
         if !turn(heard, queue, core, events, asks)? {
@@ -95,19 +95,19 @@ pub(crate) fn wake(
     asks: &mut List<Asked>,
 ) -> Result<(), NoMemory>
     requires rests { AsksOrRests core.old }
-    requires fit { AreFit core.old.fabric.shape queue.old }
-    requires steady { IsSteady (2 ^ 21 * length queue.old) (work_at core.old.fabric.stage core.old.place) (askers_of core.old.sessions) }
+    requires fit { AreFit core.old.active.shape queue.old }
+    requires steady { IsSteady (2 ^ 21 * length queue.old) (work_at core.old.active.stage core.old.place) (askers_of core.old.sessions) }
     ensures reached { OnOk result ((f : Front) → f.heard ≡ heard.now.heard → f.queue ≡ queue.old →
         reached (state_in (with_queue queue.new f) core.new) events.new asks.new (table_of core.new.learned)
-        ≡ reached_by (wakes (decide_of core.old.fabric) (state_in f core.old)) events.old asks.old (table_of core.old.learned)) }
-    ensures steady { OnOk result ((k : ℕ) → IsSteady (2 ^ 21 * length queue.old + k) (work_at core.old.fabric.stage core.old.place) (askers_of core.old.sessions) →
-        IsSteady (2 ^ 21 * length queue.new + k) (work_at core.new.fabric.stage core.new.place) (askers_of core.new.sessions)) }
+        ≡ reached_by (wakes (decide_of core.old.active) (state_in f core.old)) events.old asks.old (table_of core.old.learned)) }
+    ensures steady { OnOk result ((k : ℕ) → IsSteady (2 ^ 21 * length queue.old + k) (work_at core.old.active.stage core.old.place) (askers_of core.old.sessions) →
+        IsSteady (2 ^ 21 * length queue.new + k) (work_at core.new.active.stage core.new.place) (askers_of core.new.sessions)) }
     ensures rests { OnOk result (AsksOrRests core.new) }
-    ensures fit { OnOk result (AreFit core.old.fabric.shape queue.new) }
-    ensures shape { core.new.fabric.shape ≡ core.old.fabric.shape }
-    ensures limits { core.new.fabric.limits ≡ core.old.fabric.limits }
+    ensures fit { OnOk result (AreFit core.old.active.shape queue.new) }
+    ensures shape { core.new.active.shape ≡ core.old.active.shape }
+    ensures limits { core.new.active.limits ≡ core.old.active.limits }
 {
-    if is_at_rest(&core.fabric) {
+    if is_at_rest(&core.active) {
         go_on(heard, queue, core, events, asks)
     } else {
         Ok(())
@@ -125,18 +125,18 @@ pub(crate) fn give(
     asks: &mut List<Asked>,
 ) -> Result<(), NoMemory>
     requires rests { AsksOrRests core.old }
-    requires names { NamesExternal core.old.fabric.shape command.now }
-    requires fit { AreFit core.old.fabric.shape queue.old }
-    requires steady { IsSteady (2 ^ 21 * (length queue.old + 1)) (work_at core.old.fabric.stage core.old.place) (askers_of core.old.sessions) }
+    requires names { NamesExternal core.old.active.shape command.now }
+    requires fit { AreFit core.old.active.shape queue.old }
+    requires steady { IsSteady (2 ^ 21 * (length queue.old + 1)) (work_at core.old.active.stage core.old.place) (askers_of core.old.sessions) }
     ensures reached { OnOk result ((f : Front) → f.heard ≡ heard.now.heard → f.queue ≡ queue.old ++ Job.Ordered number command.now ∷ [] →
         reached (state_in (with_queue queue.new f) core.new) events.new asks.new (table_of core.new.learned)
-        ≡ reached_by (wakes (decide_of core.old.fabric) (state_in f core.old)) events.old asks.old (table_of core.old.learned)) }
-    ensures steady { OnOk result ((k : ℕ) → IsSteady (2 ^ 21 * (length queue.old + 1) + k) (work_at core.old.fabric.stage core.old.place) (askers_of core.old.sessions) →
-        IsSteady (2 ^ 21 * length queue.new + k) (work_at core.new.fabric.stage core.new.place) (askers_of core.new.sessions)) }
+        ≡ reached_by (wakes (decide_of core.old.active) (state_in f core.old)) events.old asks.old (table_of core.old.learned)) }
+    ensures steady { OnOk result ((k : ℕ) → IsSteady (2 ^ 21 * (length queue.old + 1) + k) (work_at core.old.active.stage core.old.place) (askers_of core.old.sessions) →
+        IsSteady (2 ^ 21 * length queue.new + k) (work_at core.new.active.stage core.new.place) (askers_of core.new.sessions)) }
     ensures rests { OnOk result (AsksOrRests core.new) }
-    ensures fit { OnOk result (AreFit core.old.fabric.shape queue.new) }
-    ensures shape { core.new.fabric.shape ≡ core.old.fabric.shape }
-    ensures limits { core.new.fabric.limits ≡ core.old.fabric.limits }
+    ensures fit { OnOk result (AreFit core.old.active.shape queue.new) }
+    ensures shape { core.new.active.shape ≡ core.old.active.shape }
+    ensures limits { core.new.active.limits ≡ core.old.active.limits }
 {
     queue.push(&Job::Ordered {
         number,
@@ -157,22 +157,22 @@ pub(crate) fn take(
 ) -> Result<Taken, NoMemory>
     requires known { extender < 65 }
     requires rests { AsksOrRests core.old }
-    requires fit { AreFit core.old.fabric.shape queue.old }
-    requires steady { IsSteady (2 ^ 21 * length queue.old) (work_at core.old.fabric.stage core.old.place) (askers_of core.old.sessions) }
+    requires fit { AreFit core.old.active.shape queue.old }
+    requires steady { IsSteady (2 ^ 21 * length queue.old) (work_at core.old.active.stage core.old.place) (askers_of core.old.sessions) }
     ensures taken { IfOk result (λ taken. taken ≡ (took (askers_of core.old.sessions extender) message.now).1) }
     ensures reached { OnOk result ((f : Front) → f.heard ≡ heard.now.heard → f.queue ≡ queue.old →
         reached (state_in (with_queue queue.new f) core.new) events.new asks.new (table_of core.new.learned)
-        ≡ reached_by (answered (decide_of core.old.fabric) extender message.now (state_in f core.old)) events.old asks.old (table_of core.old.learned)) }
-    ensures steady { OnOk result ((k : ℕ) → IsSteady (2 ^ 21 * length queue.old + k) (work_at core.old.fabric.stage core.old.place) (askers_of core.old.sessions) →
-        IsSteady (2 ^ 21 * length queue.new + k) (work_at core.new.fabric.stage core.new.place) (askers_of core.new.sessions)) }
+        ≡ reached_by (answered (decide_of core.old.active) extender message.now (state_in f core.old)) events.old asks.old (table_of core.old.learned)) }
+    ensures steady { OnOk result ((k : ℕ) → IsSteady (2 ^ 21 * length queue.old + k) (work_at core.old.active.stage core.old.place) (askers_of core.old.sessions) →
+        IsSteady (2 ^ 21 * length queue.new + k) (work_at core.new.active.stage core.new.place) (askers_of core.new.sessions)) }
     ensures rests { OnOk result (AsksOrRests core.new) }
-    ensures fit { OnOk result (AreFit core.old.fabric.shape queue.new) }
-    ensures shape { core.new.fabric.shape ≡ core.old.fabric.shape }
-    ensures limits { core.new.fabric.limits ≡ core.old.fabric.limits }
+    ensures fit { OnOk result (AreFit core.old.active.shape queue.new) }
+    ensures shape { core.new.active.shape ≡ core.old.active.shape }
+    ensures limits { core.new.active.limits ≡ core.old.active.limits }
 {
     let taken = core.sessions.take(extender, message);
     if let Taken::Answer(_) = taken {
-        core.fabric.is_fabric();
+        core.active.is_active_config();
         core.place += 1;
         proceed(core, events, asks)?;
         wake(heard, queue, core, events, asks)?;

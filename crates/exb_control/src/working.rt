@@ -2,14 +2,14 @@
 ghost use Rattle.std.specs.Prelude.{◌≡◌, ◌+◌, ◌<◌, ◌^◌, ◌++◌, [], true, false, ℕ, List, OnOk, IfOk, Some, drop, is_some, length};
 ghost use Rattle.std.specs.Option.{option_copied};
 ghost use Rattle.exb_learn.specs.Entries.{table_of};
-ghost use Rattle.exb_control.specs.Fabrics.{IsPrepared, IsInForce, bridge_in, held_in};
+ghost use Rattle.exb_control.specs.ActiveConfigs.{IsPrepared, IsInForce, bridge_in, held_in};
 ghost use Rattle.exb_changing.specs.Fitting.{Fits};
 ghost use Rattle.exb_changing.specs.Machine.{commanded_down, committed, refused, downs_of, starts};
 ghost use Rattle.exb_control.specs.Controls.{work_at, forgotten_all, decide_of};
 ghost use Rattle.exb_control.specs.Steps.{Front, is_at_rest, advances, after_beat, messages_at_beat, rest_of, state_in, askers_of, commits_at, left_at, reached, reached_by, asks_in, asks_after, ask_at, after_ask, messages_for};
 ghost use Rattle.exb_control.specs.Soundness.{AreKnown, MayAsk, CanAsk, IsSteady, AsksOrRests};
 
-use crate::fabric::Fabric;
+use crate::active_config::ActiveConfig;
 use crate::sessions::Sessions;
 use crate::stage::Stage;
 use exb_changing::{Asked, Job};
@@ -25,7 +25,7 @@ use exb_plans::Change;
 /// the sessions, and what is learned.
 #[derive(Drop)]
 pub(crate) struct Core {
-    pub(crate) fabric: Fabric,
+    pub(crate) active: ActiveConfig,
     pub(crate) place: usize,
     pub(crate) sessions: Sessions,
     pub(crate) learned: Learned,
@@ -53,40 +53,40 @@ pub(crate) fn asks_after(stage: &Stage) -> &[AskAt]
 }
 
 /// The outstanding request.
-pub(crate) fn outstanding(fabric: &Fabric, place: usize) -> Option<&AskAt>
-    ensures { option_copied result ≡ ask_at fabric.now.stage place }
+pub(crate) fn outstanding(active: &ActiveConfig, place: usize) -> Option<&AskAt>
+    ensures { option_copied result ≡ ask_at active.now.stage place }
 {
-    asks_in(fabric.stage()).get(place)
+    asks_in(active.stage()).get(place)
 }
 
 /// Whether no change is at work.
-pub(crate) fn is_at_rest(fabric: &Fabric) -> bool
-    ensures { result ≡ is_at_rest fabric.now.stage }
+pub(crate) fn is_at_rest(active: &ActiveConfig) -> bool
+    ensures { result ≡ is_at_rest active.now.stage }
 {
-    matches!(fabric.stage(), Stage::AtRest)
+    matches!(active.stage(), Stage::AtRest)
 }
 
 /// Whether the change at work is prepared and not yet in force.
-fn is_prepared(fabric: &Fabric) -> bool
-    ensures yes { result ≡ true → IsPrepared fabric.now.stage }
-    ensures no { result ≡ false → is_at_rest fabric.now.stage ≡ false → IsInForce fabric.now.stage }
+fn is_prepared(active: &ActiveConfig) -> bool
+    ensures yes { result ≡ true → IsPrepared active.now.stage }
+    ensures no { result ≡ false → is_at_rest active.now.stage ≡ false → IsInForce active.now.stage }
 {
-    matches!(fabric.stage(), Stage::Prepared { .. })
+    matches!(active.stage(), Stage::Prepared { .. })
 }
 
 /// Asks the request at a place of the phase; false where there is none.
 fn ask_at(
-    fabric: &Fabric,
+    active: &ActiveConfig,
     place: usize,
     sessions: &mut Sessions,
     asks: &mut List<Asked>,
 ) -> Result<bool, NoMemory>
-    requires { CanAsk (ask_at fabric.now.stage place) (askers_of sessions.old) }
-    ensures asked { IfOk result (λ done. done ≡ is_some (ask_at fabric.now.stage place)) }
-    ensures sessions { OnOk result (askers_of sessions.new ≡ after_ask (ask_at fabric.now.stage place) (askers_of sessions.old)) }
-    ensures asks { OnOk result (asks.new ≡ asks.old ++ messages_for (ask_at fabric.now.stage place) (askers_of sessions.old)) }
+    requires { CanAsk (ask_at active.now.stage place) (askers_of sessions.old) }
+    ensures asked { IfOk result (λ done. done ≡ is_some (ask_at active.now.stage place)) }
+    ensures sessions { OnOk result (askers_of sessions.new ≡ after_ask (ask_at active.now.stage place) (askers_of sessions.old)) }
+    ensures asks { OnOk result (asks.new ≡ asks.old ++ messages_for (ask_at active.now.stage place) (askers_of sessions.old)) }
 {
-    match outstanding(fabric, place) {
+    match outstanding(active, place) {
         None => Ok(false),
         Some(ask) => {
             let message = sessions.ask(ask.extender, ask.request.copy());
@@ -150,38 +150,38 @@ fn tell(stage: &Stage, learned: &mut Learned, events: &mut List<Event>) -> Resul
 
 /// The cleanup of the change in force begins; without one the change is done.
 fn clean(core: &mut Core, asks: &mut List<Asked>) -> Result<(), NoMemory>
-    requires stage { IsInForce core.old.fabric.stage }
-    requires known { AreKnown (asks_in core.old.fabric.stage) }
-    requires may { MayAsk (length (asks_in core.old.fabric.stage)) (askers_of core.old.sessions) }
+    requires stage { IsInForce core.old.active.stage }
+    requires known { AreKnown (asks_in core.old.active.stage) }
+    requires may { MayAsk (length (asks_in core.old.active.stage)) (askers_of core.old.sessions) }
     ensures reached { OnOk result ((f : Front) (events : List Event) →
         reached (state_in f core.new) events asks.new (table_of core.new.learned)
-        ≡ reached_by (advances core.old.fabric.stage (asks_in core.old.fabric.stage) (rest_of f core.old)) events asks.old (table_of core.old.learned)) }
+        ≡ reached_by (advances core.old.active.stage (asks_in core.old.active.stage) (rest_of f core.old)) events asks.old (table_of core.old.learned)) }
     ensures rests { OnOk result (AsksOrRests core.new) }
-    ensures shape { core.new.fabric.shape ≡ core.old.fabric.shape }
-    ensures limits { core.new.fabric.limits ≡ core.old.fabric.limits }
+    ensures shape { core.new.active.shape ≡ core.old.active.shape }
+    ensures limits { core.new.active.limits ≡ core.old.active.limits }
 {
     core.place = 0;
-    if ask_at(&core.fabric, core.place, &mut core.sessions, asks)? {
+    if ask_at(&core.active, core.place, &mut core.sessions, asks)? {
         return Ok(());
     }
-    core.fabric.finish();
+    core.active.finish();
     Ok(())
 }
 
 /// The prepared change takes effect, and its cleanup begins.
 fn commit(core: &mut Core, events: &mut List<Event>, asks: &mut List<Asked>) -> Result<(), NoMemory>
-    requires stage { IsPrepared core.old.fabric.stage }
-    requires known { AreKnown (asks_after core.old.fabric.stage) }
-    requires may { MayAsk (length (asks_after core.old.fabric.stage)) (askers_of core.old.sessions) }
+    requires stage { IsPrepared core.old.active.stage }
+    requires known { AreKnown (asks_after core.old.active.stage) }
+    requires may { MayAsk (length (asks_after core.old.active.stage)) (askers_of core.old.sessions) }
     ensures reached { OnOk result ((f : Front) →
         reached (state_in f core.new) events.new asks.new (table_of core.new.learned)
-        ≡ reached_by (commits_at core.old.fabric.stage (rest_of f core.old)) events.old asks.old (table_of core.old.learned)) }
+        ≡ reached_by (commits_at core.old.active.stage (rest_of f core.old)) events.old asks.old (table_of core.old.learned)) }
     ensures rests { OnOk result (AsksOrRests core.new) }
-    ensures shape { core.new.fabric.shape ≡ core.old.fabric.shape }
-    ensures limits { core.new.fabric.limits ≡ core.old.fabric.limits }
+    ensures shape { core.new.active.shape ≡ core.old.active.shape }
+    ensures limits { core.new.active.limits ≡ core.old.active.limits }
 {
-    core.fabric.commit()?;
-    tell(core.fabric.stage(), &mut core.learned, events)?;
+    core.active.commit()?;
+    tell(core.active.stage(), &mut core.learned, events)?;
     clean(core, asks)
 }
 
@@ -191,20 +191,20 @@ fn end_phase(
     events: &mut List<Event>,
     asks: &mut List<Asked>,
 ) -> Result<(), NoMemory>
-    requires busy { is_at_rest core.old.fabric.stage ≡ false }
-    requires known { AreKnown (asks_after core.old.fabric.stage) }
-    requires may { MayAsk (length (asks_after core.old.fabric.stage)) (askers_of core.old.sessions) }
+    requires busy { is_at_rest core.old.active.stage ≡ false }
+    requires known { AreKnown (asks_after core.old.active.stage) }
+    requires may { MayAsk (length (asks_after core.old.active.stage)) (askers_of core.old.sessions) }
     ensures reached { OnOk result ((f : Front) →
         reached (state_in f core.new) events.new asks.new (table_of core.new.learned)
-        ≡ reached_by (advances core.old.fabric.stage [] (rest_of f core.old)) events.old asks.old (table_of core.old.learned)) }
+        ≡ reached_by (advances core.old.active.stage [] (rest_of f core.old)) events.old asks.old (table_of core.old.learned)) }
     ensures rests { OnOk result (AsksOrRests core.new) }
-    ensures shape { core.new.fabric.shape ≡ core.old.fabric.shape }
-    ensures limits { core.new.fabric.limits ≡ core.old.fabric.limits }
+    ensures shape { core.new.active.shape ≡ core.old.active.shape }
+    ensures limits { core.new.active.limits ≡ core.old.active.limits }
 {
-    if is_prepared(&core.fabric) {
+    if is_prepared(&core.active) {
         return commit(core, events, asks);
     }
-    core.fabric.finish();
+    core.active.finish();
     Ok(())
 }
 
@@ -214,21 +214,21 @@ pub(crate) fn proceed(
     events: &mut List<Event>,
     asks: &mut List<Asked>,
 ) -> Result<(), NoMemory>
-    requires busy { is_at_rest core.old.fabric.stage ≡ false }
-    requires known { AreKnown (drop core.old.place (asks_in core.old.fabric.stage)) }
-    requires after { AreKnown (asks_after core.old.fabric.stage) }
-    requires may { MayAsk (left_at core.old.fabric.stage core.old.place) (askers_of core.old.sessions) }
+    requires busy { is_at_rest core.old.active.stage ≡ false }
+    requires known { AreKnown (drop core.old.place (asks_in core.old.active.stage)) }
+    requires after { AreKnown (asks_after core.old.active.stage) }
+    requires may { MayAsk (left_at core.old.active.stage core.old.place) (askers_of core.old.sessions) }
     ensures reached { OnOk result ((f : Front) →
         reached (state_in f core.new) events.new asks.new (table_of core.new.learned)
-        ≡ reached_by (advances core.old.fabric.stage (drop core.old.place (asks_in core.old.fabric.stage)) (rest_of f core.old))
+        ≡ reached_by (advances core.old.active.stage (drop core.old.place (asks_in core.old.active.stage)) (rest_of f core.old))
         events.old asks.old (table_of core.old.learned)) }
-    ensures steady { OnOk result ((k : ℕ) → MayAsk (left_at core.old.fabric.stage core.old.place + k) (askers_of core.old.sessions) →
-        IsSteady k (work_at core.new.fabric.stage core.new.place) (askers_of core.new.sessions)) }
+    ensures steady { OnOk result ((k : ℕ) → MayAsk (left_at core.old.active.stage core.old.place + k) (askers_of core.old.sessions) →
+        IsSteady k (work_at core.new.active.stage core.new.place) (askers_of core.new.sessions)) }
     ensures rests { OnOk result (AsksOrRests core.new) }
-    ensures shape { core.new.fabric.shape ≡ core.old.fabric.shape }
-    ensures limits { core.new.fabric.limits ≡ core.old.fabric.limits }
+    ensures shape { core.new.active.shape ≡ core.old.active.shape }
+    ensures limits { core.new.active.limits ≡ core.old.active.limits }
 {
-    if ask_at(&core.fabric, core.place, &mut core.sessions, asks)? {
+    if ask_at(&core.active, core.place, &mut core.sessions, asks)? {
         return Ok(());
     }
     end_phase(core, events, asks)
@@ -241,23 +241,23 @@ pub(crate) fn start(
     events: &mut List<Event>,
     asks: &mut List<Asked>,
 ) -> Result<(), NoMemory>
-    requires stage { core.old.fabric.stage ≡ Stage.AtRest }
-    requires fits { Fits core.old.fabric.shape job.now }
+    requires stage { core.old.active.stage ≡ Stage.AtRest }
+    requires fits { Fits core.old.active.shape job.now }
     requires may { MayAsk (2 ^ 21) (askers_of core.old.sessions) }
     ensures reached { OnOk result ((f : Front) →
         reached (state_in f core.new) events.new asks.new (table_of core.new.learned)
-        ≡ reached_by (starts job.now (decide_of core.old.fabric (bridge_in core.old.fabric) (held_in core.old.fabric) job.now) (rest_of f core.old))
+        ≡ reached_by (starts job.now (decide_of core.old.active (bridge_in core.old.active) (held_in core.old.active) job.now) (rest_of f core.old))
         events.old asks.old (table_of core.old.learned)) }
     ensures steady { OnOk result ((k : ℕ) → MayAsk (2 ^ 21 + k) (askers_of core.old.sessions) →
-        IsSteady k (work_at core.new.fabric.stage core.new.place) (askers_of core.new.sessions)) }
+        IsSteady k (work_at core.new.active.stage core.new.place) (askers_of core.new.sessions)) }
     ensures rests { OnOk result (AsksOrRests core.new) }
-    ensures shape { core.new.fabric.shape ≡ core.old.fabric.shape }
-    ensures limits { core.new.fabric.limits ≡ core.old.fabric.limits }
+    ensures shape { core.new.active.shape ≡ core.old.active.shape }
+    ensures limits { core.new.active.limits ≡ core.old.active.limits }
 {
-    match core.fabric.start(job)? {
+    match core.active.start(job)? {
         Some(cause) => tell_refusal(job, cause, events),
         None => {
-            core.fabric.is_fabric();
+            core.active.is_active_config();
             core.place = 0;
             proceed(core, events, asks)
         }
@@ -266,12 +266,12 @@ pub(crate) fn start(
 
 /// A beat of waiting: at each sixteenth the outstanding request goes out again.
 pub(crate) fn beat(core: &mut Core, asks: &mut List<Asked>) -> Result<(), NoMemory>
-    requires { (a : AskAt) → ask_at core.old.fabric.stage core.old.place ≡ Some a → a.extender < 65 }
-    ensures sessions { askers_of core.new.sessions ≡ after_beat (ask_at core.old.fabric.stage core.old.place) (askers_of core.old.sessions) }
-    ensures asks { OnOk result (asks.new ≡ asks.old ++ messages_at_beat (ask_at core.old.fabric.stage core.old.place) (askers_of core.old.sessions)) }
+    requires { (a : AskAt) → ask_at core.old.active.stage core.old.place ≡ Some a → a.extender < 65 }
+    ensures sessions { askers_of core.new.sessions ≡ after_beat (ask_at core.old.active.stage core.old.place) (askers_of core.old.sessions) }
+    ensures asks { OnOk result (asks.new ≡ asks.old ++ messages_at_beat (ask_at core.old.active.stage core.old.place) (askers_of core.old.sessions)) }
     ensures rest { core.new ≡ record core.old { sessions = core.new.sessions } }
 {
-    if let Some(ask) = outstanding(&core.fabric, core.place) {
+    if let Some(ask) = outstanding(&core.active, core.place) {
         let extender = ask.extender;
         if let Some(message) = core.sessions.beat(extender) {
             asks.push(Asked { extender, message })?;

@@ -29,7 +29,7 @@ use Rattle.exb_inputs.specs.Shelving.{OnlyReads}
 use Rattle.exb_net.specs.declared.node.Node.{Node}
 use Rattle.exb_net.proofs.Places.{is_there}
 use Rattle.exb_outputs.specs.Apart.{AreApart}
-use Rattle.exb_outputs.specs.Plans.{Planned}
+use Rattle.exb_outputs.specs.Manifests.{Listed}
 use Rattle.exb_outputs.specs.Writing.{ids_of}
 use Rattle.exb_outputs.proofs.Keeping.{apart-read}
 use Rattle.exb_net_run.specs.declared.desk.Desk.{Desk}
@@ -60,8 +60,8 @@ ready-on given ids ds ks ready read reads = record {
       };
 }
 
-pub others-on : (plans : List Planned) (given ids : ℕ → Id) (old ps : List Programme) → all_ids ps ≡ all_ids old → ReadsOn (all_ids old) given ids → ReadsOthers plans given old → ReadsOthers plans ids ps
-others-on plans given ids old ps same reads others = record {
+pub others-on : (manifests : List Listed) (given ids : ℕ → Id) (old ps : List Programme) → all_ids ps ≡ all_ids old → ReadsOn (all_ids old) given ids → ReadsOthers manifests given old → ReadsOthers manifests ids ps
+others-on manifests given ids old ps same reads others = record {
   each = λ b q is. subst (AreApart q ids) (sym same) (apart-read q given ids (all_ids old) (all_ids old) reads (others.each b q is));
 }
 
@@ -89,7 +89,7 @@ is-due tells r now file given ids last g old d ps seconds second going comes rea
       given = given;
       going = going;
       comes = comes;
-      apart = others-on r.plans given ids old ps comes.ids only.reads going.apart;
+      apart = others-on r.manifests given ids old ps comes.ids only.reads going.apart;
       leads = λ t.
           leads-on r.net going.ds now now given ids old d ps
           (subst (λ (f : Files). (streams : List (List Stream)) → AreAllReplays now given old streams → IsFirstOf old streams (Some d) ps (λ rest. AreAllReplays f ids ps rest)) same (order t)) (going.leads t);
@@ -134,7 +134,7 @@ all-at tells r now file given ids last g old going read only t none =
       playing = is.playing;
       desks = record {
         ready = ready-on given ids g.desks.items (all_ids old) was.ready read only.reads;
-        plans = was.plans;
+        manifests = was.manifests;
         apart = was.apart;
         whole = was.whole;
         bridges = was.bridges;

@@ -13,14 +13,14 @@ use Rattle.exb_wiring.specs.Delivering.{HaveBegun, OpenedNetsRun}
 use Rattle.exb_wiring.specs.UnderWay.{IsNew, OpenedNetsAreNew}
 use Rattle.exb_net.specs.declared.net.Net.{Net as Bridges}
 use Rattle.exb_net.specs.Nets.{IsPlaying, Opens, no_dones}
-use Rattle.exb_outputs.specs.Plans.{Planned}
+use Rattle.exb_outputs.specs.Manifests.{Listed}
 use Rattle.exb_writers.proofs.PortCounts.{none_together}
 use Rattle.exb_net_run.specs.declared.game.NetGame.{NetGame}
-use Rattle.exb_net_run.specs.Desks.{AllGoTogether, AreAllFronts, AreMore, AreNoted, AreReady, CanNoteAll, OnlyAllPlanned, OnlyWritesAll, plans_in}
+use Rattle.exb_net_run.specs.Desks.{AllGoTogether, AreAllFronts, AreMore, AreNoted, AreReady, CanNoteAll, OnlyAllListed, OnlyWritesAll, manifests_in}
 use Rattle.exb_net_run.specs.UnderWay.{CanBegin, GoesOn, IsCutOff, IsFew, IsGoing, IsLow, NetRun}
 use Rattle.exb_net_run.proofs.Bounds.{can-note}
 use Rattle.exb_net_run.proofs.Going.{ToldStays, fronts_of, leads_stay, others_kept}
-use Rattle.exb_net_run.proofs.Noted.{plan_at, plans-long}
+use Rattle.exb_net_run.proofs.Noted.{manifest_at, manifests-long}
 
 module _ {V : Type 0} {X : V → Type 0} (tells : Type 0) (r : NetRun) (now : Files) (ids : ℕ → Id) (g : NetGame V X) (ps : List Programme) (begin : CanBegin tells r now ids g ps) (x : Bridges V X) (o : Opens r.net x) (came : x.came ≡ g.net.came)
     (new : OpenedNetsAreNew) (runs : OpenedNetsRun) where
@@ -87,21 +87,21 @@ module _ {V : Type 0} {X : V → Type 0} (tells : Type 0) (r : NetRun) (now : Fi
     each = λ b k y desk node.
         let low = slice_get_within g.desks.items b k desk in
         let long = desks-long in
-        let plan : slice_get r.plans b ≡ Some k.plan = ap (λ (qs : List Planned). slice_get qs b) (sym begin.desks.plans) ∙ plan_at g.desks.items b k desk in
-        let own = begin.desks.each b k.plan plan in
+        let manifest : slice_get r.manifests b ≡ Some k.manifest = ap (λ (qs : List Listed). slice_get qs b) (sym begin.desks.manifests) ∙ manifest_at g.desks.items b k desk in
+        let own = begin.desks.each b k.manifest manifest in
         let noted = begin.noted.each b k desk in
-        can-note r.net b 0 0 k.plan own.0 own.2 k.counted (no_dones r.net b) (o.dones b) (network_of y.world) (opened-more.each b y node) (few-now b (omega (arith, low, long)) 0) (omega arith) (omega arith)
+        can-note r.net b 0 0 k.manifest own.0 own.2 k.counted (no_dones r.net b) (o.dones b) (network_of y.world) (opened-more.each b y node) (few-now b (omega (arith, low, long)) 0) (omega arith) (omega arith)
         noted.counted none_together;
   }
     where
       desks-long : length g.desks.items ≡ r.net.count
-      desks-long = sym (plans-long g.desks.items) ∙ ap (λ (qs : List Planned). length qs) begin.desks.plans ∙ begin.desks.whole
+      desks-long = sym (manifests-long g.desks.items) ∙ ap (λ (qs : List Listed). length qs) begin.desks.manifests ∙ begin.desks.whole
 
-  pub opened-going : ToldStays → (y : NetGame V X) (file : Files) (given : ℕ → Id) → IsPlaying r.net o.dones o.dones y.net → AreReady given y.desks.items → AreNoted tells file y.desks.items o.dones → plans_in y.desks.items ≡ plans_in g.desks.items →
-      y.net.came ≡ x.came → OnlyWritesAll tells (plans_in g.desks.items) now file ids given → IsGoing tells r file given None y ps
-  opened-going law y file given playing ready noted plans same only =
+  pub opened-going : ToldStays → (y : NetGame V X) (file : Files) (given : ℕ → Id) → IsPlaying r.net o.dones o.dones y.net → AreReady given y.desks.items → AreNoted tells file y.desks.items o.dones → manifests_in y.desks.items ≡ manifests_in g.desks.items →
+      y.net.came ≡ x.came → OnlyWritesAll tells (manifests_in g.desks.items) now file ids given → IsGoing tells r file given None y ps
+  opened-going law y file given playing ready noted manifests same only =
       let was = begin.desks in
-      let others : tells → OnlyAllPlanned r.plans now file = λ t. subst (λ (qs : List Planned). OnlyAllPlanned qs now file) was.plans (only.others t) in
+      let others : tells → OnlyAllListed r.manifests now file = λ t. subst (λ (qs : List Listed). OnlyAllListed qs now file) was.manifests (only.others t) in
       record {
         ds = [];
         dones = o.dones;
@@ -113,7 +113,7 @@ module _ {V : Type 0} {X : V → Type 0} (tells : Type 0) (r : NetRun) (now : Fi
           playing = playing;
           desks = record {
             ready = ready;
-            plans = plans ∙ was.plans;
+            manifests = manifests ∙ was.manifests;
             apart = was.apart;
             whole = was.whole;
             bridges = was.bridges;
@@ -124,12 +124,12 @@ module _ {V : Type 0} {X : V → Type 0} (tells : Type 0) (r : NetRun) (now : Fi
           noted = noted;
         };
         goes = subst (λ (k : ℕ). GoesOn r.net [] k o.dones None ps) (sym same) goes;
-        apart = others_kept r.plans ids given ps only.kept begin.apart;
-        leads = λ t. leads_stay law r.net r.plans [] now file ids given ps (others t) only.kept begin.apart (begin.leads t);
+        apart = others_kept r.manifests ids given ps only.kept begin.apart;
+        leads = λ t. leads_stay law r.net r.manifests [] now file ids given ps (others t) only.kept begin.apart (begin.leads t);
       }
 
   -- or it was cut off
-  pub opened-cut : tells → (file : Files) → AreAllFronts (plans_in g.desks.items) file o.dones → OnlyAllPlanned (plans_in g.desks.items) now file → IsCutOff r file
+  pub opened-cut : tells → (file : Files) → AreAllFronts (manifests_in g.desks.items) file o.dones → OnlyAllListed (manifests_in g.desks.items) now file → IsCutOff r file
   opened-cut t file fronts only =
       let was = begin.desks in
       let led = begin.leads t in
@@ -144,8 +144,8 @@ module _ {V : Type 0} {X : V → Type 0} (tells : Type 0) (r : NetRun) (now : Fi
         opened = o.opened;
         plays = refl;
         vids = begin.begun.vids;
-        others = λ m other. subst (λ (qs : List Planned). OnlyAllPlanned qs now file) was.plans only m other ∙ was.files t m other;
-        fronts = subst (λ (qs : List Planned). AreAllFronts qs file o.dones) was.plans fronts;
+        others = λ m other. subst (λ (qs : List Listed). OnlyAllListed qs now file) was.manifests only m other ∙ was.files t m other;
+        fronts = subst (λ (qs : List Listed). AreAllFronts qs file o.dones) was.manifests fronts;
       })
 
 -- before it is opened
@@ -153,5 +153,5 @@ pub unopened-cut : {V : Type 0} {X : V → Type 0} (tells : Type 0) (r : NetRun)
 unopened-cut tells r now ids g ps t begin =
     inl (record {
       others = begin.desks.files t;
-      fronts = subst (λ (qs : List Planned). AreAllFronts qs now (no_dones r.net)) begin.desks.plans (fronts_of now g.desks.items (no_dones r.net) (λ b k is. (begin.noted.each b k is).texts t));
+      fronts = subst (λ (qs : List Listed). AreAllFronts qs now (no_dones r.net)) begin.desks.manifests (fronts_of now g.desks.items (no_dones r.net) (λ b k is. (begin.noted.each b k is).texts t));
     })

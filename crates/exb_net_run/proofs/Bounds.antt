@@ -16,7 +16,7 @@ use Rattle.exb_resting.specs.Flight.Showing.{left_at}
 use Rattle.exb_nets.specs.Nets.{Net}
 use Rattle.exb_text.specs.Tallies.{FitsTally, counts_of, nothing_counted}
 use Rattle.exb_wiring.specs.Playing.{tree_in}
-use Rattle.exb_outputs.specs.Plans.{Planned}
+use Rattle.exb_outputs.specs.Manifests.{Listed}
 use Rattle.exb_outputs.specs.Sent.{capture_size}
 use Rattle.exb_outputs.proofs.Places.{external_low, few_external}
 use Rattle.exb_writers.specs.declared.counted.Counted.{Counted}
@@ -103,17 +103,17 @@ all-mapped P (x ∷ xs) all zero d low = all-front P (copies_of x) (all_left xs)
 all-mapped P (x ∷ xs) all (suc k) d low = all-mapped P xs (all-right P (copies_of x) (all_left xs) all) k d (omega (arith, low))
 
 -- It can be written and counted.
-pub can-note : (n : Net) (b came orders : ℕ) (plan : Planned) → plan.tree ≡ tree_in n b → IsTree plan.tree → (c : Counted) (told done : Stepped) (w : Network) → IsMore told done w → IsFew n b came orders done →
-    came ≤ 2 ^ 49 → orders ≤ 65536 → IsCounted plan c told.events told.passed told.left → GoTogether told.events told.passed → CanNote plan c w
-can-note n b came orders plan tree is_tree c told done w more few few_came few_orders are together = record {
+pub can-note : (n : Net) (b came orders : ℕ) (manifest : Listed) → manifest.tree ≡ tree_in n b → IsTree manifest.tree → (c : Counted) (told done : Stepped) (w : Network) → IsMore told done w → IsFew n b came orders done →
+    came ≤ 2 ^ 49 → orders ≤ 65536 → IsCounted manifest c told.events told.passed told.left → GoTogether told.events told.passed → CanNote manifest c w
+can-note n b came orders manifest tree is_tree c told done w more few few_came few_orders are together = record {
   frames = λ k d low j e within.
       let all = subst (λ (xs : List Leaving). All (IsLow n b) xs) more.left few.left in
       let x = all-mapped (IsLow n b) w.log.left (all-right (IsLow n b) told.left (all_left w.log.left) all) k d low j e within in
       let left : ℕ = (get_or (copies_of (get_or w.log.left k d)) j e).port in
-      let port : is_external plan.tree left ≡ true = ap (λ (s : Shape). is_external s left) tree ∙ x.port in
+      let port : is_external manifest.tree left ≡ true = ap (λ (s : Shape). is_external s left) tree ∙ x.port in
       record {
         port = port;
-        low = external_low plan.tree left is_tree port;
+        low = external_low manifest.tree left is_tree port;
         moment = x.moment;
         bytes = (let short = x.short in omega (arith, short));
       };
@@ -124,11 +124,11 @@ can-note n b came orders plan tree is_tree c told done w more few few_came few_o
         ∙ counts-more told.events w.log.events told.left w.log.left
         ∙ ap (λ (es : List Event). counts_so_far es (told.left ++ all_left w.log.left)) (sym more.events)
         ∙ ap (λ (xs : List Leaving). counts_so_far done.events xs) (sym more.left) in
-        subst FitsTally (sym whole) (counts-fit n b came orders plan.tree tree is_tree done few few_came few_orders));
+        subst FitsTally (sym whole) (counts-fit n b came orders manifest.tree tree is_tree done few few_came few_orders));
     ports =
-        ports-can plan c.ports told.events w.log.events told.passed w.log.passed are.ports together
+        ports-can manifest c.ports told.events w.log.events told.passed w.log.passed are.ports together
         (λ q.
         subst (λ (es : List Event). FitsCounts (plus_events es (told.passed ++ w.log.passed) q nothing)) more.events
-        (subst (λ (ps : List Bool). FitsCounts (plus_events done.events ps q nothing)) more.passed (ports-fit n b came orders plan.tree tree is_tree done few few_came q)));
+        (subst (λ (ps : List Bool). FitsCounts (plus_events done.events ps q nothing)) more.passed (ports-fit n b came orders manifest.tree tree is_tree done few few_came q)));
   };
 }

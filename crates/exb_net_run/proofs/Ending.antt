@@ -27,7 +27,7 @@ use Rattle.exb_wiring.specs.Counting.{CountsGoOn}
 use Rattle.exb_wiring.specs.Laws.{ArePlayedEagerly, IsShown, NetsArePlayedEagerly}
 use Rattle.exb_wiring.specs.Playing.{Dones, tree_in}
 use Rattle.exb_outputs.specs.declared.outputs.Outputs.{Outputs}
-use Rattle.exb_outputs.specs.Plans.{Planned, IsMade, kind_at, output_count}
+use Rattle.exb_outputs.specs.Manifests.{Listed, IsMade, kind_at, output_count}
 use Rattle.exb_outputs.specs.Sent.{HasSent, capture_size}
 use Rattle.exb_outputs.proofs.ByKind.{kind_is}
 use Rattle.exb_outputs.proofs.Sizes.{counted_of}
@@ -38,14 +38,14 @@ use Rattle.exb_writers.proofs.PortCounts.{counts-of, counts_end, port_whole}
 use Rattle.exb_net.proofs.Places.{is_there}
 use Rattle.exb_net_run.specs.declared.desk.Desk.{Desk}
 use Rattle.exb_net_run.specs.declared.game.NetGame.{NetGame}
-use Rattle.exb_net_run.specs.Desks.{AreAllFronts, AreNoted, AreWhole, CanEndAll, IsWhole, OnlyAllPlanned, plans_in, tallies_in, text_of}
+use Rattle.exb_net_run.specs.Desks.{AreAllFronts, AreNoted, AreWhole, CanEndAll, IsWhole, OnlyAllListed, manifests_in, tallies_in, text_of}
 use Rattle.exb_net_run.specs.Summing.{added, counts_in}
 use Rattle.exb_net_run.specs.UnderWay.{AreDesks, HasWritten, IsAllTold, IsCutOff, IsFew, NetRun}
 use Rattle.exb_net_run.proofs.Bounds.{few-frames, own, sizes-fit}
-use Rattle.exb_net_run.proofs.Noted.{desk_at, plan_at}
+use Rattle.exb_net_run.proofs.Noted.{desk_at, manifest_at}
 
 -- ---- one bridge
-module _ (n : Net) (b : ℕ) (p : Planned) (tree : p.tree ≡ tree_in n b) (untraced : p.options.trace ≡ false) (d : Stepped) (hs : Histories) (shown : (q : ℕ) → is_external (tree_in n b) q ≡ true → left_at q d.left ≡ flat (basis_in n b) ([] then d.events) q)
+module _ (n : Net) (b : ℕ) (p : Listed) (tree : p.tree ≡ tree_in n b) (untraced : p.options.trace ≡ false) (d : Stepped) (hs : Histories) (shown : (q : ℕ) → is_external (tree_in n b) q ≡ true → left_at q d.left ≡ flat (basis_in n b) ([] then d.events) q)
     (said : d.passed ≡ passed_over (basis_in n b) [] d.events) where
   counters-whole : (ports : Option Counters) (o : Outputs) → AreCounted p ports d.events d.passed → HasSent p o (λ q. left_at q d.left) → ((q : ℕ) → capture_size (left_at q d.left) < 2 ^ 64) → CountsGoOn → p.options.counters ≡ true →
       counts_text p ports o ≡ count_text (tree_in n b) (basis_in n b) ([] then d.events)
@@ -94,17 +94,17 @@ tally-of d = counts_of d.counted.tally
 module _ (tells : Type 0) (r : NetRun) (now : Files) (ids : ℕ → Id) (desks : List Desk) (are : AreDesks tells r now ids desks) (dones : Dones) (noted : AreNoted tells now desks dones) (came : ℕ) (few_came : came ≤ 2 ^ 49)
     (few : (b : ℕ) → b < r.net.count → (orders : ℕ) × IsFew r.net b came orders (dones b) × (orders ≤ 65536)) where
   desks-long : length desks ≡ r.net.count
-  desks-long = sym (map-length (λ (z : Desk). z.plan) desks) ∙ ap (λ (qs : List Planned). length qs) are.plans ∙ are.whole
+  desks-long = sym (map-length (λ (z : Desk). z.manifest) desks) ∙ ap (λ (qs : List Listed). length qs) are.manifests ∙ are.whole
     where
-      map-length : (f : Desk → Planned) (xs : List Desk) → length (map f xs) ≡ length xs
+      map-length : (f : Desk → Listed) (xs : List Desk) → length (map f xs) ≡ length xs
       map-length f [] = refl
       map-length f (z ∷ xs) = ap suc (map-length f xs)
 
   low-at : (b : ℕ) (d : Desk) → slice_get desks b ≡ Some d → b < r.net.count
   low-at b d is = (let low = slice_get_within desks b d is in let long = desks-long in omega (arith, low, long))
 
-  plan-is : (b : ℕ) (d : Desk) → slice_get desks b ≡ Some d → slice_get r.plans b ≡ Some d.plan
-  plan-is b d is = ap (λ (qs : List Planned). slice_get qs b) (sym are.plans) ∙ plan_at desks b d is
+  manifest-is : (b : ℕ) (d : Desk) → slice_get desks b ≡ Some d → slice_get r.manifests b ≡ Some d.manifest
+  manifest-is b d is = ap (λ (qs : List Listed). slice_get qs b) (sym are.manifests) ∙ manifest_at desks b d is
 
   tally-is : (b : ℕ) (d : Desk) → slice_get desks b ≡ Some d → counts_of d.counted.tally ≡ counts_so_far (dones b).events (dones b).left
   tally-is b d is = (noted.each b d is).counted.tally
@@ -125,11 +125,11 @@ module _ (tells : Type 0) (r : NetRun) (now : Files) (ids : ℕ → Id) (desks :
       let refusals = ap (λ (c : Counts). c.refusals) (tally-is b d is) in
       omega (arith, one, most, commits, refusals)
 
-  frames : (b : ℕ) (d : Desk) → slice_get desks b ≡ Some d → (tally-of d).left ≤ length (external_ports d.plan.tree) * 2 ^ 49
+  frames : (b : ℕ) (d : Desk) → slice_get desks b ≡ Some d → (tally-of d).left ≤ length (external_ports d.manifest.tree) * 2 ^ 49
   frames b d is =
       let f = few b (low-at b d is) in
-      let plan = are.each b d.plan (plan-is b d is) in
-      let one = few-frames r.net b came f.0 d.plan.tree plan.0 plan.2 (dones b) f.1 few_came in
+      let manifest = are.each b d.manifest (manifest-is b d is) in
+      let one = few-frames r.net b came f.0 d.manifest.tree manifest.0 manifest.2 (dones b) f.1 few_came in
       let none = count_events-left (dones b).events nothing_counted in
       let same = ap (λ (c : Counts). c.left) (tally-is b d is) in
       omega (arith, one, none, same)
@@ -144,10 +144,10 @@ module _ (tells : Type 0) (r : NetRun) (now : Files) (ids : ℕ → Id) (desks :
       let ignored = sum-below (λ (d : Desk). (tally-of d).ignored) (λ (d : Desk). 1) desks (λ b d is. let one = entered b d is in omega (arith, one)) in
       let commits = sum-below (λ (d : Desk). (tally-of d).commits) (λ (d : Desk). 1) desks (λ b d is. let one = decided b d is in omega (arith, one)) in
       let refusals = sum-below (λ (d : Desk). (tally-of d).refusals) (λ (d : Desk). 1) desks (λ b d is. let one = decided b d is in omega (arith, one)) in
-      let left = sum-below (λ (d : Desk). (tally-of d).left) (λ (d : Desk). length (external_ports d.plan.tree)) desks frames in
+      let left = sum-below (λ (d : Desk). (tally-of d).left) (λ (d : Desk). length (external_ports d.manifest.tree)) desks frames in
       let ports = are.ports in
-      let mapped = sum-mapped (λ (p : Planned). length (external_ports p.tree)) (λ (d : Desk). d.plan) desks in
-      let plans = ap (sum_by (λ (p : Planned). length (external_ports p.tree))) are.plans in
+      let mapped = sum-mapped (λ (p : Listed). length (external_ports p.tree)) (λ (d : Desk). d.manifest) desks in
+      let manifests = ap (sum_by (λ (p : Listed). length (external_ports p.tree))) are.manifests in
       let r1 = sum-mapped (λ (c : Counts). c.relayed) tally-of desks in
       let r2 = sum-mapped (λ (c : Counts). c.ignored) tally-of desks in
       let r3 = sum-mapped (λ (c : Counts). c.left) tally-of desks in
@@ -156,15 +156,15 @@ module _ (tells : Type 0) (r : NetRun) (now : Files) (ids : ℕ → Id) (desks :
       record {
         each = λ b d is.
             let f = few b (low-at b d is) in
-            let plan = are.each b d.plan (plan-is b d is) in
+            let manifest = are.each b d.manifest (manifest-is b d is) in
             record {
-              counted = counts-of d.plan d.counted.ports (dones b).events (dones b).passed (noted.each b d is).counted.ports;
-              sent = counted_of d.plan d.outputs (λ q. left_at q (dones b).left) (sizes-fit r.net b came f.0 d.plan.tree plan.0 plan.2 (dones b) f.1 few_came) (noted.each b d is).sent;
+              counted = counts-of d.manifest d.counted.ports (dones b).events (dones b).passed (noted.each b d is).counted.ports;
+              sent = counted_of d.manifest d.outputs (λ q. left_at q (dones b).left) (sizes-fit r.net b came f.0 d.manifest.tree manifest.0 manifest.2 (dones b) f.1 few_came) (noted.each b d is).sent;
             };
         fits = record {
           relayed = omega (arith, relayed, ones, long, bridges, r1);
           ignored = omega (arith, ignored, ones, long, bridges, r2);
-          left = omega (arith, left, ports, mapped, plans, r3);
+          left = omega (arith, left, ports, mapped, manifests, r3);
           commits = omega (arith, commits, ones, long, bridges, r4);
           refusals = omega (arith, refusals, ones, long, bridges, r5);
         };
@@ -184,10 +184,10 @@ module _ (tells : Type 0) (r : NetRun) (now : Files) (ids : ℕ → Id) (desks :
     counts-at b d is =
         let low = low-at b d is in
         let f = few b low in
-        let plan = are.each b d.plan (plan-is b d is) in
+        let manifest = are.each b d.manifest (manifest-is b d is) in
         tally-is b d is
         ∙ counts-whole (tree_in r.net b) (basis_in r.net b) (all.histories b) (dones b).events (dones b).left (sym (shown-at b low).told) (shown-at b low).left
-        (subst (λ (t : Shape). All (LeftExternal t) (dones b).left) plan.0 (own r.net b came f.0 d.plan.tree plan.0 plan.2 (dones b) f.1 few_came))
+        (subst (λ (t : Shape). All (LeftExternal t) (dones b).left) manifest.0 (own r.net b came f.0 d.manifest.tree manifest.0 manifest.2 (dones b) f.1 few_came))
 
     range-at : (a m b : ℕ) → b < m → slice_get (range_with_len a m) b ≡ Some (a + b)
     range-at a zero b low = absurd (omega (arith, low))
@@ -212,24 +212,24 @@ module _ (tells : Type 0) (r : NetRun) (now : Files) (ids : ℕ → Id) (desks :
         slice_get-map tally-of desks b ∙ ap (option_map tally-of) there.1 ∙ ap Some (counts-at b there.0 there.1)
         ∙ sym (slice_get-map (counts_in r.net all.histories) (range_with_len 0 r.net.count) b ∙ ap (option_map (counts_in r.net all.histories)) (let first : 0 + b ≡ b = omega arith in range-at 0 r.net.count b (low-at b there.0 there.1) ∙ ap Some first)))
 
-    pub written : (new : Files) (line : List ℕ) → AreWhole desks new dones → OnlyAllPlanned r.plans r.before new → line ≡ summary_line (added (tallies_in desks)) → HasWritten r new line
+    pub written : (new : Files) (line : List ℕ) → AreWhole desks new dones → OnlyAllListed r.manifests r.before new → line ≡ summary_line (added (tallies_in desks)) → HasWritten r new line
     written new line whole others says = record {
       histories = all.histories;
       eager = all.eager;
       whole = λ b p is.
-          let k = desk_at desks b p (ap (λ (qs : List Planned). slice_get qs b) are.plans ∙ is) in
+          let k = desk_at desks b p (ap (λ (qs : List Listed). slice_get qs b) are.manifests ∙ is) in
           let low = low-at b k.0 k.1 in
           let f = few b low in
-          let own_plan = are.each b p is in
+          let own_manifest = are.each b p is in
           let now_noted = noted.each b k.0 k.1 in
-          subst (λ (z : Planned). IsWhole z new (output_text (r.net.input b) (all.histories b) [])) k.2
+          subst (λ (z : Listed). IsWhole z new (output_text (r.net.input b) (all.histories b) [])) k.2
           (record {
             each = λ j lt.
-                let plan = are.each b k.0.plan (plan-is b k.0 k.1) in
+                let manifest = are.each b k.0.manifest (manifest-is b k.0 k.1) in
                 (whole.each b k.0 k.1).each j lt
-                ∙ ap Some (texts-whole r.net b k.0.plan plan.0 plan.1 (dones b) all.histories (sent-at b low) (shown-at b low).passed k.0.counted.ports k.0.outputs now_noted.counted.ports now_noted.sent
-                (sizes-fit r.net b came f.0 k.0.plan.tree plan.0 plan.2 (dones b) f.1 few_came) law j lt
-                ∙ ap (λ (h : History). output_text (r.net.input b) h [] (kind_at k.0.plan j)) (sym (shown-at b low).told));
+                ∙ ap Some (texts-whole r.net b k.0.manifest manifest.0 manifest.1 (dones b) all.histories (sent-at b low) (shown-at b low).passed k.0.counted.ports k.0.outputs now_noted.counted.ports now_noted.sent
+                (sizes-fit r.net b came f.0 k.0.manifest.tree manifest.0 manifest.2 (dones b) f.1 few_came) law j lt
+                ∙ ap (λ (h : History). output_text (r.net.input b) h [] (kind_at k.0.manifest j)) (sym (shown-at b low).told));
           });
       others = others;
       says = says ∙ ap (λ (cs : List Counts). summary_line (added cs)) tallies-are;
@@ -237,14 +237,14 @@ module _ (tells : Type 0) (r : NetRun) (now : Files) (ids : ℕ → Id) (desks :
 
 -- ---- the whole
 pub ended : {V : Type 0} {X : V → Type 0} (tells : Type 0) (r : NetRun) (now : Files) (ids : ℕ → Id) (g : NetGame V X) → (k : IsAllTold tells r now ids g) → tells → NetsArePlayedEagerly → CountsGoOn → (new : Files) (line : List ℕ) →
-    AreWhole g.desks.items new k.dones → OnlyAllPlanned (plans_in g.desks.items) now new → line ≡ summary_line (added (tallies_in g.desks.items)) → HasWritten r new line
+    AreWhole g.desks.items new k.dones → OnlyAllListed (manifests_in g.desks.items) now new → line ≡ summary_line (added (tallies_in g.desks.items)) → HasWritten r new line
 ended tells r now ids g k t law counts new line whole only says =
     written tells r now ids g.desks.items k.is.desks k.dones k.is.noted k.came k.few_came k.few
     (law r.net k.is.start k.dones k.is.playing.net k.is.playing.vids k.is.timely k.is.opened k.is.plays) counts new line whole
-    (λ m other. subst (λ (qs : List Planned). OnlyAllPlanned qs now new) k.is.desks.plans only m other ∙ k.is.desks.files t m other) says
+    (λ m other. subst (λ (qs : List Listed). OnlyAllListed qs now new) k.is.desks.manifests only m other ∙ k.is.desks.files t m other) says
 
 pub ended-cut : {V : Type 0} {X : V → Type 0} (tells : Type 0) (r : NetRun) (now : Files) (ids : ℕ → Id) (g : NetGame V X) → (k : IsAllTold tells r now ids g) → tells → (new : Files) →
-    AreAllFronts (plans_in g.desks.items) new k.dones → OnlyAllPlanned (plans_in g.desks.items) now new → IsCutOff r new
+    AreAllFronts (manifests_in g.desks.items) new k.dones → OnlyAllListed (manifests_in g.desks.items) now new → IsCutOff r new
 ended-cut tells r now ids g k t new fronts only =
     inr (record {
       ds = dues r.net;
@@ -257,6 +257,6 @@ ended-cut tells r now ids g k t new fronts only =
       opened = k.is.opened;
       plays = k.is.plays;
       vids = k.is.playing.vids;
-      others = λ m other. subst (λ (qs : List Planned). OnlyAllPlanned qs now new) k.is.desks.plans only m other ∙ k.is.desks.files t m other;
-      fronts = subst (λ (qs : List Planned). AreAllFronts qs new k.dones) k.is.desks.plans fronts;
+      others = λ m other. subst (λ (qs : List Listed). OnlyAllListed qs now new) k.is.desks.manifests only m other ∙ k.is.desks.files t m other;
+      fronts = subst (λ (qs : List Listed). AreAllFronts qs new k.dones) k.is.desks.manifests fronts;
     })

@@ -37,7 +37,7 @@ use Rattle.exb_net.specs.declared.node.Node.{Node}
 use Rattle.exb_net.specs.Nets.{IsPlaying}
 use Rattle.exb_net.proofs.Places.{is_there}
 use Rattle.exb_outputs.specs.Apart.{AreApart}
-use Rattle.exb_outputs.specs.Plans.{Planned}
+use Rattle.exb_outputs.specs.Manifests.{Listed}
 use Rattle.exb_outputs.specs.Writing.{HasTexts, pieces_of}
 use Rattle.exb_outputs.proofs.Keeping.{ids-same}
 use Rattle.exb_writers.specs.Counts.{GoTogether}
@@ -45,50 +45,50 @@ use Rattle.exb_writers.proofs.PortCounts.{run_together}
 use Rattle.exb_writers.proofs.Telling.{left_at-append}
 use Rattle.exb_net_run.specs.declared.desk.Desk.{Desk}
 use Rattle.exb_net_run.specs.declared.game.NetGame.{NetGame}
-use Rattle.exb_net_run.specs.Desks.{AllGoTogether, AreAllFronts, AreFronts, AreMore, AreNoted, AreReady, CanNoteAll, OnlyAllPlanned, OnlyWritesAll, plans_in, text_of}
+use Rattle.exb_net_run.specs.Desks.{AllGoTogether, AreAllFronts, AreFronts, AreMore, AreNoted, AreReady, CanNoteAll, OnlyAllListed, OnlyWritesAll, manifests_in, text_of}
 use Rattle.exb_net_run.specs.UnderWay.{GoesOn, GoesOnAt, IsCutOff, IsDue, IsFew, IsGoing, IsLow, LeadsOn, NetRun, ReadsOthers, came_by, last_of, taken_in}
 use Rattle.exb_net_run.proofs.Bounds.{can-note}
 use Rattle.exb_net_run.proofs.Coming.{all-earlier, sum-place}
 use Rattle.exb_net_run.proofs.Passing.{here_more, last_more, order_more, plays_more, taken_more}
 use Rattle.exb_net_run.proofs.Noting.{fronts_now, goes-same}
-use Rattle.exb_net_run.proofs.Noted.{desk_at, plan_at}
+use Rattle.exb_net_run.proofs.Noted.{desk_at, manifest_at}
 use Rattle.exb_net_run.proofs.Steps.{at_it, clock-on, ends, here}
 
--- ---- what is still to come, while files of plans are written
+-- ---- what is still to come, while files of manifests are written
 abbrev pub ToldStays : Type 0
 ToldStays =
     (file files : Files) (given ids : ℕ → Id) (programmes : List Programme) (streams : List (List Stream)) → AllByRecursion (λ k. (ids k ≡ given k) × (bytes_of (files (given k).name) ≡ bytes_of (file (given k).name))) (all_ids programmes) →
     AreAllReplays file given programmes streams → AreAllReplays files ids programmes streams
 
-each-stays : (plans : List Planned) (file files : Files) (given ids : ℕ → Id) → OnlyAllPlanned plans file files → ((j : ℕ) → ids j ≡ given j) → (ks : List ℕ) → ((b : ℕ) (q : Planned) → slice_get plans b ≡ Some q → AreApart q given ks) →
+each-stays : (manifests : List Listed) (file files : Files) (given ids : ℕ → Id) → OnlyAllListed manifests file files → ((j : ℕ) → ids j ≡ given j) → (ks : List ℕ) → ((b : ℕ) (q : Listed) → slice_get manifests b ≡ Some q → AreApart q given ks) →
     AllByRecursion (λ k. (ids k ≡ given k) × (bytes_of (files (given k).name) ≡ bytes_of (file (given k).name))) ks
-each-stays plans file files given ids only kept [] apart = tt
-each-stays plans file files given ids only kept (k ∷ ks) apart = (
+each-stays manifests file files given ids only kept [] apart = tt
+each-stays manifests file files given ids only kept (k ∷ ks) apart = (
   (
     kept k,
     ap bytes_of (only (given k).name (λ b q is j low same. (let (name, reads, none) = (apart b q is).0 in none j low (sym reads.named ∙ same)))),
   ),
-  each-stays plans file files given ids only kept ks (λ b q is. (apart b q is).1),
+  each-stays manifests file files given ids only kept ks (λ b q is. (apart b q is).1),
 )
 
-pub leads_stay : ToldStays → (n : Net) (plans : List Planned) (ds : List Due) (file files : Files) (given ids : ℕ → Id) (ps : List Programme) → OnlyAllPlanned plans file files → ((j : ℕ) → ids j ≡ given j) → ReadsOthers plans given ps →
+pub leads_stay : ToldStays → (n : Net) (manifests : List Listed) (ds : List Due) (file files : Files) (given ids : ℕ → Id) (ps : List Programme) → OnlyAllListed manifests file files → ((j : ℕ) → ids j ≡ given j) → ReadsOthers manifests given ps →
     LeadsOn n ds file given ps → LeadsOn n ds files ids ps
-leads_stay law n plans ds file files given ids ps only kept others led = record {
+leads_stay law n manifests ds file files given ids ps only kept others led = record {
   streams = led.streams;
-  replays = law file files given ids ps led.streams (each-stays plans file files given ids only kept (all_ids ps) others.each) led.replays;
+  replays = law file files given ids ps led.streams (each-stays manifests file files given ids only kept (all_ids ps) others.each) led.replays;
   rest = led.rest;
 }
 
-pub others_kept : (plans : List Planned) (given ids : ℕ → Id) (ps : List Programme) → ((j : ℕ) → ids j ≡ given j) → ReadsOthers plans given ps → ReadsOthers plans ids ps
-others_kept plans given ids ps kept others = record { each = λ b q is. subst (λ (k : ℕ → Id). AreApart q k (all_ids ps)) (sym (ids-same given ids kept)) (others.each b q is) }
+pub others_kept : (manifests : List Listed) (given ids : ℕ → Id) (ps : List Programme) → ((j : ℕ) → ids j ≡ given j) → ReadsOthers manifests given ps → ReadsOthers manifests ids ps
+others_kept manifests given ids ps kept others = record { each = λ b q is. subst (λ (k : ℕ → Id). AreApart q k (all_ids ps)) (sym (ids-same given ids kept)) (others.each b q is) }
 
 -- ---- what is noted, where it is cut off
-pub fronts_of : (f : Files) (ds : List Desk) (dones : Dones) → ((b : ℕ) (k : Desk) → slice_get ds b ≡ Some k → HasTexts k.plan (pieces_of k.outputs) f f (text_of (dones b) [])) → AreAllFronts (plans_in ds) f dones
+pub fronts_of : (f : Files) (ds : List Desk) (dones : Dones) → ((b : ℕ) (k : Desk) → slice_get ds b ≡ Some k → HasTexts k.manifest (pieces_of k.outputs) f f (text_of (dones b) [])) → AreAllFronts (manifests_in ds) f dones
 fronts_of f ds dones texts = record {
   each = λ b q is.
       let k = desk_at ds b q is in
-      subst (λ (z : Planned). AreFronts z f (dones b)) k.2
-      (record { counts = []; each = fronts_now k.0.plan (pieces_of k.0.outputs) f (text_of (dones b) []) (text_of (dones b) []) (goes-same (dones b)) (texts b k.0 k.1) });
+      subst (λ (z : Listed). AreFronts z f (dones b)) k.2
+      (record { counts = []; each = fronts_now k.0.manifest (pieces_of k.0.outputs) f (text_of (dones b) []) (text_of (dones b) []) (goes-same (dones b)) (texts b k.0 k.1) });
 }
 
 pub cut-noted : {V : Type 0} {X : V → Type 0} (tells : Type 0) (r : NetRun) (now : Files) (ids : ℕ → Id) (last : Option ℕ) (g : NetGame V X) (ps : List Programme) → tells → IsGoing tells r now ids last g ps → IsCutOff r now
@@ -106,7 +106,7 @@ cut-noted tells r now ids last g ps t going =
       plays = going.is.plays;
       vids = going.is.playing.vids;
       others = going.is.desks.files t;
-      fronts = subst (λ (qs : List Planned). AreAllFronts qs now going.dones) going.is.desks.plans (fronts_of now g.desks.items going.dones (λ b k is. (going.is.noted.each b k is).texts t));
+      fronts = subst (λ (qs : List Listed). AreAllFronts qs now going.dones) going.is.desks.manifests (fronts_of now g.desks.items going.dones (λ b k is. (going.is.noted.each b k is).texts t));
     })
 
 -- ---- what comes, by numbers
@@ -342,29 +342,29 @@ module _ {V : Type 0} {X : V → Type 0} (tells : Type 0) (r : NetRun) (now : Fi
       few = (let long = desks-long in let most = p.going.is.desks.bridges in omega (arith, long, most));
       each = λ b k y desk node.
           let low = node-low b y node in
-          let plan : slice_get r.plans b ≡ Some k.plan = ap (λ (qs : List Planned). slice_get qs b) (sym p.going.is.desks.plans) ∙ plan_at g.desks.items b k desk in
-          let own = p.going.is.desks.each b k.plan plan in
+          let manifest : slice_get r.manifests b ≡ Some k.manifest = ap (λ (qs : List Listed). slice_get qs b) (sym p.going.is.desks.manifests) ∙ manifest_at g.desks.items b k desk in
+          let own = p.going.is.desks.each b k.manifest manifest in
           let noted = p.going.is.noted.each b k desk in
           let there = is_there ps b (let count = goes-after.count in omega (arith, low, count)) in
           let few = few-at b there.0 there.1 in
           let goes = goes-at b there.0 there.1 in
-          can-note r.net b (g.net.came + came_by d.next) there.0.taken k.plan own.0 own.2 k.counted (p.going.dones b) (e b) (network_of y.world) (are-more.each b y node) few few-came
+          can-note r.net b (g.net.came + came_by d.next) there.0.taken k.manifest own.0 own.2 k.counted (p.going.dones b) (e b) (network_of y.world) (are-more.each b y node) few few-came
           (let within = goes.within in let most = goes.few_commands in omega (arith, within, most)) noted.counted (together-at law b low);
     }
       where
-        map-length : (f : Desk → Planned) (xs : List Desk) → length (map f xs) ≡ length xs
+        map-length : (f : Desk → Listed) (xs : List Desk) → length (map f xs) ≡ length xs
         map-length f [] = refl
         map-length f (z ∷ xs) = ap suc (map-length f xs)
 
         desks-long : length g.desks.items ≡ r.net.count
-        desks-long = sym (map-length (λ (z : Desk). z.plan) g.desks.items) ∙ ap (λ (qs : List Planned). length qs) p.going.is.desks.plans ∙ p.going.is.desks.whole
+        desks-long = sym (map-length (λ (z : Desk). z.manifest) g.desks.items) ∙ ap (λ (qs : List Listed). length qs) p.going.is.desks.manifests ∙ p.going.is.desks.whole
 
   -- ---- and once it is noted, the net goes on
-  pub going-after : ToldStays → (y : NetGame V X) (file : Files) (given : ℕ → Id) → IsPlaying r.net e e y.net → AreReady given y.desks.items → AreNoted tells file y.desks.items e → plans_in y.desks.items ≡ plans_in g.desks.items →
-      y.net.came ≡ g.net.came + came_by d.next → OnlyWritesAll tells (plans_in g.desks.items) now file ids given → IsGoing tells r file given (Some second) y ps
-  going-after law y file given playing ready noted plans came only =
+  pub going-after : ToldStays → (y : NetGame V X) (file : Files) (given : ℕ → Id) → IsPlaying r.net e e y.net → AreReady given y.desks.items → AreNoted tells file y.desks.items e → manifests_in y.desks.items ≡ manifests_in g.desks.items →
+      y.net.came ≡ g.net.came + came_by d.next → OnlyWritesAll tells (manifests_in g.desks.items) now file ids given → IsGoing tells r file given (Some second) y ps
+  going-after law y file given playing ready noted manifests came only =
       let was = p.going.is.desks in
-      let others : tells → OnlyAllPlanned r.plans now file = λ t. subst (λ (qs : List Planned). OnlyAllPlanned qs now file) was.plans (only.others t) in
+      let others : tells → OnlyAllListed r.manifests now file = λ t. subst (λ (qs : List Listed). OnlyAllListed qs now file) was.manifests (only.others t) in
       record {
         ds = p.going.ds ++ due_of d ∷ [];
         dones = e;
@@ -376,7 +376,7 @@ module _ {V : Type 0} {X : V → Type 0} (tells : Type 0) (r : NetRun) (now : Fi
           playing = playing;
           desks = record {
             ready = ready;
-            plans = plans ∙ was.plans;
+            manifests = manifests ∙ was.manifests;
             apart = was.apart;
             whole = was.whole;
             bridges = was.bridges;
@@ -387,12 +387,12 @@ module _ {V : Type 0} {X : V → Type 0} (tells : Type 0) (r : NetRun) (now : Fi
           noted = noted;
         };
         goes = subst (λ (k : ℕ). GoesOn r.net (p.going.ds ++ due_of d ∷ []) k e (Some second) ps) (sym came) goes-after;
-        apart = others_kept r.plans ids given ps only.kept p.apart;
-        leads = λ t. leads_stay law r.net r.plans (p.going.ds ++ due_of d ∷ []) now file ids given ps (others t) only.kept p.apart (p.leads t);
+        apart = others_kept r.manifests ids given ps only.kept p.apart;
+        leads = λ t. leads_stay law r.net r.manifests (p.going.ds ++ due_of d ∷ []) now file ids given ps (others t) only.kept p.apart (p.leads t);
       }
 
   -- ---- or it was cut off
-  pub cut-after : tells → (file : Files) → AreAllFronts (plans_in g.desks.items) file e → OnlyAllPlanned (plans_in g.desks.items) now file → IsCutOff r file
+  pub cut-after : tells → (file : Files) → AreAllFronts (manifests_in g.desks.items) file e → OnlyAllListed (manifests_in g.desks.items) now file → IsCutOff r file
   cut-after t file fronts only =
       let was = p.going.is.desks in
       let led = p.leads t in
@@ -407,6 +407,6 @@ module _ {V : Type 0} {X : V → Type 0} (tells : Type 0) (r : NetRun) (now : Fi
         opened = p.going.is.opened;
         plays = plays-after;
         vids = p.going.is.playing.vids;
-        others = λ m other. subst (λ (qs : List Planned). OnlyAllPlanned qs now file) was.plans only m other ∙ was.files t m other;
-        fronts = subst (λ (qs : List Planned). AreAllFronts qs file e) was.plans fronts;
+        others = λ m other. subst (λ (qs : List Listed). OnlyAllListed qs now file) was.manifests only m other ∙ was.files t m other;
+        fronts = subst (λ (qs : List Listed). AreAllFronts qs file e) was.manifests fronts;
       })

@@ -18,7 +18,7 @@ use Rattle.exb_resting.specs.Flight.Showing.{left_at}
 use Rattle.exb_net_file.specs.declared.members.NetMember.{NetMember}
 use Rattle.exb_net_file.specs.Members.{prefix_of, tree_in}
 use Rattle.exb_outputs.specs.Names.{IsCut}
-use Rattle.exb_outputs.specs.Plans.{IsMade, Planned, kind_at, output_count, output_name, place_of}
+use Rattle.exb_outputs.specs.Manifests.{IsMade, Listed, kind_at, output_count, output_name, place_of}
 use Rattle.exb_outputs.specs.Writing.{first_text, lines_of}
 use Rattle.exb_outputs.proofs.ByKind.{kind_is, placed}
 use Rattle.exb_outputs.proofs.Texts.{journal_text-then}
@@ -27,8 +27,8 @@ use Rattle.exb_text.specs.declared.output.Output.{Output}
 use Rattle.exb_text.specs.declared.output.Output.TheVariants as output
 use Rattle.exb_text.specs.Names.{IsOfPort, file_name}
 use Rattle.exb_writers.specs.Texts.{output_text}
-use Rattle.exb_net_run.specs.Desks.{AreFronts, IsOther, IsWhole, OnlyAllPlanned, text_of}
-use Rattle.exb_net_run.specs.Nets.{OnlyNetOutputs, plan_with}
+use Rattle.exb_net_run.specs.Desks.{AreFronts, IsOther, IsWhole, OnlyAllListed, text_of}
+use Rattle.exb_net_run.specs.Nets.{OnlyNetOutputs, manifest_with}
 use Rattle.exb_net_run.specs.Outputs.{IsFrontOf, IsWritten}
 
 -- ---- texts that go on
@@ -60,25 +60,25 @@ capture_then xs ys = ap (λ (zs : List ℕ). capture_header ++ zs) (flat_map-app
 
 -- ---- one bridge
 module _ (counters : Bool) (m : NetMember) (i : Input) (tree : tree_of i ≡ tree_in m) (low : (q : ℕ) → is_external (tree_of i) q ≡ true → q < 4160) where
-  plan : Planned
-  plan = plan_with counters m
+  manifest : Listed
+  manifest = manifest_with counters m
 
   -- the file of a kind that is made
-  file_of : (file : Files) (text : Output → List ℕ) → IsWhole (plan_with counters m) file text → (o : Output) → IsMade (plan_with counters m).options (tree_in m) o → IsOfPort o → file (file_name (prefix_of m.name) o) ≡ Some (text o)
+  file_of : (file : Files) (text : Output → List ℕ) → IsWhole (manifest_with counters m) file text → (o : Output) → IsMade (manifest_with counters m).options (tree_in m) o → IsOfPort o → file (file_name (prefix_of m.name) o) ≡ Some (text o)
   file_of file text whole o made of_port =
-      let p = placed (plan_with counters m) o made of_port in
-      subst (λ (z : Output). file (file_name (prefix_of m.name) z) ≡ Some (text z)) p.at (whole.each (place_of (plan_with counters m) o) p.low)
+      let p = placed (manifest_with counters m) o made of_port in
+      subst (λ (z : Output). file (file_name (prefix_of m.name) z) ≡ Some (text z)) p.at (whole.each (place_of (manifest_with counters m) o) p.low)
 
-  front_of : (file : Files) (done : Stepped) (fronts : AreFronts (plan_with counters m) file done) (o : Output) → IsMade (plan_with counters m).options (tree_in m) o → IsOfPort o →
+  front_of : (file : Files) (done : Stepped) (fronts : AreFronts (manifest_with counters m) file done) (o : Output) → IsMade (manifest_with counters m).options (tree_in m) o → IsOfPort o →
       (q : ℕ) × (file (file_name (prefix_of m.name) o) ≡ Some (take q (text_of done fronts.counts o)))
   front_of file done fronts o made of_port =
-      let p = placed (plan_with counters m) o made of_port in
-      subst (λ (z : Output). (q : ℕ) × (file (file_name (prefix_of m.name) z) ≡ Some (take q (text_of done fronts.counts z)))) p.at (fronts.each (place_of (plan_with counters m) o) p.low)
+      let p = placed (manifest_with counters m) o made of_port in
+      subst (λ (z : Output). (q : ℕ) × (file (file_name (prefix_of m.name) z) ≡ Some (take q (text_of done fronts.counts z)))) p.at (fronts.each (place_of (manifest_with counters m) o) p.low)
 
   external : (q : ℕ) → is_external (tree_of i) q ≡ true → is_external (tree_in m) q ≡ true
   external q ext = ap (λ (t : Shape). is_external t q) (sym tree) ∙ ext
 
-  pub written : (h : History) (file : Files) (done : Stepped) (counts : List ℕ) → IsWhole (plan_with counters m) file (text_of done counts) → h ≡ ([] then done.events) →
+  pub written : (h : History) (file : Files) (done : Stepped) (counts : List ℕ) → IsWhole (manifest_with counters m) file (text_of done counts) → h ≡ ([] then done.events) →
       ((q : ℕ) → is_external (tree_of i) q ≡ true → left_at q done.left ≡ flat (basis_of i) h q) → (counters ≡ true → counts ≡ count_text (tree_of i) (basis_of i) h) → IsWritten counters i h (prefix_of m.name) file
   written h file done counts whole told left counted =
       record {
@@ -87,7 +87,7 @@ module _ (counters : Bool) (m : NetMember) (i : Input) (tree : tree_of i ≡ tre
         counts = λ asked. file_of file (text_of done counts) whole output.Counters asked tt ∙ ap Some (counted asked);
       }
 
-  pub fronts_written : (h k : History) (more : List Event) (old new : Files) (done : Stepped) → AreFronts (plan_with counters m) new done → h ≡ ([] then done.events) →
+  pub fronts_written : (h k : History) (more : List Event) (old new : Files) (done : Stepped) → AreFronts (manifest_with counters m) new done → h ≡ ([] then done.events) →
       ((q : ℕ) → is_external (tree_of i) q ≡ true → left_at q done.left ≡ flat (basis_of i) h q) → k ≡ (h then more) → IsFrontOf i k (prefix_of m.name) old new
   fronts_written h k more old new done fronts told left on =
       record {
@@ -114,17 +114,17 @@ pub mapped_some : {A B : Type 0} (f : A → B) (o : Option A) (y : B) → option
 mapped_some f None y e = absurd (no_some e)
 mapped_some f (Some x) y e = (x, refl, same_some e)
 
-pub only_outputs : (counters : Bool) (ms : List NetMember) (old new : Files) → OnlyAllPlanned (map (plan_with counters) ms) old new → OnlyNetOutputs counters ms old new
+pub only_outputs : (counters : Bool) (ms : List NetMember) (old new : Files) → OnlyAllListed (map (manifest_with counters) ms) old new → OnlyNetOutputs counters ms old new
 only_outputs counters ms old new only name none = only name away
   where
-    away : IsOther (map (plan_with counters) ms) name
+    away : IsOther (map (manifest_with counters) ms) name
     away b p is j low same =
-        let r = mapped_some (plan_with counters) (slice_get ms b) p (sym (slice_get-map (plan_with counters) ms b) ∙ is) in
+        let r = mapped_some (manifest_with counters) (slice_get ms b) p (sym (slice_get-map (manifest_with counters) ms b) ∙ is) in
         none (record {
           bridge = b;
           member = r.0;
           is = r.1;
-          output = subst (λ (z : Planned). (o : Output) × IsMade z.options z.tree o × (name ≡ file_name z.prefix o)) (sym r.2) (kind_at p j, (kind_is p j low).made, same);
+          output = subst (λ (z : Listed). (o : Output) × IsMade z.options z.tree o × (name ≡ file_name z.prefix o)) (sym r.2) (kind_at p j, (kind_is p j low).made, same);
         })
 
 -- ---- over a history
@@ -141,14 +141,14 @@ texts_begin i h output.Trace = ([], refl)
 texts_begin i h output.Counters = (count_text (tree_of i) (basis_of i) h, refl)
 
 module _ (counters : Bool) (m : NetMember) (i : Input) (tree : tree_of i ≡ tree_in m) (low : (q : ℕ) → is_external (tree_of i) q ≡ true → q < 4160) where
-  at_kind : (P : Output → Type 0) → ((j : ℕ) → j < output_count (plan_with counters m) → P (kind_at (plan_with counters m) j)) → (o : Output) → IsMade (plan_with counters m).options (tree_in m) o → IsOfPort o → P o
-  at_kind P each o made of_port = (let p = placed (plan_with counters m) o made of_port in subst P p.at (each (place_of (plan_with counters m) o) p.low))
+  at_kind : (P : Output → Type 0) → ((j : ℕ) → j < output_count (manifest_with counters m) → P (kind_at (manifest_with counters m) j)) → (o : Output) → IsMade (manifest_with counters m).options (tree_in m) o → IsOfPort o → P o
+  at_kind P each o made of_port = (let p = placed (manifest_with counters m) o made of_port in subst P p.at (each (place_of (manifest_with counters m) o) p.low))
 
   is_there : (q : ℕ) → is_external (tree_of i) q ≡ true → is_external (tree_in m) q ≡ true
   is_there q ext = ap (λ (t : Shape). is_external t q) (sym tree) ∙ ext
 
   -- files that hold the texts over a history
-  pub written_texts : (h : History) (file : Files) → IsWhole (plan_with counters m) file (output_text i h []) → IsWritten counters i h (prefix_of m.name) file
+  pub written_texts : (h : History) (file : Files) → IsWhole (manifest_with counters m) file (output_text i h []) → IsWritten counters i h (prefix_of m.name) file
   written_texts h file whole =
       let text : Output → List ℕ = output_text i h [] in
       let all = at_kind (λ o. file (file_name (prefix_of m.name) o) ≡ Some (text o)) whole.each in
@@ -159,7 +159,7 @@ module _ (counters : Bool) (m : NetMember) (i : Input) (tree : tree_of i ≡ tre
       }
 
   -- files that are as they were or hold fronts of them
-  pub cut_texts : (h : History) (old new : Files) → ((j : ℕ) → j < output_count (plan_with counters m) → IsCut (old (output_name (plan_with counters m) j)) (new (output_name (plan_with counters m) j)) (output_text i h [] (kind_at (plan_with counters m) j))) →
+  pub cut_texts : (h : History) (old new : Files) → ((j : ℕ) → j < output_count (manifest_with counters m) → IsCut (old (output_name (manifest_with counters m) j)) (new (output_name (manifest_with counters m) j)) (output_text i h [] (kind_at (manifest_with counters m) j))) →
       IsFrontOf i h (prefix_of m.name) old new
   cut_texts h old new each =
       let text : Output → List ℕ = output_text i h [] in
@@ -167,8 +167,8 @@ module _ (counters : Bool) (m : NetMember) (i : Input) (tree : tree_of i ≡ tre
       record { captures = λ q ext. all (output.Capture q) (is_there q ext) (low q ext); journal = all output.Journal refl tt }
 
   -- the same of files that are whole
-  pub whole_texts : (h : History) (old new : Files) → IsWhole (plan_with counters m) new (output_text i h []) → IsFrontOf i h (prefix_of m.name) old new
-  whole_texts h old new whole = cut_texts h old new (λ j lower. inr (length (output_text i h [] (kind_at (plan_with counters m) j)), whole.each j lower ∙ ap Some (sym (take_whole (output_text i h [] (kind_at (plan_with counters m) j))))))
+  pub whole_texts : (h : History) (old new : Files) → IsWhole (manifest_with counters m) new (output_text i h []) → IsFrontOf i h (prefix_of m.name) old new
+  whole_texts h old new whole = cut_texts h old new (λ j lower. inr (length (output_text i h [] (kind_at (manifest_with counters m) j)), whole.each j lower ∙ ap Some (sym (take_whole (output_text i h [] (kind_at (manifest_with counters m) j))))))
 
 -- every history is what was told of it, from nothing
 pub told_of : (h : History) → (more : List Event) × (h ≡ ([] then more))

@@ -28,13 +28,13 @@ use Rattle.exb_net_inputs.specs.Holding.{AreRead}
 use Rattle.exb_net_inputs.specs.Laws.{AreInputsOf}
 use Rattle.exb_net_inputs.specs.Opening.{ReadsMemberCapture}
 use Rattle.exb_outputs.specs.Apart.{AreApart}
-use Rattle.exb_outputs.specs.Plans.{Planned}
+use Rattle.exb_outputs.specs.Manifests.{Listed}
 use Rattle.exb_schedule.specs.Playing.{letters_in}
 use Rattle.exb_shelf.specs.Files.{Files, SameFiles}
 use Rattle.exb_shelf.specs.Shelf.{Id, Opens}
 use Rattle.exb_topology.specs.Sound.{IsSound}
 use Rattle.exb_net_run.specs.declared.desk.Desk.{Desk}
-use Rattle.exb_net_run.specs.Nets.{net_of, plan_with}
+use Rattle.exb_net_run.specs.Nets.{net_of, manifest_with}
 use Rattle.exb_net_run.specs.Setting.{CanPlay, IsPrepared, run_of}
 use Rattle.exb_net_run.specs.UnderWay.{AreOfRests, Begins, IsWithin, LeadsOn}
 use Rattle.exb_net_run.proofs.Held.{mapped_some}
@@ -78,16 +78,16 @@ opens_on ms a b c mine opens fresh named reads = record {
 
 -- they have no names of outputs
 module _ (counters : Bool) (ms : List NetMember) (ws : List Wire) (read : AreRead ms ws) (ids : ℕ → Id) where
-  apart_of : (c : ℕ) (k : NetMember) → slice_get ms c ≡ Some k → (mine : List ℕ) → AllByRecursion (λ i. ReadsMemberCapture ms (ids i)) mine → AreApart (plan_with counters k) ids mine
+  apart_of : (c : ℕ) (k : NetMember) → slice_get ms c ≡ Some k → (mine : List ℕ) → AllByRecursion (λ i. ReadsMemberCapture ms (ids i)) mine → AreApart (manifest_with counters k) ids mine
   apart_of c k so [] all = tt
   apart_of c k so (i ∷ mine) all =
       let own = all.0 in
       ((own.capture.name, own.capture.reads, λ j low. captures_apart ms read.written ws read.wired own.bridge own.member own.is_there own.capture.port own.capture.name own.capture.named counters c k so j low), apart_of c k so mine all.1)
 
-  pub reads_others : (mine : List ℕ) → AllByRecursion (λ i. ReadsMemberCapture ms (ids i)) mine → (b : ℕ) (p : Planned) → slice_get (map (plan_with counters) ms) b ≡ Some p → AreApart p ids mine
+  pub reads_others : (mine : List ℕ) → AllByRecursion (λ i. ReadsMemberCapture ms (ids i)) mine → (b : ℕ) (p : Listed) → slice_get (map (manifest_with counters) ms) b ≡ Some p → AreApart p ids mine
   reads_others mine all b p is =
-      let k = mapped_some (plan_with counters) (slice_get ms b) p (sym (slice_get-map (plan_with counters) ms b) ∙ is) in
-      subst (λ (z : Planned). AreApart z ids mine) k.2 (apart_of b k.0 k.1 mine all)
+      let k = mapped_some (manifest_with counters) (slice_get ms b) p (sym (slice_get-map (manifest_with counters) ms b) ∙ is) in
+      subst (λ (z : Listed). AreApart z ids mine) k.2 (apart_of b k.0 k.1 mine all)
 
 -- ---- letters and verdicts
 module _ (ms : List NetMember) (rests : List NetRest) (same : rests ≡ map rest_of ms) (sound : All (λ m. IsSound m.topology) ms) where

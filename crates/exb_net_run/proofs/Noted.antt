@@ -9,7 +9,7 @@ use Rattle.exb_network.specs.Networks.{Network}
 use Rattle.exb_schedule.specs.Worlds.{network_of}
 use Rattle.exb_shelf.specs.Files.{Files}
 use Rattle.exb_shelf.specs.Shelf.{Id}
-use Rattle.exb_outputs.specs.Plans.{Planned, kind_at, output_count, output_name}
+use Rattle.exb_outputs.specs.Manifests.{Listed, kind_at, output_count, output_name}
 use Rattle.exb_outputs.specs.Shelving.{OnlyWrites}
 use Rattle.exb_model.specs.Texts.{Counts}
 use Rattle.exb_text.specs.Tallies.{counts_of}
@@ -23,50 +23,50 @@ use Rattle.exb_net.specs.declared.node.Node.{Node}
 use Rattle.exb_net.specs.Marks.{AreQuietFrom}
 use Rattle.exb_net.proofs.Places.{is_there, set_here, set_there}
 use Rattle.exb_net_run.specs.declared.desk.Desk.{Desk}
-use Rattle.exb_net_run.specs.Desks.{AreAllFronts, AreFronts, AreMore, AreNoted, ArePlansApart, AreReady, AreWhole, IsMore, IsNoted, IsWhole, OnlyAllPlanned, OnlyWritesAll, plans_in, tallies_in, text_of}
+use Rattle.exb_net_run.specs.Desks.{AreAllFronts, AreFronts, AreMore, AreNoted, AreManifestsApart, AreReady, AreWhole, IsMore, IsNoted, IsWhole, OnlyAllListed, OnlyWritesAll, manifests_in, tallies_in, text_of}
 use Rattle.exb_net_run.proofs.Noting.{fronts_now, goes-on, goes-same, quiet-noted, texts_stay}
 
--- ---- plans of desks
-pub plan_at : (ds : List Desk) (b : ℕ) (d : Desk) → slice_get ds b ≡ Some d → slice_get (plans_in ds) b ≡ Some d.plan
-plan_at [] b d e = absurd (let z : None ≡ Some d = e in cc)
-plan_at (x ∷ ds) zero d e = ap (λ (y : Desk). Some y.plan) (same_Some x d e)
-plan_at (x ∷ ds) (suc b) d e = plan_at ds b d e
+-- ---- manifests of desks
+pub manifest_at : (ds : List Desk) (b : ℕ) (d : Desk) → slice_get ds b ≡ Some d → slice_get (manifests_in ds) b ≡ Some d.manifest
+manifest_at [] b d e = absurd (let z : None ≡ Some d = e in cc)
+manifest_at (x ∷ ds) zero d e = ap (λ (y : Desk). Some y.manifest) (same_Some x d e)
+manifest_at (x ∷ ds) (suc b) d e = manifest_at ds b d e
 
-pub desk_at : (ds : List Desk) (b : ℕ) (p : Planned) → slice_get (plans_in ds) b ≡ Some p → (d : Desk) × (slice_get ds b ≡ Some d) × (d.plan ≡ p)
+pub desk_at : (ds : List Desk) (b : ℕ) (p : Listed) → slice_get (manifests_in ds) b ≡ Some p → (d : Desk) × (slice_get ds b ≡ Some d) × (d.manifest ≡ p)
 desk_at [] b p e = absurd (let z : None ≡ Some p = e in cc)
-desk_at (x ∷ ds) zero p e = (x, refl, same_Some x.plan p e)
+desk_at (x ∷ ds) zero p e = (x, refl, same_Some x.manifest p e)
 desk_at (x ∷ ds) (suc b) p e = desk_at ds b p e
 
-pub plans_set : (ds : List Desk) (i : ℕ) (d e : Desk) → slice_get ds i ≡ Some d → e.plan ≡ d.plan → plans_in (set ds i e) ≡ plans_in ds
-plans_set [] i d e is same = refl
-plans_set (x ∷ ds) zero d e is same = ap (λ (p : Planned). p ∷ plans_in ds) (same ∙ ap (λ (y : Desk). y.plan) (sym (same_Some x d is)))
-plans_set (x ∷ ds) (suc i) d e is same = ap (λ (ps : List Planned). x.plan ∷ ps) (plans_set ds i d e is same)
+pub manifests_set : (ds : List Desk) (i : ℕ) (d e : Desk) → slice_get ds i ≡ Some d → e.manifest ≡ d.manifest → manifests_in (set ds i e) ≡ manifests_in ds
+manifests_set [] i d e is same = refl
+manifests_set (x ∷ ds) zero d e is same = ap (λ (p : Listed). p ∷ manifests_in ds) (same ∙ ap (λ (y : Desk). y.manifest) (sym (same_Some x d is)))
+manifests_set (x ∷ ds) (suc i) d e is same = ap (λ (ps : List Listed). x.manifest ∷ ps) (manifests_set ds i d e is same)
 
-pub plans-long : (ds : List Desk) → length (plans_in ds) ≡ length ds
-plans-long [] = refl
-plans-long (x ∷ ds) = ap suc (plans-long ds)
+pub manifests-long : (ds : List Desk) → length (manifests_in ds) ≡ length ds
+manifests-long [] = refl
+manifests-long (x ∷ ds) = ap suc (manifests-long ds)
 
-pub plans-same-long : (xs ys : List Desk) → plans_in xs ≡ plans_in ys → length xs ≡ length ys
-plans-same-long xs ys same = sym (plans-long xs) ∙ ap (λ (ps : List Planned). length ps) same ∙ plans-long ys
+pub manifests-same-long : (xs ys : List Desk) → manifests_in xs ≡ manifests_in ys → length xs ≡ length ys
+manifests-same-long xs ys same = sym (manifests-long xs) ∙ ap (λ (ps : List Listed). length ps) same ∙ manifests-long ys
 
--- ---- files of one plan and of another
-module _ (ds : List Desk) (apart : ArePlansApart (plans_in ds)) (i : ℕ) (d : Desk) (here : slice_get ds i ≡ Some d) where
-  -- those of another plan haven't changed
-  pub others_stay : (f g : Files) → ((m : List ℕ) → ((j : ℕ) → j < output_count d.plan → m ≢ output_name d.plan j) → g m ≡ f m) → (b : ℕ) (p : Planned) → slice_get (plans_in ds) b ≡ Some p → b ≢ i →
+-- ---- files of one manifest and of another
+module _ (ds : List Desk) (apart : AreManifestsApart (manifests_in ds)) (i : ℕ) (d : Desk) (here : slice_get ds i ≡ Some d) where
+  -- those of another manifest haven't changed
+  pub others_stay : (f g : Files) → ((m : List ℕ) → ((j : ℕ) → j < output_count d.manifest → m ≢ output_name d.manifest j) → g m ≡ f m) → (b : ℕ) (p : Listed) → slice_get (manifests_in ds) b ≡ Some p → b ≢ i →
       (j : ℕ) → j < output_count p → g (output_name p j) ≡ f (output_name p j)
-  others_stay f g only b p is ne j low = only (output_name p j) (λ k k_low e. apart.each b i p d.plan is (plan_at ds i d here) ne j k low k_low e)
+  others_stay f g only b p is ne j low = only (output_name p j) (λ k k_low e. apart.each b i p d.manifest is (manifest_at ds i d here) ne j k low k_low e)
 
   -- no file has changed but those of all
-  pub only_all : (f g : Files) → ((m : List ℕ) → ((j : ℕ) → j < output_count d.plan → m ≢ output_name d.plan j) → g m ≡ f m) → OnlyAllPlanned (plans_in ds) f g
-  only_all f g only m other = only m (λ j low. other i d.plan (plan_at ds i d here) j low)
+  pub only_all : (f g : Files) → ((m : List ℕ) → ((j : ℕ) → j < output_count d.manifest → m ≢ output_name d.manifest j) → g m ≡ f m) → OnlyAllListed (manifests_in ds) f g
+  only_all f g only m other = only m (λ j low. other i d.manifest (manifest_at ds i d here) j low)
 
-  pub only_one : (tells : Type 0) (f g h : Files) (a b c : ℕ → Id) → OnlyWritesAll tells (plans_in ds) f g a b → OnlyWrites tells d.plan g h b c → OnlyWritesAll tells (plans_in ds) f h a c
+  pub only_one : (tells : Type 0) (f g h : Files) (a b c : ℕ → Id) → OnlyWritesAll tells (manifests_in ds) f g a b → OnlyWrites tells d.manifest g h b c → OnlyWritesAll tells (manifests_in ds) f h a c
   only_one tells f g h a b c before one = record {
     others = λ t m other. only_all g h (one.others t) m other ∙ before.others t m other;
     kept = λ j. one.kept j ∙ before.kept j;
   }
 
-pub only_none : (tells : Type 0) (ps : List Planned) (f : Files) (a : ℕ → Id) → OnlyWritesAll tells ps f f a a
+pub only_none : (tells : Type 0) (ps : List Listed) (f : Files) (a : ℕ → Id) → OnlyWritesAll tells ps f f a a
 only_none tells ps f a = record { others = λ t m other. refl; kept = λ j. refl }
 
 -- ---- one desk after another
@@ -101,16 +101,16 @@ upto_other k b told dones ne = elim (cases_lt b k) [
 ]
 
 -- a desk that isn't written has what it had
-pub noted_stays : (tells : Type 0) (f g : Files) (d : Desk) (done : Stepped) → (tells → (j : ℕ) → j < output_count d.plan → g (output_name d.plan j) ≡ f (output_name d.plan j)) → IsNoted tells f d done → IsNoted tells g d done
-noted_stays tells f g d done same is = record { counted = is.counted; texts = λ t. texts_stay d.plan (pieces_of d.outputs) f g (text_of done []) (same t) (is.texts t); sent = is.sent }
+pub noted_stays : (tells : Type 0) (f g : Files) (d : Desk) (done : Stepped) → (tells → (j : ℕ) → j < output_count d.manifest → g (output_name d.manifest j) ≡ f (output_name d.manifest j)) → IsNoted tells f d done → IsNoted tells g d done
+noted_stays tells f g d done same is = record { counted = is.counted; texts = λ t. texts_stay d.manifest (pieces_of d.outputs) f g (text_of done []) (same t) (is.texts t); sent = is.sent }
 
 -- what is noted up to a place, at one more
-pub noted_more : (tells : Type 0) (f g : Files) (ds : List Desk) (i : ℕ) (d e : Desk) (told dones : Dones) → ArePlansApart (plans_in ds) → slice_get ds i ≡ Some d →
-    (tells → (m : List ℕ) → ((j : ℕ) → j < output_count d.plan → m ≢ output_name d.plan j) → g m ≡ f m) → AreNoted tells f ds (upto i told dones) → (IsNoted tells f d (told i) → IsNoted tells g e (dones i)) →
+pub noted_more : (tells : Type 0) (f g : Files) (ds : List Desk) (i : ℕ) (d e : Desk) (told dones : Dones) → AreManifestsApart (manifests_in ds) → slice_get ds i ≡ Some d →
+    (tells → (m : List ℕ) → ((j : ℕ) → j < output_count d.manifest → m ≢ output_name d.manifest j) → g m ≡ f m) → AreNoted tells f ds (upto i told dones) → (IsNoted tells f d (told i) → IsNoted tells g e (dones i)) →
     AreNoted tells g (set ds i e) (upto (i + 1) told dones)
 noted_more tells f g ds i d e told dones apart here only noted own = record {
   each = each_but (λ b x. IsNoted tells f x (upto i told dones b)) (λ b x. IsNoted tells g x (upto (i + 1) told dones b)) ds i d e here noted.each
-      (λ b x ne is old. subst (IsNoted tells g x) (sym (upto_other i b told dones ne)) (noted_stays tells f g x (upto i told dones b) (λ t. others_stay ds apart i d here f g (only t) b x.plan (plan_at ds b x is) ne) old))
+      (λ b x ne is old. subst (IsNoted tells g x) (sym (upto_other i b told dones ne)) (noted_stays tells f g x (upto i told dones b) (λ t. others_stay ds apart i d here f g (only t) b x.manifest (manifest_at ds b x is) ne) old))
       (subst (IsNoted tells g e) (sym (upto_low (i + 1) i told dones (omega arith))) (own (subst (IsNoted tells f d) (upto_high i i told dones (omega arith)) (noted.each i d here))));
 }
 
@@ -132,9 +132,9 @@ noted_skip nodes tells f ds i j told dones high within quiet more noted = record
 }
 
 -- and each desk can be written
-pub ready_more : (given ids : ℕ → Id) (ds : List Desk) (i : ℕ) (d e : Desk) → slice_get ds i ≡ Some d → ((j : ℕ) → ids j ≡ given j) → AreReady given ds → IsReady e.plan ids e.outputs → AreReady ids (set ds i e)
+pub ready_more : (given ids : ℕ → Id) (ds : List Desk) (i : ℕ) (d e : Desk) → slice_get ds i ≡ Some d → ((j : ℕ) → ids j ≡ given j) → AreReady given ds → IsReady e.manifest ids e.outputs → AreReady ids (set ds i e)
 ready_more given ids ds i d e here kept ready own = record {
-  each = each_but (λ b x. IsReady x.plan given x.outputs) (λ b x. IsReady x.plan ids x.outputs) ds i d e here ready.each
+  each = each_but (λ b x. IsReady x.manifest given x.outputs) (λ b x. IsReady x.manifest ids x.outputs) ds i d e here ready.each
       (λ b x ne is old. record { files = old.files; named = λ j low. kept _ ∙ old.named j low }) own;
 }
 
@@ -155,23 +155,23 @@ goes-upto k b told dones n more o = elim (cases_lt b k) [
   | inr high ↦ subst (λ (d : Stepped). GoesOnAs (text_of d []) (text_of (dones b) []) o) (sym (upto_high k b told dones (omega (arith, high)))) (goes-on (told b) (dones b) n more o)
 ]
 
-pub fronts_more : (f g : Files) (ds : List Desk) (i : ℕ) (d : Desk) (told dones : Dones) → ArePlansApart (plans_in ds) → slice_get ds i ≡ Some d → ((m : List ℕ) → ((j : ℕ) → j < output_count d.plan → m ≢ output_name d.plan j) → g m ≡ f m) →
-    ((b : ℕ) (k : Desk) → slice_get ds b ≡ Some k → HasTexts k.plan (pieces_of k.outputs) f f (text_of (upto i told dones b) [])) → AllGoOn ds told dones → AreFronts d.plan g (dones i) → AreAllFronts (plans_in ds) g dones
+pub fronts_more : (f g : Files) (ds : List Desk) (i : ℕ) (d : Desk) (told dones : Dones) → AreManifestsApart (manifests_in ds) → slice_get ds i ≡ Some d → ((m : List ℕ) → ((j : ℕ) → j < output_count d.manifest → m ≢ output_name d.manifest j) → g m ≡ f m) →
+    ((b : ℕ) (k : Desk) → slice_get ds b ≡ Some k → HasTexts k.manifest (pieces_of k.outputs) f f (text_of (upto i told dones b) [])) → AllGoOn ds told dones → AreFronts d.manifest g (dones i) → AreAllFronts (manifests_in ds) g dones
 fronts_more f g ds i d told dones apart here only texts goes own = record {
   each = λ b q is.
       let k = desk_at ds b q is in
       elim (cases_eq b i) [
         | inl same ↦
             let there : d ≡ k.0 = same_Some d k.0 (sym here ∙ subst (λ (z : ℕ). slice_get ds z ≡ Some k.0) same k.1) in
-            subst (λ (z : Planned). AreFronts z g (dones b)) (ap (λ (y : Desk). y.plan) there ∙ k.2) (subst (λ (z : ℕ). AreFronts d.plan g (dones z)) (sym same) own)
+            subst (λ (z : Listed). AreFronts z g (dones b)) (ap (λ (y : Desk). y.manifest) there ∙ k.2) (subst (λ (z : ℕ). AreFronts d.manifest g (dones z)) (sym same) own)
         | inr ne ↦
             let on = goes b k.0 k.1 in
-            subst (λ (z : Planned). AreFronts z g (dones b)) k.2
+            subst (λ (z : Listed). AreFronts z g (dones b)) k.2
             (record {
               counts = [];
               each = λ j low.
-                  let r = fronts_now k.0.plan (pieces_of k.0.outputs) f (text_of (upto i told dones b) []) (text_of (dones b) []) (goes-upto i b told dones on.0 on.1) (texts b k.0 k.1) j low in
-                  (r.0, others_stay ds apart i d here f g only b k.0.plan (plan_at ds b k.0 k.1) ne j low ∙ r.1);
+                  let r = fronts_now k.0.manifest (pieces_of k.0.outputs) f (text_of (upto i told dones b) []) (text_of (dones b) []) (goes-upto i b told dones on.0 on.1) (texts b k.0 k.1) j low in
+                  (r.0, others_stay ds apart i d here f g only b k.0.manifest (manifest_at ds b k.0 k.1) ne j low ∙ r.1);
             })
       ];
 }
@@ -182,26 +182,26 @@ tallies_set [] i d e is same = refl
 tallies_set (x ∷ ds) zero d e is same = ap (λ (c : Counts). c ∷ tallies_in ds) (ap (λ (c : Counted). counts_of c.tally) same ∙ ap (λ (y : Desk). counts_of y.counted.tally) (sym (same_Some x d is)))
 tallies_set (x ∷ ds) (suc i) d e is same = ap (λ (cs : List Counts). counts_of x.counted.tally ∷ cs) (tallies_set ds i d e is same)
 
-pub whole_stays : (f g : Files) (p : Planned) (text : Output → List ℕ) → ((j : ℕ) → j < output_count p → g (output_name p j) ≡ f (output_name p j)) → IsWhole p f text → IsWhole p g text
+pub whole_stays : (f g : Files) (p : Listed) (text : Output → List ℕ) → ((j : ℕ) → j < output_count p → g (output_name p j) ≡ f (output_name p j)) → IsWhole p f text → IsWhole p g text
 whole_stays f g p text same whole = record { each = λ j low. same j low ∙ whole.each j low }
 
 take-whole : (xs : List ℕ) → xs ≡ take (length xs) xs
 take-whole [] = refl
 take-whole (x ∷ xs) = ap (λ (ys : List ℕ). x ∷ ys) (take-whole xs)
 
-pub whole_fronts : (f : Files) (p : Planned) (done : Stepped) (counts : List ℕ) → IsWhole p f (text_of done counts) → AreFronts p f done
+pub whole_fronts : (f : Files) (p : Listed) (done : Stepped) (counts : List ℕ) → IsWhole p f (text_of done counts) → AreFronts p f done
 whole_fronts f p done counts whole = record { counts = counts; each = λ j low. (length (text_of done counts (kind_at p j)), whole.each j low ∙ ap Some (take-whole (text_of done counts (kind_at p j)))) }
 
-pub now_fronts : (f : Files) (d : Desk) (done : Stepped) → HasTexts d.plan (pieces_of d.outputs) f f (text_of done []) → AreFronts d.plan f done
-now_fronts f d done texts = record { counts = []; each = fronts_now d.plan (pieces_of d.outputs) f (text_of done []) (text_of done []) (goes-same done) texts }
+pub now_fronts : (f : Files) (d : Desk) (done : Stepped) → HasTexts d.manifest (pieces_of d.outputs) f f (text_of done []) → AreFronts d.manifest f done
+now_fronts f d done texts = record { counts = []; each = fronts_now d.manifest (pieces_of d.outputs) f (text_of done []) (text_of done []) (goes-same done) texts }
 
-pub fronts_stay : (f g : Files) (p : Planned) (done : Stepped) → ((j : ℕ) → j < output_count p → g (output_name p j) ≡ f (output_name p j)) → AreFronts p f done → AreFronts p g done
+pub fronts_stay : (f g : Files) (p : Listed) (done : Stepped) → ((j : ℕ) → j < output_count p → g (output_name p j) ≡ f (output_name p j)) → AreFronts p f done → AreFronts p g done
 fronts_stay f g p done same fronts = record { counts = fronts.counts; each = λ j low. (let r = fronts.each j low in (r.0, same j low ∙ r.1)) }
 
 -- all of them
-pub whole_all_fronts : (f : Files) (ds : List Desk) (dones : Dones) → AreWhole ds f dones → AreAllFronts (plans_in ds) f dones
+pub whole_all_fronts : (f : Files) (ds : List Desk) (dones : Dones) → AreWhole ds f dones → AreAllFronts (manifests_in ds) f dones
 whole_all_fronts f ds dones whole = record {
   each = λ b q is.
       let k = desk_at ds b q is in
-      subst (λ (z : Planned). AreFronts z f (dones b)) k.2 (whole_fronts f k.0.plan (dones b) (counts_text k.0.plan k.0.counted.ports k.0.outputs) (whole.each b k.0 k.1));
+      subst (λ (z : Listed). AreFronts z f (dones b)) k.2 (whole_fronts f k.0.manifest (dones b) (counts_text k.0.manifest k.0.counted.ports k.0.outputs) (whole.each b k.0 k.1));
 }

@@ -12,7 +12,7 @@ use Rattle.exb_resting.specs.Flight.Showing.{left_at}
 use Rattle.exb_shelf.specs.Files.{Files}
 use Rattle.exb_text.specs.declared.output.Output.{Output}
 use Rattle.exb_text.specs.declared.output.Output.TheVariants as output
-use Rattle.exb_outputs.specs.Plans.{Planned, kind_at, output_count, output_name}
+use Rattle.exb_outputs.specs.Manifests.{Listed, kind_at, output_count, output_name}
 use Rattle.exb_outputs.specs.Sent.{HasSent}
 use Rattle.exb_outputs.specs.Writing.{AreCut, HasTexts, lines_of, pieces_of, with_more}
 use Rattle.exb_outputs.proofs.Cutting.{GoesOnAs}
@@ -24,15 +24,15 @@ use Rattle.exb_writers.proofs.Telling.{left_at-append, text-more}
 use Rattle.exb_net_run.specs.declared.desk.Desk.{Desk}
 use Rattle.exb_net_run.specs.Desks.{IsMore, IsNoted, text_of}
 
--- ---- files of one plan, whatever the others are
--- the files of a plan have their texts, and others are as they are
-pub own_texts : (plan : Planned) (pieces : List (List ℕ)) (f g : Files) (text : Output → List ℕ) → HasTexts plan pieces f g text → HasTexts plan pieces g g text
-own_texts plan pieces f g text held = record { each = held.each; others = λ m away. refl }
+-- ---- files of one manifest, whatever the others are
+-- the files of a manifest have their texts, and others are as they are
+pub own_texts : (manifest : Listed) (pieces : List (List ℕ)) (f g : Files) (text : Output → List ℕ) → HasTexts manifest pieces f g text → HasTexts manifest pieces g g text
+own_texts manifest pieces f g text held = record { each = held.each; others = λ m away. refl }
 
--- so they have where the files of the plan haven't changed
-pub texts_stay : (plan : Planned) (pieces : List (List ℕ)) (f g : Files) (text : Output → List ℕ) → ((j : ℕ) → j < output_count plan → g (output_name plan j) ≡ f (output_name plan j)) →
-    HasTexts plan pieces f f text → HasTexts plan pieces g g text
-texts_stay plan pieces f g text same held = record {
+-- so they have where the files of the manifest haven't changed
+pub texts_stay : (manifest : Listed) (pieces : List (List ℕ)) (f g : Files) (text : Output → List ℕ) → ((j : ℕ) → j < output_count manifest → g (output_name manifest j) ≡ f (output_name manifest j)) →
+    HasTexts manifest pieces f f text → HasTexts manifest pieces g g text
+texts_stay manifest pieces f g text same held = record {
   each = λ j low. let now = held.each j low in (now.0, same j low ∙ now.1, now.2);
   others = λ m away. refl;
 }
@@ -42,19 +42,19 @@ first_part [] ys = (0, refl)
 first_part (x ∷ xs) ys = (let r = first_part xs ys in (suc r.0, ap (λ (zs : List ℕ). x ∷ zs) r.1))
 
 -- they hold fronts of texts that go on
-pub fronts_now : (plan : Planned) (pieces : List (List ℕ)) (f : Files) (text whole : Output → List ℕ) → ((o : Output) → GoesOnAs text whole o) → HasTexts plan pieces f f text →
-    (j : ℕ) → j < output_count plan → (q : ℕ) × (f (output_name plan j) ≡ Some (take q (whole (kind_at plan j))))
-fronts_now plan pieces f text whole goes held j low =
+pub fronts_now : (manifest : Listed) (pieces : List (List ℕ)) (f : Files) (text whole : Output → List ℕ) → ((o : Output) → GoesOnAs text whole o) → HasTexts manifest pieces f f text →
+    (j : ℕ) → j < output_count manifest → (q : ℕ) × (f (output_name manifest j) ≡ Some (take q (whole (kind_at manifest j))))
+fronts_now manifest pieces f text whole goes held j low =
     let now = held.each j low in
-    let on = goes (kind_at plan j) in
+    let on = goes (kind_at manifest j) in
     let r = first_part now.0 (get_or pieces j [] ++ on.0) in
-    let same : now.0 ++ (get_or pieces j [] ++ on.0) ≡ whole (kind_at plan j) = sym (append_assoc now.0 (get_or pieces j []) on.0) ∙ ap (λ (xs : List ℕ). xs ++ on.0) now.2 ∙ sym on.1 in
+    let same : now.0 ++ (get_or pieces j [] ++ on.0) ≡ whole (kind_at manifest j) = sym (append_assoc now.0 (get_or pieces j []) on.0) ∙ ap (λ (xs : List ℕ). xs ++ on.0) now.2 ∙ sym on.1 in
     (r.0, now.1 ∙ ap Some (r.1 ∙ ap (take r.0) same))
 
-pub fronts_cut : (plan : Planned) (pieces : List (List ℕ)) (f g : Files) (text whole : Output → List ℕ) → ((o : Output) → GoesOnAs text whole o) → HasTexts plan pieces f f text → AreCut plan f g whole →
-    (j : ℕ) → j < output_count plan → (q : ℕ) × (g (output_name plan j) ≡ Some (take q (whole (kind_at plan j))))
-fronts_cut plan pieces f g text whole goes held cut j low = elim (cut.each j low) [
-  | inl same ↦ (let r = fronts_now plan pieces f text whole goes held j low in (r.0, same ∙ r.1))
+pub fronts_cut : (manifest : Listed) (pieces : List (List ℕ)) (f g : Files) (text whole : Output → List ℕ) → ((o : Output) → GoesOnAs text whole o) → HasTexts manifest pieces f f text → AreCut manifest f g whole →
+    (j : ℕ) → j < output_count manifest → (q : ℕ) × (g (output_name manifest j) ≡ Some (take q (whole (kind_at manifest j))))
+fronts_cut manifest pieces f g text whole goes held cut j low = elim (cut.each j low) [
+  | inl same ↦ (let r = fronts_now manifest pieces f text whole goes held j low in (r.0, same ∙ r.1))
   | inr front ↦ front
 ]
 
@@ -82,11 +82,11 @@ module _ (told done : Stepped) (n : Network) (more : IsMore told done n) where
   pub left-on : (q : ℕ) → left_at q told.left ++ left_at q (all_left n.log.left) ≡ left_at q done.left
   left-on q = sym (left_at-append q told.left (all_left n.log.left)) ∙ ap (left_at q) (sym more.left)
 
-  pub counted-as : (plan : Planned) (c : Counted) → IsCounted plan c (told.events ++ n.log.events) (told.passed ++ n.log.passed) (told.left ++ all_left n.log.left) → IsCounted plan c done.events done.passed done.left
-  counted-as plan c is =
-      subst (λ (es : List Event). IsCounted plan c es done.passed done.left) (sym more.events)
-      (subst (λ (ps : List Bool). IsCounted plan c (told.events ++ n.log.events) ps done.left) (sym more.passed)
-      (subst (λ (xs : List Leaving). IsCounted plan c (told.events ++ n.log.events) (told.passed ++ n.log.passed) xs) (sym more.left) is))
+  pub counted-as : (manifest : Listed) (c : Counted) → IsCounted manifest c (told.events ++ n.log.events) (told.passed ++ n.log.passed) (told.left ++ all_left n.log.left) → IsCounted manifest c done.events done.passed done.left
+  counted-as manifest c is =
+      subst (λ (es : List Event). IsCounted manifest c es done.passed done.left) (sym more.events)
+      (subst (λ (ps : List Bool). IsCounted manifest c (told.events ++ n.log.events) ps done.left) (sym more.passed)
+      (subst (λ (xs : List Leaving). IsCounted manifest c (told.events ++ n.log.events) (told.passed ++ n.log.passed) xs) (sym more.left) is))
 
   -- where it is nothing
   pub quiet-noted : (tells : Type 0) (f : Files) (d : Desk) → IsQuiet n → IsNoted tells f d told → IsNoted tells f d done
@@ -96,12 +96,12 @@ module _ (told done : Stepped) (n : Network) (more : IsMore told done n) where
       let left : told.left ≡ done.left = sym (more.left ∙ ap (λ (xs : List Left). told.left ++ all_left xs) quiet.left ∙ append-nil told.left) in
       record {
         counted =
-            subst (λ (es : List Event). IsCounted d.plan d.counted es done.passed done.left) events
-            (subst (λ (ps : List Bool). IsCounted d.plan d.counted told.events ps done.left) passed (subst (λ (xs : List Leaving). IsCounted d.plan d.counted told.events told.passed xs) left is.counted));
+            subst (λ (es : List Event). IsCounted d.manifest d.counted es done.passed done.left) events
+            (subst (λ (ps : List Bool). IsCounted d.manifest d.counted told.events ps done.left) passed (subst (λ (xs : List Leaving). IsCounted d.manifest d.counted told.events told.passed xs) left is.counted));
         texts = λ t.
-            subst (λ (es : List Event). HasTexts d.plan (pieces_of d.outputs) f f (text_so_far es done.left [] [])) events
-            (subst (λ (xs : List Leaving). HasTexts d.plan (pieces_of d.outputs) f f (text_so_far told.events xs [] [])) left (is.texts t));
-        sent = subst (λ (xs : List Leaving). HasSent d.plan d.outputs (λ q. left_at q xs)) left is.sent;
+            subst (λ (es : List Event). HasTexts d.manifest (pieces_of d.outputs) f f (text_so_far es done.left [] [])) events
+            (subst (λ (xs : List Leaving). HasTexts d.manifest (pieces_of d.outputs) f f (text_so_far told.events xs [] [])) left (is.texts t));
+        sent = subst (λ (xs : List Leaving). HasSent d.manifest d.outputs (λ q. left_at q xs)) left is.sent;
       }
 
 -- with its counters

@@ -5,7 +5,7 @@ use Rattle.exb_merge.specs.declared.programme.Programme.{Programme}
 use Rattle.exb_nets.specs.Order.{AreTimely}
 use Rattle.exb_net.specs.declared.net.Net.{Net as Bridges}
 use Rattle.exb_net.specs.Nets.{IsBegun, no_dones}
-use Rattle.exb_outputs.specs.Plans.{Planned, output_name}
+use Rattle.exb_outputs.specs.Manifests.{Listed, output_name}
 use Rattle.exb_shelf.specs.Files.{Files, SameFiles}
 use Rattle.exb_shelf.specs.Shelf.{Id, Opens}
 use Rattle.exb_wiring.specs.Playing.{Dones}
@@ -21,8 +21,8 @@ module _ (tells : Type 0) (r : NetRun) (f g : Files) (given ids : ℕ → Id) (d
   pub desks_stay : AreDesks tells r f given desks → AreDesks tells r g ids desks
   desks_stay d =
       record {
-        ready = record { each = λ b x is. ready_beside P x.plan given ids x.outputs opens (d.ready.each b x is) };
-        plans = d.plans;
+        ready = record { each = λ b x is. ready_beside P x.manifest given ids x.outputs opens (d.ready.each b x is) };
+        manifests = d.manifests;
         apart = d.apart;
         whole = d.whole;
         bridges = d.bridges;
@@ -32,9 +32,9 @@ module _ (tells : Type 0) (r : NetRun) (f g : Files) (given ids : ℕ → Id) (d
       }
 
   pub noted_same : (dones : Dones) → AreNoted tells f desks dones → AreNoted tells g desks dones
-  noted_same dones n = record { each = λ b x is. noted_stays tells f g x (dones b) (λ t j low. same (output_name x.plan j)) (n.each b x is) }
+  noted_same dones n = record { each = λ b x is. noted_stays tells f g x (dones b) (λ t j low. same (output_name x.manifest j)) (n.each b x is) }
 
-  pub can_play : {V : Type 0} {X : V → Type 0} (x : Bridges V X) (ps : List Programme) → AreTimely r.net → IsBegun r.net x → AreDesks tells r f given desks → AreNoted tells f desks (no_dones r.net) → Begins r.net ps → ReadsOthers r.plans ids ps →
+  pub can_play : {V : Type 0} {X : V → Type 0} (x : Bridges V X) (ps : List Programme) → AreTimely r.net → IsBegun r.net x → AreDesks tells r f given desks → AreNoted tells f desks (no_dones r.net) → Begins r.net ps → ReadsOthers r.manifests ids ps →
       (tells → LeadsOn r.net [] g ids ps) → CanPlay tells r g ids x desks ps
   can_play x ps timely begun set noted begins apart leads =
       record { timely = timely; begun = begun; set = desks_stay set; noted = noted_same (no_dones r.net) noted; begins = begins; apart = apart; leads = leads }
@@ -49,7 +49,7 @@ cut_unopened tells r now given desks t set noted =
       others = set.files t;
       fronts = record {
         each = λ b p is.
-            (let d = desk_at desks b p (ap (λ (ps : List Planned). slice_get ps b) set.plans ∙ is) in
-            subst (λ (z : Planned). AreFronts z now (no_dones r.net b)) d.2 (now_fronts now d.0 (no_dones r.net b) ((noted.each b d.0 d.1).texts t)));
+            (let d = desk_at desks b p (ap (λ (ps : List Listed). slice_get ps b) set.manifests ∙ is) in
+            subst (λ (z : Listed). AreFronts z now (no_dones r.net b)) d.2 (now_fronts now d.0 (no_dones r.net b) ((noted.each b d.0 d.1).texts t)));
       };
     })

@@ -25,7 +25,7 @@ use Rattle.exb_net_file.specs.Sound.{BridgesWriteApart, IsInputOf, IsMadeOf}
 use Rattle.exb_net_file.proofs.Nets.{past}
 use Rattle.exb_net_inputs.specs.Checking.{AreMembersChecked}
 use Rattle.exb_net_inputs.specs.Holding.{AreRead}
-use Rattle.exb_outputs.specs.Plans.{Planned}
+use Rattle.exb_outputs.specs.Manifests.{Listed}
 use Rattle.exb_outputs.specs.Writing.{first_text, pieces_of}
 use Rattle.exb_outputs.proofs.OutputLemmas.{kinds_same}
 use Rattle.exb_shelf.specs.Files.{Files}
@@ -34,12 +34,12 @@ use Rattle.exb_topology.proofs.Checking.{refuse_ok}
 use Rattle.exb_writers.proofs.Telling.{text-first}
 use Rattle.exb_net_run.specs.declared.desk.Desk.{Desk}
 use Rattle.exb_net_run.specs.Desks.{IsNoted, text_of}
-use Rattle.exb_net_run.specs.Nets.{input_in, net_of, plan_with}
+use Rattle.exb_net_run.specs.Nets.{input_in, net_of, manifest_with}
 use Rattle.exb_net_run.specs.Setting.{AreSet, IsPrepared, IsSet, run_of}
 use Rattle.exb_net_run.specs.UnderWay.{AreDesks}
 use Rattle.exb_net_run.proofs.Ends.{HasTrees}
 use Rattle.exb_net_run.proofs.Held.{mapped_some}
-use Rattle.exb_net_run.proofs.Sets.{plans_apart}
+use Rattle.exb_net_run.proofs.Sets.{manifests_apart}
 
 -- ---- the net of bridges that were read
 module _ (ms : List NetMember) (ws : List Wire) (file : Files) where
@@ -83,15 +83,15 @@ sum_mapped f g (x ∷ xs) = sum_by-cons f (g x) (map g xs) ∙ (ap (λ (k : ℕ)
 few_ports : (ms : List NetMember) (ws : List Wire) → AreRead ms ws → ports_together ms ≤ 4160
 few_ports ms ws read = ltb-false 4160 (ports_together ms) (refuse_ok (nat_lt 4160 (ports_together ms)) fault.Range (codes "bridge") (past ms read.written ws read.wired).few)
 
-ports_are : (counters : Bool) (ms : List NetMember) → sum_by (λ (p : Planned). length (external_ports p.tree)) (map (plan_with counters) ms) ≡ ports_together ms
+ports_are : (counters : Bool) (ms : List NetMember) → sum_by (λ (p : Listed). length (external_ports p.tree)) (map (manifest_with counters) ms) ≡ ports_together ms
 unfolding ports_together
-ports_are counters ms = sum_mapped (λ (p : Planned). length (external_ports p.tree)) (plan_with counters) ms
+ports_are counters ms = sum_mapped (λ (p : Listed). length (external_ports p.tree)) (manifest_with counters) ms
 
 noted_first : (tells : Type 0) (now : Files) (ids : ℕ → Id) (d : Desk) (n : Net) (b : ℕ) → IsSet tells now ids d → IsNoted tells now d (no_dones n b)
 noted_first tells now ids d n b set =
     record {
       counted = set.counted;
-      texts = λ t. kinds_same d.plan now now (pieces_of d.outputs) first_text (text_of (no_dones n b) []) (λ o. text-first o) (set.texts t);
+      texts = λ t. kinds_same d.manifest now now (pieces_of d.outputs) first_text (text_of (no_dones n b) []) (λ o. text-first o) (set.texts t);
       sent = set.sent;
     }
 
@@ -99,23 +99,23 @@ module _ (law : BridgesWriteApart) (tells : Type 0) (counters : Bool) (ms : List
   valid_at : AreRead ms ws → (b : ℕ) (m : NetMember) → slice_get ms b ≡ Some m → IsValid m.topology.setup
   valid_at read b m is = subst (λ (x : NetMember). IsValid x.topology.setup) (get_or_from_slice_get ms b m m is) (read.valid b m (slice_get_within ms b m is))
 
-  desks_are : AreRead ms ws → AreSet tells (map (plan_with counters) ms) before now ids desks → AreDesks tells (run_of counters ms ws now before) now ids desks
+  desks_are : AreRead ms ws → AreSet tells (map (manifest_with counters) ms) before now ids desks → AreDesks tells (run_of counters ms ws now before) now ids desks
   desks_are read set =
       record {
         ready = record { each = λ b d is. (set.each b d is).ready };
-        plans = set.plans;
-        apart = plans_apart law counters ms read.names read.apart;
-        whole = length-map ms (plan_with counters);
+        manifests = set.manifests;
+        apart = manifests_apart law counters ms read.names read.apart;
+        whole = length-map ms (manifest_with counters);
         bridges = read.few;
         each = λ b p is.
-            (let m = mapped_some (plan_with counters) (slice_get ms b) p (sym (slice_get-map (plan_with counters) ms b) ∙ is) in
-            subst (λ (z : Planned). (z.tree ≡ tree_in (net_of ms ws now) b) × (z.options.trace ≡ false) × IsTree z.tree) m.2
+            (let m = mapped_some (manifest_with counters) (slice_get ms b) p (sym (slice_get-map (manifest_with counters) ms b) ∙ is) in
+            subst (λ (z : Listed). (z.tree ≡ tree_in (net_of ms ws now) b) × (z.options.trace ≡ false) × IsTree z.tree) m.2
             (sym ((trees_are ms ws now).tree b m.0 m.1), refl, (valid_at read b m.0 m.1).tree));
         ports = (let few = few_ports ms ws read in let same = ports_are counters ms in omega (arith, few, same));
         files = set.others;
       }
 
-  pub prepared : IsTakenApart ms ws parts → AreRead ms ws → AreMembersChecked tells ms now checked → AreSet tells (map (plan_with counters) ms) before now ids desks →
+  pub prepared : IsTakenApart ms ws parts → AreRead ms ws → AreMembersChecked tells ms now checked → AreSet tells (map (manifest_with counters) ms) before now ids desks →
       IsPrepared tells counters ms ws parts checked before now ids desks
   prepared taken read all set =
       record {

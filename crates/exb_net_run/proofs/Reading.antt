@@ -24,7 +24,7 @@ use Rattle.exb_net_file.specs.declared.members.NetMember.{NetMember}
 use Rattle.exb_net_file.specs.declared.rows.NetWire.{NetWire}
 use Rattle.exb_net_file.specs.Members.{files_ok, is_output_of_net, outputs_in, ports_together, prefix_of, tree_in}
 use Rattle.exb_net_file.specs.Wires.{wires_from, wires_of}
-use Rattle.exb_outputs.specs.Plans.{IsMade, Planned, kind_at, output_count, output_name, place_in}
+use Rattle.exb_outputs.specs.Manifests.{IsMade, Listed, kind_at, output_count, output_name, place_in}
 use Rattle.exb_outputs.proofs.ByKind.{kind_is}
 use Rattle.exb_outputs.proofs.Places.{place_low, port_of_place}
 use Rattle.exb_shelf.specs.Files.{Files, bytes_of}
@@ -38,8 +38,8 @@ use Rattle.exb_topology.proofs.Checking.{ok_at, refuse_ok}
 use Rattle.exb_inputs.proofs.FaultLemmas.{name_by}
 use Rattle.exb_net_inputs.specs.Checking.{AreMembersChecked}
 use Rattle.exb_net_inputs.specs.Holding.{AreRead}
-use Rattle.exb_net_run.specs.Desks.{OnlyAllPlanned}
-use Rattle.exb_net_run.specs.Nets.{input_in, net_of, plan_with}
+use Rattle.exb_net_run.specs.Desks.{OnlyAllListed}
+use Rattle.exb_net_run.specs.Nets.{input_in, net_of, manifest_with}
 use Rattle.exb_net_run.proofs.Held.{mapped_some}
 
 -- ---- names
@@ -65,12 +65,12 @@ by_kinds P (p ∷ ports) all =
     let rest = by_kinds P ports (λ k d low. all (suc k) d (omega (arith, low))) in
     (all_cons (λ q. P (output.Capture q)) p ports (all 0 output.Journal (omega arith)) rest.0, rest.1)
 
-of_kind : (plan : Planned) (P : Output → Type 0) → All P (all_outputs plan.tree) → (o : Output) → IsMade plan.options plan.tree o → IsOfPort o → P o
-of_kind plan P all (output.Capture q) made low =
-    subst (λ (k : ℕ). P (output.Capture k)) (port_of_place plan q low made) ((by_kinds P (external_ports plan.tree) all).0 (place_in plan.tree q) 0 (place_low plan q low made))
-of_kind plan P all output.Journal made low = (by_kinds P (external_ports plan.tree) all).1.0
-of_kind plan P all output.Trace made low = (by_kinds P (external_ports plan.tree) all).1.1
-of_kind plan P all output.Counters made low = (by_kinds P (external_ports plan.tree) all).1.2
+of_kind : (manifest : Listed) (P : Output → Type 0) → All P (all_outputs manifest.tree) → (o : Output) → IsMade manifest.options manifest.tree o → IsOfPort o → P o
+of_kind manifest P all (output.Capture q) made low =
+    subst (λ (k : ℕ). P (output.Capture k)) (port_of_place manifest q low made) ((by_kinds P (external_ports manifest.tree) all).0 (place_in manifest.tree q) 0 (place_low manifest q low made))
+of_kind manifest P all output.Journal made low = (by_kinds P (external_ports manifest.tree) all).1.0
+of_kind manifest P all output.Trace made low = (by_kinds P (external_ports manifest.tree) all).1.1
+of_kind manifest P all output.Counters made low = (by_kinds P (external_ports manifest.tree) all).1.2
 
 -- ---- of a net that was read
 checked_files : (ms : List NetMember) (ws : List NetWire) (xs : List Wire) → wires_of ms ws ≡ Ok xs → each_ok (files_ok ms) ms 0 ms ≡ Ok tt
@@ -82,7 +82,7 @@ checked_files ms ws xs h =
 
 -- no file that some bridge writes has the name of a capture
 pub captures_apart : (ms : List NetMember) (ws : List NetWire) (xs : List Wire) → wires_of ms ws ≡ Ok xs → (b : ℕ) (m : NetMember) → slice_get ms b ≡ Some m → (q : ℕ) (name : List ℕ) → name_of m.topology.captures q ≡ Some name →
-    (counters : Bool) (c : ℕ) (k : NetMember) → slice_get ms c ≡ Some k → (j : ℕ) → j < output_count (plan_with counters k) → name ≢ output_name (plan_with counters k) j
+    (counters : Bool) (c : ℕ) (k : NetMember) → slice_get ms c ≡ Some k → (j : ℕ) → j < output_count (manifest_with counters k) → name ≢ output_name (manifest_with counters k) j
 captures_apart ms ws xs h b m is q name named counters c k so j low =
     let passed : files_ok ms (take b ms) b m ≡ Ok tt =
     subst (λ (x : NetMember). files_ok ms (take b ms) b x ≡ Ok tt) (get_or_from_slice_get ms b m m is) (ok_at (files_ok ms) ms (checked_files ms ws xs h) b m (slice_get_within ms b m is)) in
@@ -90,8 +90,8 @@ captures_apart ms ws xs h b m is q name named counters c k so j low =
     let own : is_output_of_net ms name ≡ false = name_by (λ n. is_output_of_net ms n ≡ false) m.topology.captures q name (λ i d within. none_pass (λ capture. is_output_of_net ms capture.name) m.topology.captures none i d within) named in
     let away : list_any (λ o. bytes_eq name o) (outputs_in k) ≡ false =
     subst (λ (x : NetMember). list_any (λ o. bytes_eq name o) (outputs_in x) ≡ false) (get_or_from_slice_get ms c k k so) (none_pass (λ x. list_any (λ o. bytes_eq name o) (outputs_in x)) ms own c k (slice_get_within ms c k so)) in
-    let kind = kind_is (plan_with counters k) j low in
-    of_kind (plan_with counters k) (λ o. name ≢ file_name (prefix_of k.name) o) (apart_from (tree_in k) (prefix_of k.name) name away) (kind_at (plan_with counters k) j) kind.made kind.of_port
+    let kind = kind_is (manifest_with counters k) j low in
+    of_kind (manifest_with counters k) (λ o. name ≢ file_name (prefix_of k.name) o) (apart_from (tree_in k) (prefix_of k.name) name away) (kind_at (manifest_with counters k) j) kind.made kind.of_port
 
 -- ---- captures that stay
 -- the files of these captures are the same
@@ -140,8 +140,8 @@ members_same tells (m ∷ ms) old new (c ∷ cs) same all =
     (checked_same m.topology.captures old new tells (λ t q name named. same t 0 m q name refl named) c.items all.0, members_same tells ms old new cs (λ t b x q name is named. same t (suc b) x q name is named) all.1)
 
 -- They are the same where no file but outputs has changed.
-pub captures_stay : (counters : Bool) (ms : List NetMember) (ws : List Wire) → AreRead ms ws → (old new : Files) → OnlyAllPlanned (map (plan_with counters) ms) old new → SameCaptureFiles ms old new
+pub captures_stay : (counters : Bool) (ms : List NetMember) (ws : List Wire) → AreRead ms ws → (old new : Files) → OnlyAllListed (map (manifest_with counters) ms) old new → SameCaptureFiles ms old new
 captures_stay counters ms ws read old new only b m q name is named =
     only name (λ c p so j low.
-    let k = mapped_some (plan_with counters) (slice_get ms c) p (sym (slice_get-map (plan_with counters) ms c) ∙ so) in
-    subst (λ (z : Planned). j < output_count z → name ≢ output_name z j) k.2 (λ j_low. captures_apart ms read.written ws read.wired b m is q name named counters c k.0 k.1 j j_low) low)
+    let k = mapped_some (manifest_with counters) (slice_get ms c) p (sym (slice_get-map (manifest_with counters) ms c) ∙ so) in
+    subst (λ (z : Listed). j < output_count z → name ≢ output_name z j) k.2 (λ j_low. captures_apart ms read.written ws read.wired b m is q name named counters c k.0 k.1 j j_low) low)

@@ -1,4 +1,4 @@
--- Several plans on one shelf: what is made and written under one of them leaves the files and ids of the others as they are.
+-- Several manifests on one shelf: what is made and written under one of them leaves the files and ids of the others as they are.
 use Rattle.std.proofs.Common.{◌≡◌, ◌≢◌, ℕ, zero, suc, ◌<◌, ◌++◌, List, [], ◌∷◌, length, set, slice_index, Bool, true, Option, Some, None, refl, ap, sym, ◌∙◌, subst, arith, inl, inr}
 use Rattle.std.specs.Prelude.{slice_get}
 use Rattle.std.proofs.lemmas.Bool.{cases_eq, cases_lt}
@@ -8,45 +8,45 @@ use Rattle.exb_net_file.specs.declared.members.NetMember.{NetMember}
 use Rattle.exb_net_file.specs.Sound.{BridgesWriteApart}
 use Rattle.exb_net_file.specs.Words.{is_name}
 use Rattle.exb_outputs.specs.declared.outputs.Outputs.{Outputs}
-use Rattle.exb_outputs.specs.Plans.{OnlyPlanned, Planned, kind_at, output_count, output_name}
+use Rattle.exb_outputs.specs.Manifests.{OnlyListed, Listed, kind_at, output_count, output_name}
 use Rattle.exb_outputs.specs.Writing.{IsReady, ids_of}
 use Rattle.exb_outputs.proofs.ByKind.{kind_is}
 use Rattle.exb_machine.specs.Stepping.{Stepped}
-use Rattle.exb_net_run.specs.Desks.{AreFronts, OnlyAllPlanned}
-use Rattle.exb_net_run.specs.Nets.{plan_with}
+use Rattle.exb_net_run.specs.Desks.{AreFronts, OnlyAllListed}
+use Rattle.exb_net_run.specs.Nets.{manifest_with}
 
 -- ---- ids
 -- outputs stay ready where their ids stand for what they stood for
-pub ready_kept : (plan : Planned) (given ids : ℕ → Id) (o : Outputs) → ((j : ℕ) → ids j ≡ given j) → IsReady plan given o → IsReady plan ids o
-ready_kept plan given ids o same ready = record { files = ready.files; named = λ j low. same (slice_index (ids_of o) j) ∙ ready.named j low }
+pub ready_kept : (manifest : Listed) (given ids : ℕ → Id) (o : Outputs) → ((j : ℕ) → ids j ≡ given j) → IsReady manifest given o → IsReady manifest ids o
+ready_kept manifest given ids o same ready = record { files = ready.files; named = λ j low. same (slice_index (ids_of o) j) ∙ ready.named j low }
 
 -- and where files were opened since: an id that was given stays
-pub ready_beside : (P : Id → Type 0) (plan : Planned) (given ids : ℕ → Id) (o : Outputs) → Opens P given ids → IsReady plan given o → IsReady plan ids o
-ready_beside P plan given ids o opens ready =
+pub ready_beside : (P : Id → Type 0) (manifest : Listed) (given ids : ℕ → Id) (o : Outputs) → Opens P given ids → IsReady manifest given o → IsReady manifest ids o
+ready_beside P manifest given ids o opens ready =
     record {
       files = ready.files;
       named = λ j low. (let is = ready.named j low in opens.kept (slice_index (ids_of o) j) (ap (λ (i : Id). i.given) is) ∙ is);
     }
 
 -- ---- files
--- no two files of two plans have one name
-abbrev pub WriteApart : Planned → Planned → Type 0
+-- no two files of two manifests have one name
+abbrev pub WriteApart : Listed → Listed → Type 0
 WriteApart p q = (i j : ℕ) → i < output_count p → j < output_count q → output_name p i ≢ output_name q j
 
-pub others_stay : (p q : Planned) (old new : Files) → WriteApart p q → OnlyPlanned p old new → (j : ℕ) → j < output_count q → new (output_name q j) ≡ old (output_name q j)
+pub others_stay : (p q : Listed) (old new : Files) → WriteApart p q → OnlyListed p old new → (j : ℕ) → j < output_count q → new (output_name q j) ≡ old (output_name q j)
 others_stay p q old new apart only j low = only (output_name q j) (λ i i_low e. apart i j i_low low (sym e))
 
-pub fronts_stay : (q : Planned) (old new : Files) (done : Stepped) → ((j : ℕ) → j < output_count q → new (output_name q j) ≡ old (output_name q j)) → AreFronts q old done → AreFronts q new done
+pub fronts_stay : (q : Listed) (old new : Files) (done : Stepped) → ((j : ℕ) → j < output_count q → new (output_name q j) ≡ old (output_name q j)) → AreFronts q old done → AreFronts q new done
 fronts_stay q old new done same fronts = record { counts = fronts.counts; each = λ j low. (let k = fronts.each j low in (k.0, same j low ∙ k.1)) }
 
--- ---- of all plans
-pub only_of_all : (ps : List Planned) (b : ℕ) (p : Planned) (old new : Files) → slice_get ps b ≡ Some p → OnlyPlanned p old new → OnlyAllPlanned ps old new
+-- ---- of all manifests
+pub only_of_all : (ps : List Listed) (b : ℕ) (p : Listed) (old new : Files) → slice_get ps b ≡ Some p → OnlyListed p old new → OnlyAllListed ps old new
 only_of_all ps b p old new is only m away = only m (λ j low. away b p is j low)
 
-pub only_all_same : (ps : List Planned) (file : Files) → OnlyAllPlanned ps file file
+pub only_all_same : (ps : List Listed) (file : Files) → OnlyAllListed ps file file
 only_all_same ps file m away = refl
 
-pub only_all_then : (ps : List Planned) (a b c : Files) → OnlyAllPlanned ps a b → OnlyAllPlanned ps b c → OnlyAllPlanned ps a c
+pub only_all_then : (ps : List Listed) (a b c : Files) → OnlyAllListed ps a b → OnlyAllListed ps b c → OnlyAllListed ps a c
 only_all_then ps a b c first rest m away = rest m away ∙ first m away
 
 -- ---- one of a list is another
@@ -106,8 +106,8 @@ module _ {A : Type 0} where
 
 -- ---- bridges write apart
 module _ (law : BridgesWriteApart) (counters : Bool) where
-  pub two_apart : (m k : NetMember) → is_name m.name ≡ true → is_name k.name ≡ true → m.name ≢ k.name → WriteApart (plan_with counters m) (plan_with counters k)
+  pub two_apart : (m k : NetMember) → is_name m.name ≡ true → is_name k.name ≡ true → m.name ≢ k.name → WriteApart (manifest_with counters m) (manifest_with counters k)
   two_apart m k named called other i j i_low j_low same =
-      let p : Planned = plan_with counters m in
-      let q : Planned = plan_with counters k in
+      let p : Listed = manifest_with counters m in
+      let q : Listed = manifest_with counters k in
       other (law m.name k.name (kind_at p i) (kind_at q j) named called (kind_is p i i_low).of_port (kind_is q j j_low).of_port same).0

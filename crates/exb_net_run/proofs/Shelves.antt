@@ -7,7 +7,7 @@ use Rattle.exb_shelf.specs.Shelf.{Id}
 use Rattle.exb_inputs.specs.declared.fault.Fault.{Fault}
 use Rattle.exb_inputs.specs.declared.fault.Fault.TheVariants.{MemberChanged, Memory, Write}
 use Rattle.exb_inputs.specs.Shelving.{OnlyReads}
-use Rattle.exb_outputs.specs.Plans.{Planned}
+use Rattle.exb_outputs.specs.Manifests.{Listed}
 use Rattle.exb_outputs.specs.Shelving.{IsOfWriting}
 use Rattle.exb_outputs.proofs.Keeping.{reads-none, reads-then}
 use Rattle.exb_net_run.specs.Answers.{IsOfNetPlay}
@@ -15,17 +15,17 @@ use Rattle.exb_net_run.specs.Desks.{OnlyWritesAll}
 use Rattle.exb_net_run.specs.Shelving.{IsNetChange, OnlyGoesOnAll}
 
 -- ---- what has changed
-pub net-goes-none : (tells : Type 0) (ps : List Planned) (mine : List ℕ) (f : Files) (a : ℕ → Id) → OnlyGoesOnAll tells ps mine f f a a
+pub net-goes-none : (tells : Type 0) (ps : List Listed) (mine : List ℕ) (f : Files) (a : ℕ → Id) → OnlyGoesOnAll tells ps mine f f a a
 net-goes-none tells ps mine f a = record { others = λ t m other. refl; reads = reads-none mine a a (λ j. refl) }
 
-pub net-goes-reading : (tells : Type 0) (ps : List Planned) (mine : List ℕ) (f g h : Files) (a b c : ℕ → Id) → OnlyGoesOnAll tells ps mine f g a b → OnlyReads mine g h b c → OnlyGoesOnAll tells ps mine f h a c
+pub net-goes-reading : (tells : Type 0) (ps : List Listed) (mine : List ℕ) (f g h : Files) (a b c : ℕ → Id) → OnlyGoesOnAll tells ps mine f g a b → OnlyReads mine g h b c → OnlyGoesOnAll tells ps mine f h a c
 net-goes-reading tells ps mine f g h a b c one two = record { others = λ t m other. two.files m ∙ one.others t m other; reads = reads-then mine a b c one.reads two.reads }
 
-pub net-goes-writing : (tells : Type 0) (ps : List Planned) (mine : List ℕ) (f g h : Files) (a b c : ℕ → Id) → OnlyGoesOnAll tells ps mine f g a b → OnlyWritesAll tells ps g h b c → OnlyGoesOnAll tells ps mine f h a c
+pub net-goes-writing : (tells : Type 0) (ps : List Listed) (mine : List ℕ) (f g h : Files) (a b c : ℕ → Id) → OnlyGoesOnAll tells ps mine f g a b → OnlyWritesAll tells ps g h b c → OnlyGoesOnAll tells ps mine f h a c
 net-goes-writing tells ps mine f g h a b c one two =
     record { others = λ t m other. two.others t m other ∙ one.others t m other; reads = reads-then mine a b c one.reads (reads-none mine b c two.kept) }
 
-pub net-goes-then : (tells : Type 0) (ps : List Planned) (mine : List ℕ) (f g h : Files) (a b c : ℕ → Id) → OnlyWritesAll tells ps f g a b → OnlyGoesOnAll tells ps mine g h b c → OnlyGoesOnAll tells ps mine f h a c
+pub net-goes-then : (tells : Type 0) (ps : List Listed) (mine : List ℕ) (f g h : Files) (a b c : ℕ → Id) → OnlyWritesAll tells ps f g a b → OnlyGoesOnAll tells ps mine g h b c → OnlyGoesOnAll tells ps mine f h a c
 net-goes-then tells ps mine f g h a b c one two =
     record { others = λ t m other. two.others t m other ∙ one.others t m other; reads = reads-then mine a b c (reads-none mine a b one.kept) two.reads }
 

@@ -1,4 +1,4 @@
--- Files that are made in the turn of their names: one plan after another, and files that are opened to be read before and after.
+-- Files that are made in the turn of their names: one manifest after another, and files that are opened to be read before and after.
 use Rattle.std.proofs.Common.{◌≡◌, ℕ, zero, suc, ◌+◌, ◌-◌, ◌<◌, ◌≤◌, ◌++◌, nat_lt, Bool, true, false, cond, List, [], ◌∷◌, length, Some, refl, ap, sym, ◌∙◌, arith, inl, inr}
 use Rattle.std.specs.Prelude.{option_map, slice_get}
 use Rattle.std.specs.List.{range_with_len}
@@ -8,7 +8,7 @@ use Rattle.std.proofs.lemmas.Option.{slice_get-map}
 use Rattle.exb_model.specs.Ports.{below}
 use Rattle.exb_shelf.specs.Shelf.{Id, Opens, writing}
 use Rattle.exb_outputs.specs.Order.{MadeInOrder}
-use Rattle.exb_outputs.specs.Plans.{Planned, output_count, output_name}
+use Rattle.exb_outputs.specs.Manifests.{Listed, output_count, output_name}
 use Rattle.exb_net_run.specs.Opening.{MadeInTurn, names_of}
 
 -- ---- ids
@@ -45,13 +45,13 @@ long_below n = long_range n 0
 some_same : {A : Type 0} {x y : A} → Some x ≡ Some y → x ≡ y
 some_same e = cc
 
--- those of a plan
-name_at : (plan : Planned) (j : ℕ) (name : List ℕ) → j < output_count plan → slice_get (names_of plan) j ≡ Some name → name ≡ output_name plan j
-name_at plan j name low is =
-    some_same (sym is ∙ (slice_get-map (output_name plan) (below (output_count plan)) j ∙ ap (option_map (output_name plan)) (get_below (output_count plan) j low)))
+-- those of a manifest
+name_at : (manifest : Listed) (j : ℕ) (name : List ℕ) → j < output_count manifest → slice_get (names_of manifest) j ≡ Some name → name ≡ output_name manifest j
+name_at manifest j name low is =
+    some_same (sym is ∙ (slice_get-map (output_name manifest) (below (output_count manifest)) j ∙ ap (option_map (output_name manifest)) (get_below (output_count manifest) j low)))
 
-pub long_names : (plan : Planned) → length (names_of plan) ≡ output_count plan
-long_names plan = length-map (below (output_count plan)) (output_name plan) ∙ long_below (output_count plan)
+pub long_names : (manifest : Listed) → length (names_of manifest) ≡ output_count manifest
+long_names manifest = length-map (below (output_count manifest)) (output_name manifest) ∙ long_below (output_count manifest)
 
 get_first : {A : Type 0} (xs ys : List A) (j : ℕ) → j < length xs → slice_get (xs ++ ys) j ≡ slice_get xs j
 get_first [] ys j low = absurd (omega (arith, low))
@@ -62,7 +62,7 @@ get_behind : {A : Type 0} (xs ys : List A) (k : ℕ) → slice_get (xs ++ ys) (l
 get_behind [] ys k = ap (slice_get ys) (omega arith)
 get_behind (x ∷ xs) ys k = let same : suc (length xs) + k ≡ suc (length xs + k) = omega arith in ap (slice_get (x ∷ (xs ++ ys))) same ∙ get_behind xs ys k
 
--- ---- none, and those of one plan
+-- ---- none, and those of one manifest
 pub turn_none : (names : List (List ℕ)) (a : ℕ → Id) → MadeInTurn names 0 a a
 turn_none names a = record {
   at = λ j. j;
@@ -73,12 +73,12 @@ turn_none names a = record {
   only = λ id free given reads. absurd (false≢true (sym free ∙ given));
 }
 
-pub turn_of_plan : (plan : Planned) (k : ℕ) (a b : ℕ → Id) → MadeInOrder plan k a b → MadeInTurn (names_of plan) k a b
-turn_of_plan plan k a b m = record {
+pub turn_of_manifest : (manifest : Listed) (k : ℕ) (a b : ℕ → Id) → MadeInOrder manifest k a b → MadeInTurn (names_of manifest) k a b
+turn_of_manifest manifest k a b m = record {
   at = m.at;
-  within = (let all = long_names plan in let few = m.within in omega (arith, all, few));
+  within = (let all = long_names manifest in let few = m.within in omega (arith, all, few));
   fresh = m.fresh;
-  named = λ j name low is. m.named j low ∙ ap writing (sym (name_at plan j name (let few = m.within in omega (arith, low, few)) is));
+  named = λ j name low is. m.named j low ∙ ap writing (sym (name_at manifest j name (let few = m.within in omega (arith, low, few)) is));
   rises = m.rises;
   only = m.only;
 }

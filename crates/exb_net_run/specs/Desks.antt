@@ -1,4 +1,4 @@
--- What the bridges of a net have written and counted, each under a plan of its own.
+-- What the bridges of a net have written and counted, each under a manifest of its own.
 use Rattle.std.specs.Prelude.{◌≡◌, ◌≢◌, ◌≤◌, ◌<◌, ◌+◌, ◌^◌, ℕ, List, [], ◌++◌, Some, length, map, take, slice_get, All}
 use Rattle.exb_model.specs.Texts.{Counts}
 use Rattle.exb_machine.specs.Stepping.{Stepped}
@@ -10,7 +10,7 @@ use Rattle.exb_shelf.specs.Files.{Files}
 use Rattle.exb_shelf.specs.Shelf.{Id}
 use Rattle.exb_text.specs.declared.output.Output.{Output}
 use Rattle.exb_text.specs.Tallies.{FitsTally, counts_of}
-use Rattle.exb_outputs.specs.Plans.{Planned, kind_at, output_count, output_name}
+use Rattle.exb_outputs.specs.Manifests.{Listed, kind_at, output_count, output_name}
 use Rattle.exb_outputs.specs.Sent.{AreCountedAt, HasSent}
 use Rattle.exb_outputs.specs.Writing.{HasTexts, IsReady, pieces_of}
 use Rattle.exb_writers.specs.declared.counted.Counted.{Counted}
@@ -35,56 +35,56 @@ text_of d counts = text_so_far d.events d.left [] counts
 
 -- The files of a desk hold the texts of what its bridge did, but for what isn't written yet; and what is counted is that.
 pub record IsNoted (tells : Type 0) (now : Files) (d : Desk) (done : Stepped) : Type 0 where
-  pub counted : IsCounted d.plan d.counted done.events done.passed done.left
-  pub texts : tells → HasTexts d.plan (pieces_of d.outputs) now now (text_of done [])
-  pub sent : HasSent d.plan d.outputs (λ q. left_at q done.left)
+  pub counted : IsCounted d.manifest d.counted done.events done.passed done.left
+  pub texts : tells → HasTexts d.manifest (pieces_of d.outputs) now now (text_of done [])
+  pub sent : HasSent d.manifest d.outputs (λ q. left_at q done.left)
 
--- each file of a plan holds a front of such a text
-pub record AreFronts (plan : Planned) (now : Files) (done : Stepped) : Type 0 where
+-- each file of a manifest holds a front of such a text
+pub record AreFronts (manifest : Listed) (now : Files) (done : Stepped) : Type 0 where
   pub counts : List ℕ
-  pub each : (j : ℕ) → j < output_count plan → (q : ℕ) × (now (output_name plan j) ≡ Some (take q (text_of done counts (kind_at plan j))))
+  pub each : (j : ℕ) → j < output_count manifest → (q : ℕ) × (now (output_name manifest j) ≡ Some (take q (text_of done counts (kind_at manifest j))))
 
--- each file of a plan holds the text of its kind
-pub record IsWhole (plan : Planned) (now : Files) (text : Output → List ℕ) : Type 0 where
-  pub each : (j : ℕ) → j < output_count plan → now (output_name plan j) ≡ Some (text (kind_at plan j))
+-- each file of a manifest holds the text of its kind
+pub record IsWhole (manifest : Listed) (now : Files) (text : Output → List ℕ) : Type 0 where
+  pub each : (j : ℕ) → j < output_count manifest → now (output_name manifest j) ≡ Some (text (kind_at manifest j))
 
 -- what a world tells can be written and counted
-pub record CanNote (plan : Planned) (c : Counted) (n : Network) : Type 0 where
-  pub frames : All (λ x. CanBeWritten plan x) n.log.left
+pub record CanNote (manifest : Listed) (c : Counted) (n : Network) : Type 0 where
+  pub frames : All (λ x. CanBeWritten manifest x) n.log.left
   pub can : CanCount c n.log.events n.log.passed (length (all_left n.log.left))
 
 -- ---- all bridges
-abbrev pub plans_in : List Desk → List Planned
-plans_in ds = map (λ (d : Desk). d.plan) ds
+abbrev pub manifests_in : List Desk → List Listed
+manifests_in ds = map (λ (d : Desk). d.manifest) ds
 
--- no two plans have a file of one name
-pub record ArePlansApart (ps : List Planned) : Type 0 where
-  pub each : (a b : ℕ) (p q : Planned) → slice_get ps a ≡ Some p → slice_get ps b ≡ Some q → a ≢ b → (i j : ℕ) → i < output_count p → j < output_count q → output_name p i ≢ output_name q j
+-- no two manifests have a file of one name
+pub record AreManifestsApart (ps : List Listed) : Type 0 where
+  pub each : (a b : ℕ) (p q : Listed) → slice_get ps a ≡ Some p → slice_get ps b ≡ Some q → a ≢ b → (i j : ℕ) → i < output_count p → j < output_count q → output_name p i ≢ output_name q j
 
 -- the name of no file of any of them
-abbrev pub IsOther : List Planned → List ℕ → Type 0
-IsOther ps m = (b : ℕ) (p : Planned) → slice_get ps b ≡ Some p → (j : ℕ) → j < output_count p → m ≢ output_name p j
+abbrev pub IsOther : List Listed → List ℕ → Type 0
+IsOther ps m = (b : ℕ) (p : Listed) → slice_get ps b ≡ Some p → (j : ℕ) → j < output_count p → m ≢ output_name p j
 
 -- no other file has changed
-abbrev pub OnlyAllPlanned : List Planned → Files → Files → Type 0
-OnlyAllPlanned ps old new = (m : List ℕ) → IsOther ps m → new m ≡ old m
+abbrev pub OnlyAllListed : List Listed → Files → Files → Type 0
+OnlyAllListed ps old new = (m : List ℕ) → IsOther ps m → new m ≡ old m
 
 -- so it is, and none was opened
-pub record OnlyWritesAll (tells : Type 0) (ps : List Planned) (old new : Files) (given ids : ℕ → Id) : Type 0 where
-  pub others : tells → OnlyAllPlanned ps old new
+pub record OnlyWritesAll (tells : Type 0) (ps : List Listed) (old new : Files) (given ids : ℕ → Id) : Type 0 where
+  pub others : tells → OnlyAllListed ps old new
   pub kept : (j : ℕ) → ids j ≡ given j
 
 -- each desk can be written
 pub record AreReady (ids : ℕ → Id) (ds : List Desk) : Type 0 where
-  pub each : (b : ℕ) (d : Desk) → slice_get ds b ≡ Some d → IsReady d.plan ids d.outputs
+  pub each : (b : ℕ) (d : Desk) → slice_get ds b ≡ Some d → IsReady d.manifest ids d.outputs
 
 -- at each desk this much is noted
 pub record AreNoted (tells : Type 0) (now : Files) (ds : List Desk) (dones : Dones) : Type 0 where
   pub each : (b : ℕ) (d : Desk) → slice_get ds b ≡ Some d → IsNoted tells now d (dones b)
 
--- the files of all plans hold fronts of texts of this
-pub record AreAllFronts (ps : List Planned) (now : Files) (dones : Dones) : Type 0 where
-  pub each : (b : ℕ) (p : Planned) → slice_get ps b ≡ Some p → AreFronts p now (dones b)
+-- the files of all manifests hold fronts of texts of this
+pub record AreAllFronts (ps : List Listed) (now : Files) (dones : Dones) : Type 0 where
+  pub each : (b : ℕ) (p : Listed) → slice_get ps b ≡ Some p → AreFronts p now (dones b)
 
 -- what the worlds tell was told since this was
 pub record AreMore {V : Type 0} {X : V → Type 0} (told dones : Dones) (nodes : List (Node V X)) : Type 0 where
@@ -98,7 +98,7 @@ pub record AllGoTogether {V : Type 0} {X : V → Type 0} (told : Dones) (nodes :
 pub record CanNoteAll {V : Type 0} {X : V → Type 0} (ds : List Desk) (nodes : List (Node V X)) : Type 0 where
   pub whole : length ds ≡ length nodes
   pub few : length ds ≤ 16
-  pub each : (b : ℕ) (d : Desk) (x : Node V X) → slice_get ds b ≡ Some d → slice_get nodes b ≡ Some x → CanNote d.plan d.counted (network_of x.world)
+  pub each : (b : ℕ) (d : Desk) (x : Node V X) → slice_get ds b ≡ Some d → slice_get nodes b ≡ Some x → CanNote d.manifest d.counted (network_of x.world)
 
 -- ---- the end
 -- what was counted at each desk
@@ -107,8 +107,8 @@ tallies_in ds = map (λ (d : Desk). counts_of d.counted.tally) ds
 
 -- the counters of a desk can be written
 pub record CanEnd (d : Desk) : Type 0 where
-  pub counted : AreCountsOf d.plan d.counted.ports
-  pub sent : AreCountedAt d.plan d.outputs
+  pub counted : AreCountsOf d.manifest d.counted.ports
+  pub sent : AreCountedAt d.manifest d.outputs
 
 -- so can all, and the sums over all desks fit 64 bits
 pub record CanEndAll (ds : List Desk) : Type 0 where
@@ -118,4 +118,4 @@ pub record CanEndAll (ds : List Desk) : Type 0 where
 
 -- the files of all desks hold the texts of what was done, and of what was counted
 pub record AreWhole (ds : List Desk) (now : Files) (dones : Dones) : Type 0 where
-  pub each : (b : ℕ) (d : Desk) → slice_get ds b ≡ Some d → IsWhole d.plan now (text_of (dones b) (counts_text d.plan d.counted.ports d.outputs))
+  pub each : (b : ℕ) (d : Desk) → slice_get ds b ≡ Some d → IsWhole d.manifest now (text_of (dones b) (counts_text d.manifest d.counted.ports d.outputs))

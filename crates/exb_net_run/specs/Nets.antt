@@ -10,7 +10,7 @@ use Rattle.exb_words.specs.declared.asked.Options.{Options}
 use Rattle.exb_words.specs.Kinds.{eager_with}
 use Rattle.exb_inputs.specs.Inputs.{input_of}
 use Rattle.exb_outputs.specs.Names.{IsOutput}
-use Rattle.exb_outputs.specs.Plans.{Planned}
+use Rattle.exb_outputs.specs.Manifests.{Listed}
 
 -- what stands for a bridge that a net doesn't have
 abbrev pub no_input : Input
@@ -31,8 +31,8 @@ abbrev pub options_with : Bool → Options
 options_with counters = eager_with counters
 
 -- the outputs of a bridge stand under its own prefix
-abbrev pub plan_with : Bool → NetMember → Planned
-plan_with counters m = record { tree = tree_in m; prefix = prefix_of m.name; options = options_with counters }
+abbrev pub manifest_with : Bool → NetMember → Listed
+manifest_with counters m = record { tree = tree_in m; prefix = prefix_of m.name; options = options_with counters }
 
 -- the name of a file that some bridge of a net writes
 pub record IsNetOutput (counters : Bool) (ms : List NetMember) (name : List ℕ) : Type 0 where

@@ -15,10 +15,10 @@ use Rattle.exb_net_run.specs.Answers.{IsNetReady}
 use Rattle.exb_inputs.specs.declared.fault.Fault.{Fault}
 use Rattle.exb_inputs.specs.declared.fault.Fault.TheVariants.{MemberCapture, MemberChanged}
 use Rattle.exb_inputs.specs.Inputs.{is_named, name_of}
-use Rattle.exb_outputs.specs.Plans.{Planned, output_count, output_name}
+use Rattle.exb_outputs.specs.Manifests.{Listed, output_count, output_name}
 use Rattle.exb_shelf.specs.Files.{Files}
 use Rattle.exb_shelf.specs.Shelf.{Id, IsReading, IsReadingOf, Opens, writing}
-use Rattle.exb_net_run.specs.Nets.{IsNetOutput, plan_with}
+use Rattle.exb_net_run.specs.Nets.{IsNetOutput, manifest_with}
 
 -- ---- which files
 -- an id to write an output of a bridge of a net
@@ -56,13 +56,13 @@ pub record MakesNetOutputOf (name : List ℕ) (counters : Bool) (file : Files) (
   pub output : WritesNetOutput counters members i
 
 -- ---- files that are made
--- the names of the outputs of a plan, in the order in which they are made
-abbrev pub names_of : Planned → List (List ℕ)
-names_of plan = map (output_name plan) (below (output_count plan))
+-- the names of the outputs of a manifest, in the order in which they are made
+abbrev pub names_of : Listed → List (List ℕ)
+names_of manifest = map (output_name manifest) (below (output_count manifest))
 
 -- those of all bridges, bridge after bridge
 abbrev pub net_names : Bool → List NetMember → List (List ℕ)
-net_names counters ms = flat_map (λ m. names_of (plan_with counters m)) ms
+net_names counters ms = flat_map (λ m. names_of (manifest_with counters m)) ms
 
 -- The first k files of these names were made, one after the other and each once, and no other file: `at` says through which ids. Since
 -- ids rise, their order is that in which the files were made.

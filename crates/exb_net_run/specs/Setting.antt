@@ -18,7 +18,7 @@ use Rattle.exb_net_inputs.specs.Checking.{AreMembersChecked}
 use Rattle.exb_net_inputs.specs.Holding.{AreRead}
 use Rattle.exb_merge.specs.declared.programme.Programme.{Programme}
 use Rattle.exb_outputs.specs.Names.{IsCut}
-use Rattle.exb_outputs.specs.Plans.{Planned, kind_at, output_count, output_name}
+use Rattle.exb_outputs.specs.Manifests.{Listed, kind_at, output_count, output_name}
 use Rattle.exb_outputs.specs.Sent.{HasSent}
 use Rattle.exb_outputs.specs.Writing.{HasTexts, IsReady, first_text, pieces_of}
 use Rattle.exb_shelf.specs.Files.{Files}
@@ -26,41 +26,41 @@ use Rattle.exb_shelf.specs.Shelf.{Id}
 use Rattle.exb_text.specs.declared.output.Output.{Output}
 use Rattle.exb_writers.specs.Counts.{IsCounted}
 use Rattle.exb_net_run.specs.declared.desk.Desk.{Desk}
-use Rattle.exb_net_run.specs.Desks.{AreNoted, OnlyAllPlanned, plans_in}
-use Rattle.exb_net_run.specs.Nets.{net_of, options_with, plan_with}
+use Rattle.exb_net_run.specs.Desks.{AreNoted, OnlyAllListed, manifests_in}
+use Rattle.exb_net_run.specs.Nets.{net_of, options_with, manifest_with}
 use Rattle.exb_net_run.specs.UnderWay.{AreDesks, Begins, LeadsOn, NetRun, ReadsOthers}
 
 -- ---- one bridge
 -- what a bridge of this setup and name writes
-abbrev pub plan_under : Setup → List ℕ → Bool → Planned
-plan_under s name counters = record { tree = shape_of s; prefix = prefix_of name; options = options_with counters }
+abbrev pub manifest_under : Setup → List ℕ → Bool → Listed
+manifest_under s name counters = record { tree = shape_of s; prefix = prefix_of name; options = options_with counters }
 
 -- Its outputs were made and hold what they begin with, and nothing is counted yet.
 pub record IsSet (tells : Type 0) (now : Files) (ids : ℕ → Id) (d : Desk) : Type 0 where
-  pub ready : IsReady d.plan ids d.outputs
-  pub counted : IsCounted d.plan d.counted [] [] []
-  pub texts : tells → HasTexts d.plan (pieces_of d.outputs) now now first_text
-  pub sent : HasSent d.plan d.outputs (λ q. [])
+  pub ready : IsReady d.manifest ids d.outputs
+  pub counted : IsCounted d.manifest d.counted [] [] []
+  pub texts : tells → HasTexts d.manifest (pieces_of d.outputs) now now first_text
+  pub sent : HasSent d.manifest d.outputs (λ q. [])
 
 -- ---- all bridges
--- So it is of the desk of each of these plans, and no other file has changed.
-pub record AreSet (tells : Type 0) (ps : List Planned) (old now : Files) (ids : ℕ → Id) (desks : List Desk) : Type 0 where
-  pub plans : plans_in desks ≡ ps
+-- So it is of the desk of each of these manifests, and no other file has changed.
+pub record AreSet (tells : Type 0) (ps : List Listed) (old now : Files) (ids : ℕ → Id) (desks : List Desk) : Type 0 where
+  pub manifests : manifests_in desks ≡ ps
   pub each : (b : ℕ) (d : Desk) → slice_get desks b ≡ Some d → IsSet tells now ids d
-  pub others : tells → OnlyAllPlanned ps old now
+  pub others : tells → OnlyAllListed ps old now
 
 -- each text goes on from what its file begins with
 abbrev pub GoesFrom : (Output → List ℕ) → Type 0
 GoesFrom text = (o : Output) → (rest : List ℕ) × (text o ≡ first_text o ++ rest)
 
--- each file of each plan is as it was, or holds a front of its text
-pub record AreCutAs (ps : List Planned) (old new : Files) (text : ℕ → Output → List ℕ) : Type 0 where
-  pub each : (b : ℕ) (p : Planned) → slice_get ps b ≡ Some p → (j : ℕ) → j < output_count p → IsCut (old (output_name p j)) (new (output_name p j)) (text b (kind_at p j))
+-- each file of each manifest is as it was, or holds a front of its text
+pub record AreCutAs (ps : List Listed) (old new : Files) (text : ℕ → Output → List ℕ) : Type 0 where
+  pub each : (b : ℕ) (p : Listed) → slice_get ps b ≡ Some p → (j : ℕ) → j < output_count p → IsCut (old (output_name p j)) (new (output_name p j)) (text b (kind_at p j))
 
 -- ---- what is played
 -- the net of these bridges and wires over these files, and what it writes
 abbrev pub run_of : Bool → List NetMember → List Wire → Files → Files → NetRun
-run_of counters ms ws file before = record { net = net_of ms ws file; before = before; plans = map (plan_with counters) ms }
+run_of counters ms ws file before = record { net = net_of ms ws file; before = before; manifests = map (manifest_with counters) ms }
 
 -- Bridges that were read, whose captures were checked and are to be opened again.
 pub record IsToBeOpened (tells : Type 0) (ms : List NetMember) (ws : List Wire) (rests : List NetRest) (file : Files) (checked : List (Vec Checked Global)) : Type 0 where
@@ -83,5 +83,5 @@ pub record CanPlay {V : Type 0} {X : V → Type 0} (tells : Type 0) (r : NetRun)
   pub set : AreDesks tells r now ids desks
   pub noted : AreNoted tells now desks (no_dones r.net)
   pub begins : Begins r.net ps
-  pub apart : ReadsOthers r.plans ids ps
+  pub apart : ReadsOthers r.manifests ids ps
   pub leads : tells → LeadsOn r.net [] now ids ps

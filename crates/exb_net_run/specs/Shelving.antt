@@ -5,16 +5,16 @@ use Rattle.exb_merge.specs.NetAgendas.{AreAllReplays, IsOfBridge}
 use Rattle.exb_merge.specs.Replays.{HasPort, ReadsOn, standings}
 use Rattle.exb_merge.specs.Streams.{Stream}
 use Rattle.exb_net_file.specs.declared.apart.NetRest.{NetRest}
-use Rattle.exb_outputs.specs.Plans.{Planned}
+use Rattle.exb_outputs.specs.Manifests.{Listed}
 use Rattle.exb_shelf.specs.Files.{Files}
 use Rattle.exb_shelf.specs.Shelf.{Id}
 use Rattle.exb_inputs.specs.declared.fault.Fault.{Fault}
 use Rattle.exb_inputs.specs.declared.fault.Fault.TheVariants.{MemberChanged}
-use Rattle.exb_net_run.specs.Desks.{OnlyAllPlanned}
+use Rattle.exb_net_run.specs.Desks.{OnlyAllListed}
 
--- no file but those of the plans has changed, and only through these ids was read
-pub record OnlyGoesOnAll (tells : Type 0) (ps : List Planned) (mine : List ℕ) (old new : Files) (given ids : ℕ → Id) : Type 0 where
-  pub others : tells → OnlyAllPlanned ps old new
+-- no file but those of the manifests has changed, and only through these ids was read
+pub record OnlyGoesOnAll (tells : Type 0) (ps : List Listed) (mine : List ℕ) (old new : Files) (given ids : ℕ → Id) : Type 0 where
+  pub others : tells → OnlyAllListed ps old new
   pub reads : ReadsOn mine given ids
 
 -- where the files are told they aren't those that were checked

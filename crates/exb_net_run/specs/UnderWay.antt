@@ -35,17 +35,17 @@ use Rattle.exb_net.specs.declared.node.Node.{Node}
 use Rattle.exb_net.specs.Nets.{IsBegun, IsPlaying, no_dones}
 use Rattle.exb_writers.specs.Texts.{output_text}
 use Rattle.exb_outputs.specs.Apart.{AreApart}
-use Rattle.exb_outputs.specs.Plans.{Planned}
+use Rattle.exb_outputs.specs.Manifests.{Listed}
 use Rattle.exb_net_run.specs.declared.desk.Desk.{Desk}
 use Rattle.exb_net_run.specs.declared.game.NetGame.{NetGame}
-use Rattle.exb_net_run.specs.Desks.{AreAllFronts, AreNoted, ArePlansApart, AreReady, IsWhole, OnlyAllPlanned, plans_in}
+use Rattle.exb_net_run.specs.Desks.{AreAllFronts, AreNoted, AreManifestsApart, AreReady, IsWhole, OnlyAllListed, manifests_in}
 use Rattle.exb_net_run.specs.Summing.{net_summary}
 
 -- a net, the files before it is played, and what each bridge writes
 pub record NetRun : Type 0 where
   pub net : Net
   pub before : Files
-  pub plans : List Planned
+  pub manifests : List Listed
 
 -- ---- how much
 -- a frame that can be written: it left an external port, below 2^32 seconds, and is short
@@ -142,20 +142,20 @@ pub record LeadsOn (n : Net) (ds : List Due) (file : Files) (ids : ℕ → Id) (
   pub rest : dues n ≡ ds ++ dues_left (all_to_play streams ps)
 
 -- no capture that is read has the name of a file that is written
-pub record ReadsOthers (plans : List Planned) (ids : ℕ → Id) (ps : List Programme) : Type 0 where
-  pub each : (b : ℕ) (p : Planned) → slice_get plans b ≡ Some p → AreApart p ids (all_ids ps)
+pub record ReadsOthers (manifests : List Listed) (ids : ℕ → Id) (ps : List Programme) : Type 0 where
+  pub each : (b : ℕ) (p : Listed) → slice_get manifests b ≡ Some p → AreApart p ids (all_ids ps)
 
 -- ---- between two events
--- The desks are those of the plans, of which no two have a file of one name; each can be written; and no other file has changed.
+-- The desks are those of the manifests, of which no two have a file of one name; each can be written; and no other file has changed.
 pub record AreDesks (tells : Type 0) (r : NetRun) (now : Files) (ids : ℕ → Id) (desks : List Desk) : Type 0 where
   pub ready : AreReady ids desks
-  pub plans : plans_in desks ≡ r.plans
-  pub apart : ArePlansApart r.plans
-  pub whole : length r.plans ≡ r.net.count
+  pub manifests : manifests_in desks ≡ r.manifests
+  pub apart : AreManifestsApart r.manifests
+  pub whole : length r.manifests ≡ r.net.count
   pub bridges : r.net.count ≤ 16
-  pub each : (b : ℕ) (p : Planned) → slice_get r.plans b ≡ Some p → (p.tree ≡ tree_in r.net b) × (p.options.trace ≡ false) × IsTree p.tree
-  pub ports : sum_by (λ (p : Planned). length (external_ports p.tree)) r.plans ≤ 4160
-  pub files : tells → OnlyAllPlanned r.plans r.before now
+  pub each : (b : ℕ) (p : Listed) → slice_get r.manifests b ≡ Some p → (p.tree ≡ tree_in r.net b) × (p.options.trace ≡ false) × IsTree p.tree
+  pub ports : sum_by (λ (p : Listed). length (external_ports p.tree)) r.manifests ≤ 4160
+  pub files : tells → OnlyAllListed r.manifests r.before now
 
 -- The bridges did what follows when these came, and all of that is noted at their desks.
 pub record IsAt {V : Type 0} {X : V → Type 0} (tells : Type 0) (r : NetRun) (now : Files) (ids : ℕ → Id) (ds : List Due) (dones : Dones) (g : NetGame V X) : Type 0 where
@@ -173,7 +173,7 @@ pub record IsGoing {V : Type 0} {X : V → Type 0} (tells : Type 0) (r : NetRun)
   pub dones : Dones
   pub is : IsAt tells r now ids ds dones g
   pub goes : GoesOn r.net ds g.net.came dones last ps
-  pub apart : ReadsOthers r.plans ids ps
+  pub apart : ReadsOthers r.manifests ids ps
   pub leads : tells → LeadsOn r.net ds now ids ps
 
 -- The commands of each bridge lie where its programme has them.
@@ -189,14 +189,14 @@ pub record CanBegin {V : Type 0} {X : V → Type 0} (tells : Type 0) (r : NetRun
   pub desks : AreDesks tells r now ids g.desks.items
   pub noted : AreNoted tells now g.desks.items (no_dones r.net)
   pub begins : Begins r.net ps
-  pub apart : ReadsOthers r.plans ids ps
+  pub apart : ReadsOthers r.manifests ids ps
   pub leads : tells → LeadsOn r.net [] now ids ps
 
 -- ---- where it ended early
 -- Each file of each bridge holds a front of what it begins with.
 pub record IsUnopened (r : NetRun) (now : Files) : Type 0 where
-  pub others : OnlyAllPlanned r.plans r.before now
-  pub fronts : AreAllFronts r.plans now (no_dones r.net)
+  pub others : OnlyAllListed r.manifests r.before now
+  pub fronts : AreAllFronts r.manifests now (no_dones r.net)
 
 -- Each holds a front of the text of what its bridge did when some of what comes had come.
 pub record IsCutAmid (r : NetRun) (now : Files) : Type 0 where
@@ -210,8 +210,8 @@ pub record IsCutAmid (r : NetRun) (now : Files) : Type 0 where
   pub opened : AreOpened r.net start
   pub plays : Plays r.net ds start dones
   pub vids : HaveVids r.net
-  pub others : OnlyAllPlanned r.plans r.before now
-  pub fronts : AreAllFronts r.plans now dones
+  pub others : OnlyAllListed r.manifests r.before now
+  pub fronts : AreAllFronts r.manifests now dones
 
 abbrev pub IsCutOff : NetRun → Files → Type 0
 IsCutOff r now = IsUnopened r now ⊎ IsCutAmid r now
@@ -221,8 +221,8 @@ IsCutOff r now = IsUnopened r now ⊎ IsCutAmid r now
 pub record HasWritten (r : NetRun) (now : Files) (line : List ℕ) : Type 0 where
   pub histories : Histories
   pub eager : NetEager r.net histories
-  pub whole : (b : ℕ) (p : Planned) → slice_get r.plans b ≡ Some p → IsWhole p now (output_text (r.net.input b) (histories b) [])
-  pub others : OnlyAllPlanned r.plans r.before now
+  pub whole : (b : ℕ) (p : Listed) → slice_get r.manifests b ≡ Some p → IsWhole p now (output_text (r.net.input b) (histories b) [])
+  pub others : OnlyAllListed r.manifests r.before now
   pub says : line ≡ net_summary r.net histories
 
 -- All came, and all is noted; and so few records came that all counts fit.
@@ -293,7 +293,7 @@ pub record IsDue {V : Type 0} {X : V → Type 0} (tells : Type 0) (r : NetRun) (
   pub given : ℕ → Id
   pub going : IsGoing tells r now given last g old
   pub comes : ComesTo old d ps
-  pub apart : ReadsOthers r.plans ids ps
+  pub apart : ReadsOthers r.manifests ids ps
   pub leads : tells → LeadsOn r.net (going.ds ++ due_of d ∷ []) now ids ps
   pub ready : AreReady ids g.desks.items
   pub second_is : second ≡ second_of (moment_of (what d.next))

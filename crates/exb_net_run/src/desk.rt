@@ -17,7 +17,7 @@ ghost use Rattle.exb_net_run.specs.Desks.{AreFronts, CanNote, IsMore, IsNoted, I
 ghost use Rattle.exb_net_run.specs.Summing.{added};
 
 use exb_inputs::Fault;
-use exb_outputs::{Outputs, Plan};
+use exb_outputs::{Manifest, Outputs};
 use exb_schedule::{World, count_left};
 use exb_shelf::Shelf;
 use exb_text::{LineRoom, Tally};
@@ -33,7 +33,7 @@ pub(crate) struct Room {
 /// The files of a bridge, and what is counted of it.
 #[derive(Drop)]
 pub(crate) struct Desk {
-    pub(crate) plan: Plan,
+    pub(crate) manifest: Manifest,
     pub(crate) outputs: Outputs,
     pub(crate) counted: Counted,
 }
@@ -42,26 +42,26 @@ pub(crate) struct Desk {
 fn write_new<S: Shelf>(
     shelf: &mut S,
     room: &mut Room,
-    plan: &Plan,
+    manifest: &Manifest,
     outputs: &mut Outputs,
     world: &World,
 ) -> Result<(), Fault>
-    requires ready { IsReady plan.now (S.ids shelf.old) outputs.old }
-    requires frames { All (λ x. CanBeWritten plan.now x) (network_of world.now).log.left }
-    ensures ready { IsReady plan.now (S.ids shelf.new) outputs.new }
-    ensures texts { S.tells → OnOk result ((orig : Files) (text : Output → List ℕ) → HasTexts plan.now (pieces_of outputs.old) orig (S.file shelf.old) text
-        → HasTexts plan.now (pieces_of outputs.new) orig (S.file shelf.new)
+    requires ready { IsReady manifest.now (S.ids shelf.old) outputs.old }
+    requires frames { All (λ x. CanBeWritten manifest.now x) (network_of world.now).log.left }
+    ensures ready { IsReady manifest.now (S.ids shelf.new) outputs.new }
+    ensures texts { S.tells → OnOk result ((orig : Files) (text : Output → List ℕ) → HasTexts manifest.now (pieces_of outputs.old) orig (S.file shelf.old) text
+        → HasTexts manifest.now (pieces_of outputs.new) orig (S.file shelf.new)
         (with_left_frames (with_more text output.Journal (lines_of (network_of world.now).log.events)) (network_of world.now).log.left)) }
-    ensures cut { S.tells → OnErr result ((orig : Files) (text : Output → List ℕ) → HasTexts plan.now (pieces_of outputs.old) orig (S.file shelf.old) text
-        → AreCut plan.now orig (S.file shelf.new)
+    ensures cut { S.tells → OnErr result ((orig : Files) (text : Output → List ℕ) → HasTexts manifest.now (pieces_of outputs.old) orig (S.file shelf.old) text
+        → AreCut manifest.now orig (S.file shelf.new)
         (with_left_frames (with_more text output.Journal (lines_of (network_of world.now).log.events)) (network_of world.now).log.left)) }
-    ensures sent { OnOk result ((sent : ℕ → List Sent) → HasSent plan.now outputs.old sent → HasSent plan.now outputs.new (sent_with sent (network_of world.now).log.left)) }
-    ensures only { OnlyWrites S.tells plan.now (S.file shelf.old) (S.file shelf.new) (S.ids shelf.old) (S.ids shelf.new) }
+    ensures sent { OnOk result ((sent : ℕ → List Sent) → HasSent manifest.now outputs.old sent → HasSent manifest.now outputs.new (sent_with sent (network_of world.now).log.left)) }
+    ensures only { OnlyWrites S.tells manifest.now (S.file shelf.old) (S.file shelf.new) (S.ids shelf.old) (S.ids shelf.new) }
     ensures causes { IfErr result IsOfWriting }
     ensures faults { CountsFaults result (S.faults shelf.old) (S.faults shelf.new) }
 {
-    write_events(shelf, plan, outputs, &mut room.line, world.events())?;
-    write_left(shelf, plan, outputs, world.left())
+    write_events(shelf, manifest, outputs, &mut room.line, world.events())?;
+    write_left(shelf, manifest, outputs, world.left())
 }
 
 /// Writes and counts what a bridge told, and what left it, since its world was cleared.
@@ -71,19 +71,19 @@ pub(crate) fn note<S: Shelf>(
     desk: &mut Desk,
     world: &World,
 ) -> Result<(), Fault>
-    requires ready { IsReady desk.old.plan (S.ids shelf.old) desk.old.outputs }
-    requires can { CanNote desk.old.plan desk.old.counted (network_of world.now) }
-    ensures plan { desk.new.plan ≡ desk.old.plan }
-    ensures ready { IsReady desk.new.plan (S.ids shelf.new) desk.new.outputs }
+    requires ready { IsReady desk.old.manifest (S.ids shelf.old) desk.old.outputs }
+    requires can { CanNote desk.old.manifest desk.old.counted (network_of world.now) }
+    ensures manifest { desk.new.manifest ≡ desk.old.manifest }
+    ensures ready { IsReady desk.new.manifest (S.ids shelf.new) desk.new.outputs }
     ensures noted { OnOk result ((told done : Stepped) → GoTogether told.events told.passed → IsMore told done (network_of world.now)
         → IsNoted S.tells (S.file shelf.old) desk.old told → IsNoted S.tells (S.file shelf.new) desk.new done) }
     ensures cut { S.tells → OnErr result ((told done : Stepped) → IsMore told done (network_of world.now)
-        → IsNoted S.tells (S.file shelf.old) desk.old told → AreFronts desk.old.plan (S.file shelf.new) done) }
-    ensures only { OnlyWrites S.tells desk.old.plan (S.file shelf.old) (S.file shelf.new) (S.ids shelf.old) (S.ids shelf.new) }
+        → IsNoted S.tells (S.file shelf.old) desk.old told → AreFronts desk.old.manifest (S.file shelf.new) done) }
+    ensures only { OnlyWrites S.tells desk.old.manifest (S.file shelf.old) (S.file shelf.new) (S.ids shelf.old) (S.ids shelf.new) }
     ensures causes { IfErr result IsOfWriting }
     ensures faults { CountsFaults result (S.faults shelf.old) (S.faults shelf.new) }
 {
-    write_new(shelf, room, &desk.plan, &mut desk.outputs, world)?;
+    write_new(shelf, room, &desk.manifest, &mut desk.outputs, world)?;
     desk.counted.note(
         world.events(),
         world.passed(),
@@ -96,44 +96,50 @@ pub(crate) fn note<S: Shelf>(
 fn write_counts<S: Shelf>(
     shelf: &mut S,
     room: &mut Room,
-    plan: &Plan,
+    manifest: &Manifest,
     outputs: &mut Outputs,
     counted: &Counted,
 ) -> Result<(), Fault>
-    requires ready { IsReady plan.now (S.ids shelf.old) outputs.old }
-    requires counted { AreCountsOf plan.now counted.now.ports }
-    requires sent { AreCountedAt plan.now outputs.old }
-    ensures ready { IsReady plan.now (S.ids shelf.new) outputs.new }
-    ensures texts { S.tells → OnOk result ((orig : Files) (text : Output → List ℕ) → HasTexts plan.now (pieces_of outputs.old) orig (S.file shelf.old) text
-        → HasTexts plan.now (pieces_of outputs.new) orig (S.file shelf.new) (with_more text output.Counters (counts_text plan.now counted.now.ports outputs.old))) }
-    ensures cut { S.tells → OnErr result ((orig : Files) (text : Output → List ℕ) → HasTexts plan.now (pieces_of outputs.old) orig (S.file shelf.old) text
-        → AreCut plan.now orig (S.file shelf.new) (with_more text output.Counters (counts_text plan.now counted.now.ports outputs.old))) }
-    ensures only { OnlyWrites S.tells plan.now (S.file shelf.old) (S.file shelf.new) (S.ids shelf.old) (S.ids shelf.new) }
+    requires ready { IsReady manifest.now (S.ids shelf.old) outputs.old }
+    requires counted { AreCountsOf manifest.now counted.now.ports }
+    requires sent { AreCountedAt manifest.now outputs.old }
+    ensures ready { IsReady manifest.now (S.ids shelf.new) outputs.new }
+    ensures texts { S.tells → OnOk result ((orig : Files) (text : Output → List ℕ) → HasTexts manifest.now (pieces_of outputs.old) orig (S.file shelf.old) text
+        → HasTexts manifest.now (pieces_of outputs.new) orig (S.file shelf.new) (with_more text output.Counters (counts_text manifest.now counted.now.ports outputs.old))) }
+    ensures cut { S.tells → OnErr result ((orig : Files) (text : Output → List ℕ) → HasTexts manifest.now (pieces_of outputs.old) orig (S.file shelf.old) text
+        → AreCut manifest.now orig (S.file shelf.new) (with_more text output.Counters (counts_text manifest.now counted.now.ports outputs.old))) }
+    ensures only { OnlyWrites S.tells manifest.now (S.file shelf.old) (S.file shelf.new) (S.ids shelf.old) (S.ids shelf.new) }
     ensures causes { IfErr result IsOfWriting }
     ensures faults { CountsFaults result (S.faults shelf.old) (S.faults shelf.new) }
 {
     match &counted.ports {
-        Some(counters) => write_counters(shelf, plan, outputs, &mut room.text, counters),
+        Some(counters) => write_counters(shelf, manifest, outputs, &mut room.text, counters),
         None => Ok(()),
     }
 }
 
 /// Writes the counters of a bridge, where they are asked for, and all that isn't written yet.
 pub(crate) fn finish<S: Shelf>(shelf: &mut S, room: &mut Room, desk: &mut Desk) -> Result<(), Fault>
-    requires ready { IsReady desk.old.plan (S.ids shelf.old) desk.old.outputs }
-    requires counted { AreCountsOf desk.old.plan desk.old.counted.ports }
-    requires sent { AreCountedAt desk.old.plan desk.old.outputs }
-    ensures plan { desk.new.plan ≡ desk.old.plan }
+    requires ready { IsReady desk.old.manifest (S.ids shelf.old) desk.old.outputs }
+    requires counted { AreCountsOf desk.old.manifest desk.old.counted.ports }
+    requires sent { AreCountedAt desk.old.manifest desk.old.outputs }
+    ensures manifest { desk.new.manifest ≡ desk.old.manifest }
     ensures counted { desk.new.counted ≡ desk.old.counted }
     ensures texts { S.tells → OnOk result ((done : Stepped) → IsNoted S.tells (S.file shelf.old) desk.old done
-        → IsWhole desk.old.plan (S.file shelf.new) (text_of done (counts_text desk.old.plan desk.old.counted.ports desk.old.outputs))) }
-    ensures cut { S.tells → OnErr result ((done : Stepped) → IsNoted S.tells (S.file shelf.old) desk.old done → AreFronts desk.old.plan (S.file shelf.new) done) }
-    ensures only { OnlyWrites S.tells desk.old.plan (S.file shelf.old) (S.file shelf.new) (S.ids shelf.old) (S.ids shelf.new) }
+        → IsWhole desk.old.manifest (S.file shelf.new) (text_of done (counts_text desk.old.manifest desk.old.counted.ports desk.old.outputs))) }
+    ensures cut { S.tells → OnErr result ((done : Stepped) → IsNoted S.tells (S.file shelf.old) desk.old done → AreFronts desk.old.manifest (S.file shelf.new) done) }
+    ensures only { OnlyWrites S.tells desk.old.manifest (S.file shelf.old) (S.file shelf.new) (S.ids shelf.old) (S.ids shelf.new) }
     ensures causes { IfErr result IsOfWriting }
     ensures faults { CountsFaults result (S.faults shelf.old) (S.faults shelf.new) }
 {
-    write_counts(shelf, room, &desk.plan, &mut desk.outputs, &desk.counted)?;
-    desk.outputs.finish(shelf, &desk.plan)
+    write_counts(
+        shelf,
+        room,
+        &desk.manifest,
+        &mut desk.outputs,
+        &desk.counted,
+    )?;
+    desk.outputs.finish(shelf, &desk.manifest)
 }
 
 /// Adds what one bridge counted to what those before it did.

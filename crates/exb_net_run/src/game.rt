@@ -17,7 +17,7 @@ ghost use Rattle.exb_inputs.specs.Shelving.{CountsFaults, OnlyReads};
 ghost use Rattle.exb_outputs.specs.Shelving.{IsOfWriting};
 ghost use Rattle.exb_writers.specs.Counts.{IsSummary};
 ghost use Rattle.exb_net_run.specs.Answers.{IsOfNetPlay};
-ghost use Rattle.exb_net_run.specs.Desks.{AllGoTogether, AreAllFronts, AreMore, AreNoted, ArePlansApart, AreReady, CanEndAll, CanNoteAll, OnlyWritesAll, AreWhole, plans_in, tallies_in};
+ghost use Rattle.exb_net_run.specs.Desks.{AllGoTogether, AreAllFronts, AreMore, AreNoted, AreManifestsApart, AreReady, CanEndAll, CanNoteAll, OnlyWritesAll, AreWhole, manifests_in, tallies_in};
 ghost use Rattle.exb_net_run.specs.Shelving.{AreOthersAll, IsNetChange, IsOfCaptures, OnlyGoesOnAll};
 ghost use Rattle.exb_net_run.specs.Summing.{added};
 ghost use Rattle.exb_net_run.specs.UnderWay.{AreOfRests, CanBegin, CanGive, HasWritten, IsAllTold, IsCutOff, IsDue, IsGoing, IsPaid, IsWithin, NetRun, came_by, letters_at};
@@ -145,15 +145,15 @@ fn note_all<S: Shelf>(
     net: &Net,
 ) -> Result<(), Fault>
     requires ready { AreReady (S.ids shelf.old) desks.old.items }
-    requires apart { ArePlansApart (plans_in desks.old.items) }
+    requires apart { AreManifestsApart (manifests_in desks.old.items) }
     requires can { CanNoteAll desks.old.items net.now.nodes.items }
-    ensures plans { plans_in desks.new.items ≡ plans_in desks.old.items }
+    ensures manifests { manifests_in desks.new.items ≡ manifests_in desks.old.items }
     ensures ready { AreReady (S.ids shelf.new) desks.new.items }
     ensures noted { OnOk result ((told dones : Dones) → AllGoTogether told net.now.nodes.items → AreMore told dones net.now.nodes.items
         → AreNoted S.tells (S.file shelf.old) desks.old.items told → AreNoted S.tells (S.file shelf.new) desks.new.items dones) }
     ensures cut { S.tells → OnErr result ((told dones : Dones) → AllGoTogether told net.now.nodes.items → AreMore told dones net.now.nodes.items
-        → AreNoted S.tells (S.file shelf.old) desks.old.items told → AreAllFronts (plans_in desks.old.items) (S.file shelf.new) dones) }
-    ensures only { OnlyWritesAll S.tells (plans_in desks.old.items) (S.file shelf.old) (S.file shelf.new) (S.ids shelf.old) (S.ids shelf.new) }
+        → AreNoted S.tells (S.file shelf.old) desks.old.items told → AreAllFronts (manifests_in desks.old.items) (S.file shelf.new) dones) }
+    ensures only { OnlyWritesAll S.tells (manifests_in desks.old.items) (S.file shelf.old) (S.file shelf.new) (S.ids shelf.old) (S.ids shelf.new) }
     ensures causes { IfErr result IsOfWriting }
     ensures faults { CountsFaults result (S.faults shelf.old) (S.faults shelf.new) }
 {
@@ -168,13 +168,13 @@ fn note_all<S: Shelf>(
 /// Writes what is still to be written of all bridges.
 fn finish_all<S: Shelf>(shelf: &mut S, room: &mut Room, desks: &mut Vec<Desk>) -> Result<(), Fault>
     requires ready { AreReady (S.ids shelf.old) desks.old.items }
-    requires apart { ArePlansApart (plans_in desks.old.items) }
+    requires apart { AreManifestsApart (manifests_in desks.old.items) }
     requires can { CanEndAll desks.old.items }
-    ensures plans { plans_in desks.new.items ≡ plans_in desks.old.items }
+    ensures manifests { manifests_in desks.new.items ≡ manifests_in desks.old.items }
     ensures tallies { tallies_in desks.new.items ≡ tallies_in desks.old.items }
     ensures texts { S.tells → OnOk result ((dones : Dones) → AreNoted S.tells (S.file shelf.old) desks.old.items dones → AreWhole desks.old.items (S.file shelf.new) dones) }
-    ensures cut { S.tells → OnErr result ((dones : Dones) → AreNoted S.tells (S.file shelf.old) desks.old.items dones → AreAllFronts (plans_in desks.old.items) (S.file shelf.new) dones) }
-    ensures only { OnlyWritesAll S.tells (plans_in desks.old.items) (S.file shelf.old) (S.file shelf.new) (S.ids shelf.old) (S.ids shelf.new) }
+    ensures cut { S.tells → OnErr result ((dones : Dones) → AreNoted S.tells (S.file shelf.old) desks.old.items dones → AreAllFronts (manifests_in desks.old.items) (S.file shelf.new) dones) }
+    ensures only { OnlyWritesAll S.tells (manifests_in desks.old.items) (S.file shelf.old) (S.file shelf.new) (S.ids shelf.old) (S.ids shelf.new) }
     ensures causes { IfErr result IsOfWriting }
     ensures faults { CountsFaults result (S.faults shelf.old) (S.faults shelf.new) }
 {
@@ -200,18 +200,18 @@ impl NetGame {
     /// Writes and counts what happened since all bridges were cleared, and clears them.
     fn note<S: Shelf>(&mut self, shelf: &mut S) -> Result<(), Fault>
         requires ready { AreReady (S.ids shelf.old) self.old.desks.items }
-        requires apart { ArePlansApart (plans_in self.old.desks.items) }
+        requires apart { AreManifestsApart (manifests_in self.old.desks.items) }
         requires can { CanNoteAll self.old.desks.items self.old.net.nodes.items }
-        ensures plans { plans_in self.new.desks.items ≡ plans_in self.old.desks.items }
+        ensures manifests { manifests_in self.new.desks.items ≡ manifests_in self.old.desks.items }
         ensures ready { AreReady (S.ids shelf.new) self.new.desks.items }
         ensures noted { OnOk result ((told dones : Dones) → AllGoTogether told self.old.net.nodes.items → AreMore told dones self.old.net.nodes.items
             → AreNoted S.tells (S.file shelf.old) self.old.desks.items told → AreNoted S.tells (S.file shelf.new) self.new.desks.items dones) }
         ensures cut { S.tells → OnErr result ((told dones : Dones) → AllGoTogether told self.old.net.nodes.items → AreMore told dones self.old.net.nodes.items
-            → AreNoted S.tells (S.file shelf.old) self.old.desks.items told → AreAllFronts (plans_in self.old.desks.items) (S.file shelf.new) dones) }
+            → AreNoted S.tells (S.file shelf.old) self.old.desks.items told → AreAllFronts (manifests_in self.old.desks.items) (S.file shelf.new) dones) }
         ensures playing { OnOk result ((n : Wired) (s told : Dones) → IsPlaying n s told self.old.net → IsPlaying n s s self.new.net) }
         ensures came { OnOk result (self.new.net.came ≡ self.old.net.came) }
         ensures fates { OnOk result (AreEach (λ b x y. left (fate_in y.world) ≤ left (fate_in x.world)) self.old.net.nodes.items self.new.net.nodes.items) }
-        ensures only { OnlyWritesAll S.tells (plans_in self.old.desks.items) (S.file shelf.old) (S.file shelf.new) (S.ids shelf.old) (S.ids shelf.new) }
+        ensures only { OnlyWritesAll S.tells (manifests_in self.old.desks.items) (S.file shelf.old) (S.file shelf.new) (S.ids shelf.old) (S.ids shelf.new) }
         ensures causes { IfErr result IsOfWriting }
         ensures faults { CountsFaults result (S.faults shelf.old) (S.faults shelf.new) }
     {
@@ -230,13 +230,13 @@ impl NetGame {
         buffer: &mut Vec<u8>,
     ) -> Result<(), Fault>
         requires due { (r : NetRun) × ((second : ℕ) × ((ps : List Programme) × (IsDue S.tells r (S.file shelf.old) (S.ids shelf.old) seconds second self.old due ps × (AreOfRests rests.now ps × IsPaid self.old.net.nodes.items (λ x. left (fate_in x.world)) rests.now due ps)))) }
-        ensures plans { plans_in self.new.desks.items ≡ plans_in self.old.desks.items }
+        ensures manifests { manifests_in self.new.desks.items ≡ manifests_in self.old.desks.items }
         ensures told { OnOk result ((r : NetRun) (second : ℕ) (ps : List Programme) → IsDue S.tells r (S.file shelf.old) (S.ids shelf.old) seconds second self.old due ps → AreOfRests rests.now ps
             → IsGoing S.tells r (S.file shelf.new) (S.ids shelf.new) (Some second) self.new ps) }
         ensures budget { OnOk result ((ps : List Programme) → IsPaid self.old.net.nodes.items (λ x. left (fate_in x.world)) rests.now due ps → IsWithin self.new.net.nodes.items (λ x. left (fate_in x.world)) ps) }
         ensures cut { S.tells → OnErr result ((r : NetRun) (second : ℕ) (ps : List Programme) → IsDue S.tells r (S.file shelf.old) (S.ids shelf.old) seconds second self.old due ps → AreOfRests rests.now ps
             → IsCutOff r (S.file shelf.new)) }
-        ensures only { OnlyWritesAll S.tells (plans_in self.old.desks.items) (S.file shelf.old) (S.file shelf.new) (S.ids shelf.old) (S.ids shelf.new) }
+        ensures only { OnlyWritesAll S.tells (manifests_in self.old.desks.items) (S.file shelf.old) (S.file shelf.new) (S.ids shelf.old) (S.ids shelf.new) }
         ensures causes { IfErr result IsOfWriting }
         ensures faults { CountsFaults result (S.faults shelf.old) (S.faults shelf.new) }
     {
@@ -265,7 +265,7 @@ impl NetGame {
         requires rests { AreOfRests rests.now (programmes_in agenda.old) }
         requires going { (r : NetRun) × IsGoing S.tells r (S.file shelf.old) (S.ids shelf.old) None self.old (programmes_in agenda.old) }
         requires budget { IsWithin self.old.net.nodes.items (λ x. left (fate_in x.world)) (programmes_in agenda.old) }
-        ensures plans { plans_in self.new.desks.items ≡ plans_in self.old.desks.items }
+        ensures manifests { manifests_in self.new.desks.items ≡ manifests_in self.old.desks.items }
         ensures ready { OnOk result (AreReady (S.ids shelf.new) self.new.desks.items) }
         ensures can { OnOk result (CanEndAll self.new.desks.items) }
         ensures told { S.tells → OnOk result ((r : NetRun) → IsGoing S.tells r (S.file shelf.old) (S.ids shelf.old) None self.old (programmes_in agenda.old)
@@ -274,7 +274,7 @@ impl NetGame {
             → IsCutOff r (S.file shelf.new)) }
         ensures never { S.tells → IfErr result (λ fault. IsNetChange fault → (r : NetRun)
             → IsGoing S.tells r (S.file shelf.old) (S.ids shelf.old) None self.old (programmes_in agenda.old) → ⊥) }
-        ensures only { OnlyGoesOnAll S.tells (plans_in self.old.desks.items) (all_ids (programmes_in agenda.old)) (S.file shelf.old) (S.file shelf.new) (S.ids shelf.old) (S.ids shelf.new) }
+        ensures only { OnlyGoesOnAll S.tells (manifests_in self.old.desks.items) (all_ids (programmes_in agenda.old)) (S.file shelf.old) (S.file shelf.new) (S.ids shelf.old) (S.ids shelf.new) }
         ensures changed { (name : List ℕ) (p at : ℕ) → IsErrOf result (Fault.MemberChanged name p at) → IsOfCaptures rests.now (programmes_in agenda.old) name p }
         ensures causes { IfErr result IsOfNetPlay }
         ensures faults { CountsFaults result (S.faults shelf.old) (S.faults shelf.new) }
@@ -294,12 +294,12 @@ impl NetGame {
     /// Writes what is still to be written, and answers the summary line.
     fn end<S: Shelf>(&mut self, alloc: Global, shelf: &mut S) -> Result<String, Fault>
         requires ready { AreReady (S.ids shelf.old) self.old.desks.items }
-        requires apart { ArePlansApart (plans_in self.old.desks.items) }
+        requires apart { AreManifestsApart (manifests_in self.old.desks.items) }
         requires can { CanEndAll self.old.desks.items }
         ensures texts { S.tells → OnOk result ((dones : Dones) → AreNoted S.tells (S.file shelf.old) self.old.desks.items dones → AreWhole self.old.desks.items (S.file shelf.new) dones) }
-        ensures cut { S.tells → OnErr result ((dones : Dones) → AreNoted S.tells (S.file shelf.old) self.old.desks.items dones → AreAllFronts (plans_in self.old.desks.items) (S.file shelf.new) dones) }
+        ensures cut { S.tells → OnErr result ((dones : Dones) → AreNoted S.tells (S.file shelf.old) self.old.desks.items dones → AreAllFronts (manifests_in self.old.desks.items) (S.file shelf.new) dones) }
         ensures line { IfOk result (λ line. string_bytes line ≡ summary_line (added (tallies_in self.old.desks.items))) }
-        ensures only { OnlyWritesAll S.tells (plans_in self.old.desks.items) (S.file shelf.old) (S.file shelf.new) (S.ids shelf.old) (S.ids shelf.new) }
+        ensures only { OnlyWritesAll S.tells (manifests_in self.old.desks.items) (S.file shelf.old) (S.file shelf.new) (S.ids shelf.old) (S.ids shelf.new) }
         ensures causes { IfErr result IsOfWriting }
         ensures faults { CountsFaults result (S.faults shelf.old) (S.faults shelf.new) }
     {
@@ -326,7 +326,7 @@ impl NetGame {
             → IsCutOff r (S.file shelf.new)) }
         ensures never { S.tells → IfErr result (λ fault. IsNetChange fault → (r : NetRun)
             → IsGoing S.tells r (S.file shelf.old) (S.ids shelf.old) None self.old (programmes_in agenda.old) → ⊥) }
-        ensures only { OnlyGoesOnAll S.tells (plans_in self.old.desks.items) (all_ids (programmes_in agenda.old)) (S.file shelf.old) (S.file shelf.new) (S.ids shelf.old) (S.ids shelf.new) }
+        ensures only { OnlyGoesOnAll S.tells (manifests_in self.old.desks.items) (all_ids (programmes_in agenda.old)) (S.file shelf.old) (S.file shelf.new) (S.ids shelf.old) (S.ids shelf.new) }
         ensures changed { (name : List ℕ) (p at : ℕ) → IsErrOf result (Fault.MemberChanged name p at) → IsOfCaptures rests.now (programmes_in agenda.old) name p }
         ensures causes { IfErr result IsOfNetPlay }
         ensures faults { CountsFaults result (S.faults shelf.old) (S.faults shelf.new) }
@@ -356,7 +356,7 @@ impl NetGame {
             → IsCutOff r (S.file shelf.new)) }
         ensures never { S.tells → IfErr result (λ fault. IsNetChange fault → (r : NetRun)
             → CanBegin S.tells r (S.file shelf.old) (S.ids shelf.old) self.old (programmes_in agenda.old) → ⊥) }
-        ensures only { OnlyGoesOnAll S.tells (plans_in self.old.desks.items) (all_ids (programmes_in agenda.old)) (S.file shelf.old) (S.file shelf.new) (S.ids shelf.old) (S.ids shelf.new) }
+        ensures only { OnlyGoesOnAll S.tells (manifests_in self.old.desks.items) (all_ids (programmes_in agenda.old)) (S.file shelf.old) (S.file shelf.new) (S.ids shelf.old) (S.ids shelf.new) }
         ensures changed { (name : List ℕ) (p at : ℕ) → IsErrOf result (Fault.MemberChanged name p at) → IsOfCaptures rests.now (programmes_in agenda.old) name p }
         ensures causes { IfErr result IsOfNetPlay }
         ensures faults { CountsFaults result (S.faults shelf.old) (S.faults shelf.new) }

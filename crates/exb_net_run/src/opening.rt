@@ -23,12 +23,12 @@ ghost use Rattle.exb_shelf.specs.Files.{SameFiles};
 ghost use Rattle.exb_shelf.specs.Shelf.{Opens};
 ghost use Rattle.exb_text.specs.declared.output.Output.{Output};
 ghost use Rattle.exb_net_run.specs.declared.desk.Desk.{Desk};
-ghost use Rattle.exb_net_run.specs.Desks.{OnlyAllPlanned};
+ghost use Rattle.exb_net_run.specs.Desks.{OnlyAllListed};
 ghost use Rattle.exb_net_run.specs.Answers.{IsOfNetPlay};
-ghost use Rattle.exb_net_run.specs.Nets.{net_of, plan_with};
+ghost use Rattle.exb_net_run.specs.Nets.{net_of, manifest_with};
 ghost use Rattle.exb_net_run.specs.Opening.{HasCaptureAt, MakesNet, WritesNetOutput};
 ghost use Rattle.exb_net_run.specs.Reopening.{IsOpenedAgain, start_of_told};
-ghost use Rattle.exb_net_run.specs.Setting.{AreCutAs, AreSet, GoesFrom, IsSet, IsToBeOpened, plan_under};
+ghost use Rattle.exb_net_run.specs.Setting.{AreCutAs, AreSet, GoesFrom, IsSet, IsToBeOpened, manifest_under};
 ghost use Rattle.exb_net_run.specs.Shelving.{IsNetChange, IsOfCaptures};
 ghost use Rattle.exb_net_run.specs.UnderWay.{AreOfRests, Begins, LeadsOn};
 
@@ -42,20 +42,25 @@ use exb_model::setup::{Setup, Verdict};
 use exb_net_file::laws::bridges_write_apart;
 use exb_net_file::{NetParts, NetRest, prefix_of};
 use exb_net_inputs::of_member;
-use exb_outputs::{Plan, create_all};
+use exb_outputs::{Manifest, create_all};
 use exb_shelf::Shelf;
 use exb_words::Options;
 use exb_writers::Counted;
 use std::alloc::Global;
 
 /// What a bridge of this name writes.
-fn plan_of(alloc: Global, setup: &Setup, name: &str, counters: bool) -> Result<Plan, NoMemory>
+fn manifest_of(
+    alloc: Global,
+    setup: &Setup,
+    name: &str,
+    counters: bool,
+) -> Result<Manifest, NoMemory>
     requires { IsValid setup.now }
-    ensures { IfOk result (λ plan. plan ≡ plan_under setup.now name.now counters) }
+    ensures { IfOk result (λ manifest. manifest ≡ manifest_under setup.now name.now counters) }
 {
     let prefix = prefix_of(alloc, name)?;
     let options = Options::eager(counters);
-    Plan::new(alloc, setup, prefix.as_str(), options)
+    Manifest::new(alloc, setup, prefix.as_str(), options)
 }
 
 /// Makes the files of a bridge, and puts its desk behind those of the bridges before it.
@@ -68,18 +73,18 @@ fn set_desk<S: Shelf>(
     desks: &mut Vec<Desk>,
 ) -> Result<(), Fault>
     requires valid { IsValid setup.now }
-    ensures set { OnOk result ((d : Desk) × (desks.new.items ≡ desks.old.items ++ d ∷ []) × (d.plan ≡ plan_under setup.now name.now counters) × IsSet S.tells (S.file shelf.new) (S.ids shelf.new) d) }
-    ensures cut { S.tells → OnErr result ((text : Output → List ℕ) → GoesFrom text → AreCut (plan_under setup.now name.now counters) (S.file shelf.old) (S.file shelf.new) text) }
-    ensures only { OnlyMakes S.tells (plan_under setup.now name.now counters) (S.file shelf.old) (S.file shelf.new) (S.ids shelf.old) (S.ids shelf.new) }
-    ensures made { MakesInOrder (plan_under setup.now name.now counters) result (S.ids shelf.old) (S.ids shelf.new) }
+    ensures set { OnOk result ((d : Desk) × (desks.new.items ≡ desks.old.items ++ d ∷ []) × (d.manifest ≡ manifest_under setup.now name.now counters) × IsSet S.tells (S.file shelf.new) (S.ids shelf.new) d) }
+    ensures cut { S.tells → OnErr result ((text : Output → List ℕ) → GoesFrom text → AreCut (manifest_under setup.now name.now counters) (S.file shelf.old) (S.file shelf.new) text) }
+    ensures only { OnlyMakes S.tells (manifest_under setup.now name.now counters) (S.file shelf.old) (S.file shelf.new) (S.ids shelf.old) (S.ids shelf.new) }
+    ensures made { MakesInOrder (manifest_under setup.now name.now counters) result (S.ids shelf.old) (S.ids shelf.new) }
     ensures causes { IfErr result IsOfWriting }
     ensures faults { CountsFaults result (S.faults shelf.old) (S.faults shelf.new) }
 {
-    let plan = plan_of(alloc, setup, name, counters)?;
-    let counted = Counted::new(alloc, setup, &plan)?;
-    let outputs = create_all(alloc, shelf, &plan)?;
+    let manifest = manifest_of(alloc, setup, name, counters)?;
+    let counted = Counted::new(alloc, setup, &manifest)?;
+    let outputs = create_all(alloc, shelf, &manifest)?;
     let desk = Desk {
-        plan,
+        manifest,
         outputs,
         counted,
     };
@@ -98,10 +103,10 @@ pub(crate) fn set_desks<S: Shelf>(
 ) -> Result<Vec<Desk>, Fault>
     requires read { (ms : List NetMember) × ((ws : List Wire) × (IsTakenApart ms ws parts.now × AreRead ms ws)) }
     ensures set { IfOk result (λ desks. (ms : List NetMember) (ws : List Wire) → IsTakenApart ms ws parts.now → AreRead ms ws
-        → AreSet S.tells (map (plan_with counters) ms) (S.file shelf.old) (S.file shelf.new) (S.ids shelf.new) desks.items) }
+        → AreSet S.tells (map (manifest_with counters) ms) (S.file shelf.old) (S.file shelf.new) (S.ids shelf.new) desks.items) }
     ensures cut { S.tells → OnErr result ((ms : List NetMember) (ws : List Wire) → IsTakenApart ms ws parts.now → AreRead ms ws
-        → (text : ℕ → Output → List ℕ) → ((b : ℕ) → GoesFrom (text b)) → AreCutAs (map (plan_with counters) ms) (S.file shelf.old) (S.file shelf.new) text) }
-    ensures only { S.tells → (ms : List NetMember) (ws : List Wire) → IsTakenApart ms ws parts.now → AreRead ms ws → OnlyAllPlanned (map (plan_with counters) ms) (S.file shelf.old) (S.file shelf.new) }
+        → (text : ℕ → Output → List ℕ) → ((b : ℕ) → GoesFrom (text b)) → AreCutAs (map (manifest_with counters) ms) (S.file shelf.old) (S.file shelf.new) text) }
+    ensures only { S.tells → (ms : List NetMember) (ws : List Wire) → IsTakenApart ms ws parts.now → AreRead ms ws → OnlyAllListed (map (manifest_with counters) ms) (S.file shelf.old) (S.file shelf.new) }
     ensures opened { (ms : List NetMember) (ws : List Wire) → IsTakenApart ms ws parts.now → AreRead ms ws → Opens (WritesNetOutput counters ms) (S.ids shelf.old) (S.ids shelf.new) }
     ensures made { (ms : List NetMember) (ws : List Wire) → IsTakenApart ms ws parts.now → AreRead ms ws → MakesNet counters ms result (S.ids shelf.old) (S.ids shelf.new) }
     ensures causes { IfErr result IsOfWriting }

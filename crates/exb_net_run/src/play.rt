@@ -15,8 +15,8 @@ ghost use Rattle.exb_shelf.specs.Files.{Files, SameFiles};
 ghost use Rattle.exb_shelf.specs.Shelf.{IsReading, Opens};
 ghost use Rattle.exb_writers.specs.Counts.{IsSummary};
 ghost use Rattle.exb_net_run.specs.Answers.{AreFrontsOfNet, IsNetFailure, IsOfNet, IsOfNetPlay, NetPlayed, NetStops, OnlyNetAsked};
-ghost use Rattle.exb_net_run.specs.Desks.{OnlyAllPlanned, plans_in};
-ghost use Rattle.exb_net_run.specs.Nets.{net_of, plan_with};
+ghost use Rattle.exb_net_run.specs.Desks.{OnlyAllListed, manifests_in};
+ghost use Rattle.exb_net_run.specs.Nets.{net_of, manifest_with};
 ghost use Rattle.exb_net_run.specs.Opening.{HasCaptureAt, IsNetWanted, MakesNet, MakesNetOutputOf, NetOpensInOrder, WritesNetOutput};
 ghost use Rattle.exb_net_run.specs.Outputs.{AreNetFronts, IsNetPlayed};
 ghost use Rattle.exb_net_run.specs.Setting.{CanPlay, IsPrepared, run_of};
@@ -60,7 +60,7 @@ fn play_agenda<S: Shelf>(
         → IsCutOff r (S.file shelf.new)) }
     ensures never { S.tells → IfErr result (λ fault. IsNetChange fault → (r : NetRun)
         → CanPlay S.tells r (S.file shelf.old) (S.ids shelf.old) net desks.items (programmes_in agenda.old) → ⊥) }
-    ensures only { OnlyGoesOnAll S.tells (plans_in desks.items) (all_ids (programmes_in agenda.old)) (S.file shelf.old) (S.file shelf.new) (S.ids shelf.old) (S.ids shelf.new) }
+    ensures only { OnlyGoesOnAll S.tells (manifests_in desks.items) (all_ids (programmes_in agenda.old)) (S.file shelf.old) (S.file shelf.new) (S.ids shelf.old) (S.ids shelf.new) }
     ensures changed { (name : List ℕ) (p at : ℕ) → IsErrOf result (Fault.MemberChanged name p at) → IsOfCaptures rests.now (programmes_in agenda.old) name p }
     ensures causes { IfErr result IsOfNetPlay }
     ensures faults { CountsFaults result (S.faults shelf.old) (S.faults shelf.new) }
@@ -98,7 +98,7 @@ fn play_into<S: Shelf>(
         → IsPrepared S.tells counters ms ws parts.now checked.now before (S.file shelf.old) (S.ids shelf.old) desks.items
         → IsCutOff (run_of counters ms ws (S.file shelf.old) before) (S.file shelf.new)) }
     ensures never { S.tells → IfErr result (λ fault. IsNetChange fault → ⊥) }
-    ensures only { S.tells → OnlyAllPlanned (plans_in desks.items) (S.file shelf.old) (S.file shelf.new) }
+    ensures only { S.tells → OnlyAllListed (manifests_in desks.items) (S.file shelf.old) (S.file shelf.new) }
     ensures opens { (ms : List NetMember) (ws : List Wire) → IsTakenApart ms ws parts.now → Opens (ReadsMemberCapture ms) (S.ids shelf.old) (S.ids shelf.new) }
     ensures changed { (ms : List NetMember) (ws : List Wire) → IsTakenApart ms ws parts.now → (name : List ℕ) (p at : ℕ) → IsErrOf result (Fault.MemberChanged name p at) → HasCaptureAt ms name p }
     ensures causes { IfErr result IsOfNetPlay }
@@ -131,7 +131,7 @@ fn play_checked<S: Shelf>(
     ensures fronts { S.tells → (ms : List NetMember) (ws : List Wire) → IsTakenApart ms ws parts.now → AreRead ms ws → AreMembersChecked S.tells ms (S.file shelf.old) checked.now
         → AreNetFronts ms (net_of ms ws (S.file shelf.old)) (S.file shelf.old) (S.file shelf.new) }
     ensures never { S.tells → IfErr result (λ fault. IsNetChange fault → ⊥) }
-    ensures only { S.tells → (ms : List NetMember) (ws : List Wire) → IsTakenApart ms ws parts.now → AreRead ms ws → OnlyAllPlanned (map (plan_with counters) ms) (S.file shelf.old) (S.file shelf.new) }
+    ensures only { S.tells → (ms : List NetMember) (ws : List Wire) → IsTakenApart ms ws parts.now → AreRead ms ws → OnlyAllListed (map (manifest_with counters) ms) (S.file shelf.old) (S.file shelf.new) }
     ensures opens { (ms : List NetMember) (ws : List Wire) → IsTakenApart ms ws parts.now → AreRead ms ws
         → Opens (λ i. ReadsMemberCapture ms i ⊎ WritesNetOutput counters ms i) (S.ids shelf.old) (S.ids shelf.new) }
     ensures made { (ms : List NetMember) (ws : List Wire) → IsTakenApart ms ws parts.now → AreRead ms ws → MakesNet counters ms result (S.ids shelf.old) (S.ids shelf.new) }

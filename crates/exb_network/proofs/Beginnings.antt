@@ -42,7 +42,7 @@ ports_on : (n ports : ℕ) → (at_power_on n ports).tables.ports ≡ ports
 unfolding powered_on
 ports_on n ports = refl
 
-pub begins_at : (x : Setup) (c : Core) → c.control.fabric.shape ≡ shape_of x → c.control.fabric.limits ≡ limits_of x → c.control.failed ≡ false → far_of c.far ≡ first_far (shape_of x) →
+pub begins_at : (x : Setup) (c : Core) → c.control.active.shape ≡ shape_of x → c.control.active.limits ≡ limits_of x → c.control.failed ≡ false → far_of c.far ≡ first_far (shape_of x) →
     ((n : ℕ) → is_extender (shape_of x) n ≡ true → has_extender c.far n ≡ true) → ((n : ℕ) → has_extender c.far n ≡ true → is_extender (shape_of x) n ≡ true) → (s : Site) → s.tree ≡ shape_of x → limits_in s ≡ limits_of x → IsAt s c
 begins_at x c shape limits awake far there only s tree l =
     record {

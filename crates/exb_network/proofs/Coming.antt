@@ -26,7 +26,7 @@ use Rattle.exb_model.specs.Numbers.{IsNumbering}
 use Rattle.exb_relay.specs.Sends.{ingress_by, ingress_of, pcp_of, dei_of}
 use Rattle.exb_relay.specs.Spaces.{numbers_of}
 use Rattle.exb_relay.proofs.Words.{pcp_small}
-use Rattle.exb_control.specs.Fabrics.{bridge_in}
+use Rattle.exb_control.specs.ActiveConfigs.{bridge_in}
 use Rattle.exb_control.specs.declared.outbox.Outbox.{Outbox}
 use Rattle.exb_control.specs.Boxes.{HasCome, ingress_for}
 use Rattle.exb_control.specs.Controls.{Parts, state_of}
@@ -137,8 +137,8 @@ module _ (s : Site) (c : Core) (p : Parts) (rest : p ≡ record c.control { lear
   pub learned_at : IsAt s c → IsAt s (record c { control = p })
   learned_at at =
       record {
-        shape = ap (λ (q : Parts). q.fabric.shape) rest ∙ at.shape;
-        limits = ap (λ (q : Parts). q.fabric.limits) rest ∙ at.limits;
+        shape = ap (λ (q : Parts). q.active.shape) rest ∙ at.shape;
+        limits = ap (λ (q : Parts). q.active.limits) rest ∙ at.limits;
         awake = ap (λ (q : Parts). q.failed) rest ∙ at.awake;
         there = at.there;
         only = at.only;
@@ -155,7 +155,7 @@ module _ (s : Site) (c : Core) (p : Parts) (a : Arrival) (out : Outbox) (came : 
         passed =
             passed
             ∙ ap (λ bs. old.passed ++ bs)
-            (ap (λ (es : List Event). passed_in es out.ingress) came.events ∙ ap (passed_in (arrival_event (bridge_in c.control.fabric) a ∷ [])) came.ingress ∙ told_passed (bridge_in c.control.fabric) a);
+            (ap (λ (es : List Event). passed_in es out.ingress) came.events ∙ ap (passed_in (arrival_event (bridge_in c.control.active) a ∷ [])) came.ingress ∙ told_passed (bridge_in c.control.active) a);
         left = ap all_left left ∙ sym (append-nil (all_left old.left));
         outs = trace.outs ∙ sym (append-nil old.outs.items);
         lines = trace.lines;
@@ -164,19 +164,19 @@ module _ (s : Site) (c : Core) (p : Parts) (a : Arrival) (out : Outbox) (came : 
       }
 
 -- ---- what is sent
-module _ (s : Site) (c : Core) (p : Parts) (a : Arrival) (out : Outbox) (at : IsAt s c) (came : HasCome a c.control p out) (tree : IsTree c.control.fabric.shape) where
+module _ (s : Site) (c : Core) (p : Parts) (a : Arrival) (out : Outbox) (at : IsAt s c) (came : HasCome a c.control p out) (tree : IsTree c.control.active.shape) where
   pub came_sends : out.sends.items ≡ sends_for s.tree (world_in c) a
   came_sends =
       came.sends
-      ∙ ap (λ (xs : List SendTo). if is_relayed (bridge_in c.control.fabric) a.port a.bytes then xs else [])
-      (sym (sends_as c.control.fabric.shape tree c.control.fabric.spaces (bridge_in c.control.fabric) (look_of c.control.learned) a.port a.bytes))
+      ∙ ap (λ (xs : List SendTo). if is_relayed (bridge_in c.control.active) a.port a.bytes then xs else [])
+      (sym (sends_as c.control.active.shape tree c.control.active.spaces (bridge_in c.control.active) (look_of c.control.learned) a.port a.bytes))
       ∙ ap (λ (t : Shape). sends_for t (world_in c) a) at.shape
 
-  pub came_can : IsNumbering (numbers_of c.control.fabric.spaces) → IsBytes a.bytes → All CanSend out.sends.items
+  pub came_can : IsNumbering (numbers_of c.control.active.spaces) → IsBytes a.bytes → All CanSend out.sends.items
   came_can numb bytes =
       subst (All CanSend) (sym came.sends)
-      (by_relayed (is_relayed (bridge_in c.control.fabric) a.port a.bytes) _
-      (can_all c.control.fabric.shape (bridge_in c.control.fabric) (look_of c.control.learned) (numbers_of c.control.fabric.spaces) numb a.port a.bytes bytes))
+      (by_relayed (is_relayed (bridge_in c.control.active) a.port a.bytes) _
+      (can_all c.control.active.shape (bridge_in c.control.active) (look_of c.control.learned) (numbers_of c.control.active.spaces) numb a.port a.bytes bytes))
     where
       by_relayed : (e : Bool) (xs : List SendTo) → All CanSend xs → All CanSend (if e then xs else [])
       by_relayed true xs all = all

@@ -39,16 +39,16 @@ use Rattle.exb_network.proofs.Fields.{moved_is}
 
 -- ---- the control has made a step, which is the machine's at this site
 pub announced_at : (s : Site) (c : Core) (n : ℕ) (a : Announce) (p : Parts) (out : Outbox) → IsAt s c →
-    IsMoved (announced_in (decide_of c.control.fabric) c.control.fabric.shape n a (state_of c.control)) c.control p out → IsMoved (announced (decide s.tree (limits_in s)) s.tree n a (world_in c).control) c.control p out
+    IsMoved (announced_in (decide_of c.control.active) c.control.active.shape n a (state_of c.control)) c.control p out → IsMoved (announced (decide s.tree (limits_in s)) s.tree n a (world_in c).control) c.control p out
 announced_at s c n a p out at moved =
     subst (λ (l : Limits). IsMoved (announced (decide s.tree l) s.tree n a (state_of c.control)) c.control p out) at.limits
-    (subst (λ (t : Shape). IsMoved (announced (decide t c.control.fabric.limits) t n a (state_of c.control)) c.control p out) at.shape moved)
+    (subst (λ (t : Shape). IsMoved (announced (decide t c.control.active.limits) t n a (state_of c.control)) c.control p out) at.shape moved)
 
 pub answered_at : (s : Site) (c : Core) (n : ℕ) (m : Message) (p : Parts) (out : Outbox) → IsAt s c →
-    IsMoved (answered (decide_of c.control.fabric) n m (state_of c.control)) c.control p out → IsMoved (answered (decide s.tree (limits_in s)) n m (world_in c).control) c.control p out
+    IsMoved (answered (decide_of c.control.active) n m (state_of c.control)) c.control p out → IsMoved (answered (decide s.tree (limits_in s)) n m (world_in c).control) c.control p out
 answered_at s c n m p out at moved =
     subst (λ (l : Limits). IsMoved (answered (decide s.tree l) n m (state_of c.control)) c.control p out) at.limits
-    (subst (λ (t : Shape). IsMoved (answered (decide t c.control.fabric.limits) n m (state_of c.control)) c.control p out) at.shape moved)
+    (subst (λ (t : Shape). IsMoved (answered (decide t c.control.active.limits) n m (state_of c.control)) c.control p out) at.shape moved)
 
 -- what is asked can go
 pub asks_go : (t : Shape) (m : Moved) (old new : Parts) (out : Outbox) → IsMoved m old new out → AsksGo t m → AreLow (state_of new).askers → Each (CanGo t) out.asks

@@ -5,7 +5,7 @@ use Rattle.exb_model.specs.declared.setup.Setup.{Setup}
 use Rattle.exb_model.specs.Setup.{Limits, IsValid, shape_of, limits_of, start_of}
 use Rattle.exb_model.specs.Tree.{Shape, IsTree, is_extender}
 use Rattle.exb_changing.specs.Runs.Planned.{IsSetting}
-use Rattle.exb_control.specs.Fabrics.{IsFabric}
+use Rattle.exb_control.specs.ActiveConfigs.{IsActiveConfig}
 use Rattle.exb_changing.specs.Counting.{planned}
 use Rattle.exb_changing.specs.Deciding.{decide}
 use Rattle.exb_changing.specs.Machine.{State}
@@ -29,22 +29,22 @@ use Rattle.exb_network.specs.Worlds.{world_in, IsAt, Does}
 use Rattle.exb_network.proofs.ToExtenders.{serials_low}
 
 -- ---- a step
-pub setting_of : (s : Site) (c : Core) → IsFabric c.control.fabric → IsAt s c → IsSetting s.tree (limits_in s)
-setting_of s c fabric is_at =
+pub setting_of : (s : Site) (c : Core) → IsActiveConfig c.control.active → IsAt s c → IsSetting s.tree (limits_in s)
+setting_of s c active is_at =
     record {
-      tree = subst IsTree is_at.shape fabric.tree;
-      channels = subst (λ (l : Limits). l.channels ≤ 4094) is_at.limits fabric.channels;
-      groups = subst (λ (l : Limits). l.groups ≤ 12288) is_at.limits fabric.groups;
+      tree = subst IsTree is_at.shape active.tree;
+      channels = subst (λ (l : Limits). l.channels ≤ 4094) is_at.limits active.channels;
+      groups = subst (λ (l : Limits). l.groups ≤ 12288) is_at.limits active.groups;
     }
 
-pub asks_well : AsksCanBeSent → (s : Site) (c : Core) → IsFabric c.control.fabric → IsLive s c → AsksWell s.tree (limits_in s) (world_in c).control
-asks_well law s c fabric live = law s.tree (limits_in s) (world_in c) (setting_of s c fabric live.at) live.sound
+pub asks_well : AsksCanBeSent → (s : Site) (c : Core) → IsActiveConfig c.control.active → IsLive s c → AsksWell s.tree (limits_in s) (world_in c).control
+asks_well law s c active live = law s.tree (limits_in s) (world_in c) (setting_of s c active live.at) live.sound
 
-pub live_after : RunsStaySound → StepsStayWritten → WrittenAreShort → (s : Site) (c d : Core) (step : Step) (old new : Log) → IsFabric c.control.fabric → IsLive s c → Can s.tree (world_in c) step → HasBytes step →
+pub live_after : RunsStaySound → StepsStayWritten → WrittenAreShort → (s : Site) (c d : Core) (step : Step) (old new : Log) → IsActiveConfig c.control.active → IsLive s c → Can s.tree (world_in c) step → HasBytes step →
     ((n : ℕ) → ((world_in c).control.askers n).serial < 2 ^ 40) → ((n : ℕ) → ((world_in d).control.askers n).serial < 2 ^ 40) →
     Does (done_by s.tree (limits_in s) step (world_in c)) s d old new → IsLive s d
 unfolding run stepped
-live_after sounds writes shorts s c d step old new fabric live can bytes low low_after does =
+live_after sounds writes shorts s c d step old new active live can bytes low low_after does =
     record {
       at = does.at;
       sound = subst (IsSound s.tree (limits_in s)) (sym does.world) sound;
@@ -52,7 +52,7 @@ live_after sounds writes shorts s c d step old new fabric live can bytes low low
     }
   where
     setting : IsSetting s.tree (limits_in s)
-    setting = setting_of s c fabric live.at
+    setting = setting_of s c active live.at
 
     lows : AreLow (world_in c).control.askers
     lows = serials_low (world_in c).control.askers low
@@ -66,7 +66,7 @@ live_after sounds writes shorts s c d step old new fabric live can bytes low low
         (record { can = can; has = bytes; bytes = (shorts (world_in c) live.written).0; low = lows; after = lows_after }, tt)).sound
 
     written : AreWritten (done_by s.tree (limits_in s) step (world_in c)).world
-    written = writes s.tree (limits_in s) setting (world_in c) step live.sound fabric.pvids can bytes lows lows_after live.written
+    written = writes s.tree (limits_in s) setting (world_in c) step live.sound active.pvids can bytes lows lows_after live.written
 
 -- as it begins
 pub live_first : SetupsBeginSound → BeginsWritten → (setup : Setup) (s : Site) (c : Core) → IsValid setup → s.tree ≡ shape_of setup → limits_in s ≡ limits_of setup →
@@ -105,8 +105,8 @@ pub settled_idle : (t : Shape) (w : World) → IsSettled t w → (n : ℕ) → i
 settled_idle t w settled n e = record { near = settled.near n e; far = settled.far n e; down = settled.down n e; up = settled.up n e }
 
 -- how many are still to come
-pub planned_at : (s : Site) (c : Core) (state : State) (count : ℕ) → IsAt s c → count ≡ planned c.control.fabric.shape (decide_of c.control.fabric) state →
+pub planned_at : (s : Site) (c : Core) (state : State) (count : ℕ) → IsAt s c → count ≡ planned c.control.active.shape (decide_of c.control.active) state →
     count ≡ planned s.tree (decide s.tree (limits_in s)) state
 planned_at s c state count is_at is =
     subst (λ (l : Limits). count ≡ planned s.tree (decide s.tree l) state) is_at.limits
-    (subst (λ (t : Shape). count ≡ planned t (decide t c.control.fabric.limits) state) is_at.shape is)
+    (subst (λ (t : Shape). count ≡ planned t (decide t c.control.active.limits) state) is_at.shape is)

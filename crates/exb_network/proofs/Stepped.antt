@@ -198,7 +198,7 @@ module _ (s : Site) (c d e : Core) (a : Arrival) (old new : Log) (world : world_
 
 -- ---- commands
 pub ordered_at : (s : Site) (c : Core) (command : Command) (p : Parts) (out : Outbox) → IsAt s c →
-    IsMoved (ordered (decide_of c.control.fabric) command (state_of c.control)) c.control p out → IsMoved (ordered (decide s.tree (limits_in s)) command (world_in c).control) c.control p out
+    IsMoved (ordered (decide_of c.control.active) command (state_of c.control)) c.control p out → IsMoved (ordered (decide s.tree (limits_in s)) command (world_in c).control) c.control p out
 ordered_at s c command p out is_at moved =
     subst (λ (l : Limits). IsMoved (ordered (decide s.tree l) command (state_of c.control)) c.control p out) is_at.limits
-    (subst (λ (t : Shape). IsMoved (ordered (decide t c.control.fabric.limits) command (state_of c.control)) c.control p out) is_at.shape moved)
+    (subst (λ (t : Shape). IsMoved (ordered (decide t c.control.active.limits) command (state_of c.control)) c.control p out) is_at.shape moved)

@@ -36,8 +36,8 @@ world_in c =
 -- The parts are of this site: its tree and limits are those of the control, exactly its extenders are there, each with its
 -- ports, and memory hasn't run out in the control.
 pub record IsAt (s : Site) (c : Core) : Type 0 where
-  pub shape : c.control.fabric.shape ≡ s.tree
-  pub limits : c.control.fabric.limits ≡ limits_in s
+  pub shape : c.control.active.shape ≡ s.tree
+  pub limits : c.control.active.limits ≡ limits_in s
   pub awake : c.control.failed ≡ false
   pub there : (n : ℕ) → is_extender s.tree n ≡ true → has_extender c.far n ≡ true
   pub only : (n : ℕ) → has_extender c.far n ≡ true → is_extender s.tree n ≡ true

@@ -34,7 +34,7 @@ use exb_relay::laws::spaces_number;
 
 /// A frame leaves at a port of the bridge.
 #[inline(always)]
-fn leave(bridge_port: u8, moment: u64, frame: Bytes, post: &mut Post) -> Result<(), NoMemory>
+fn leave_bridge(bridge_port: u8, moment: u64, frame: Bytes, post: &mut Post) -> Result<(), NoMemory>
     requires from1 { 1 ≤ bridge_port }
     requires to64 { bridge_port ≤ 64 }
     ensures { OnOk result (HasLeft (record { port = bridge_port - 1; moment = moment; bytes = frame }) (Out 0 bridge_port frame) post.old.log post.new.log) }
@@ -109,7 +109,7 @@ fn send(
         None => {
             egress_into(frame, send.kind, tag, &mut buffer)?;
             let bytes = Bytes::from_vec(buffer);
-            leave(send.bridge_port, arrived.moment, bytes, post)
+            leave_bridge(send.bridge_port, arrived.moment, bytes, post)
         }
         Some(etag) => {
             let stamp = arrived.stamp();
@@ -179,7 +179,7 @@ fn tell(events: &mut List<Event>, ingress: &Ingress, post: &mut Post) -> Result<
 
 /// A frame comes to the bridge's control: it is ignored, or relayed and then learned from. What is sent for it is in the
 /// outbox.
-fn learn(
+fn relay(
     site: &Site,
     arrived: &Arrived,
     outbox: &mut Outbox,
@@ -193,7 +193,7 @@ fn learn(
     ensures can { OnOk result (All CanSend outbox.new.sends.items) }
     ensures ingress { OnOk result (outbox.new.ingress ≡ ingress_for (world_in core.old).control.bridge (arrival_of arrived.now)) }
 {
-    core.control.is_fabric();
+    core.control.is_active_config();
     spaces_number();
     let _ = site;
     let frame = arrived.bytes;
@@ -220,7 +220,7 @@ pub(crate) fn come(
     ensures { OnOk result (Does (comes site.now.tree (arrival_of arrived.now) (world_in core.old)) site.now core.new room.old.post.log room.new.post.log) }
 {
     are_bytes(arrived.bytes);
-    learn(site, arrived, &mut room.outbox, core, &mut room.post)?;
+    relay(site, arrived, &mut room.outbox, core, &mut room.post)?;
     match &room.outbox.ingress {
         Ingress::Dropped => Ok(()),
         Ingress::Passed { vid, pcp, dei } => {

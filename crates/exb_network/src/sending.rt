@@ -197,7 +197,7 @@ fn joins_at(site: &Site, number: u8, port: u8, row: &mut Row) -> bool
 
 /// A frame that an extender took leaves without its E-TAG at each port of a row.
 #[inline(always)]
-fn leave(
+fn leave_extender(
     site: &Site,
     number: u8,
     came: &Came,
@@ -248,7 +248,7 @@ fn send_behind(
     if joins(site, number, out, row) {
         return Ok(());
     }
-    leave(site, number, came, row, core, post)?;
+    leave_extender(site, number, came, row, core, post)?;
     *row = Row::none(number);
     send_frame(site, number, came, out, core, post)
 }
@@ -271,7 +271,7 @@ fn send_frames(
     for out in outs {
         send_behind(site, came, out, &mut row, core, post)?;
     }
-    leave(site, number, came, &row, core, post)
+    leave_extender(site, number, came, &row, core, post)
 }
 
 /// A control frame of an extender's own goes up; an empty one isn't sent.

@@ -259,7 +259,7 @@ fn make_told(site: &Site, step: &Step<'_>, room: &mut Room, core: &mut Core) -> 
     if room.post.log.tracing {
         make_traced(site, step, room, core)
     } else {
-        advance(site, step, room, core)
+        make_live(site, step, room, core)
     }
 }
 
@@ -281,7 +281,7 @@ fn make_traced(
     let before = room.post.log.events.as_slice().len();
     room.post.log.outs.clear();
     tell_ins(room.post.alloc, site, step, core, &mut room.post.log.lines)?;
-    advance(site, step, room, core)?;
+    make_live(site, step, room, core)?;
     let events = room.post.log.events.as_slice();
     tell_outs(
         room.post.alloc,
@@ -299,9 +299,9 @@ fn behind(events: &[Event], from: usize) -> &[Event]
     &events[from..]
 }
 
-/// Makes a step, and what the machine keeps is kept.
+/// Makes a step of a live world, which stays live.
 #[inline(always)]
-fn advance(site: &Site, step: &Step<'_>, room: &mut Room, core: &mut Core) -> Result<(), NoMemory>
+fn make_live(site: &Site, step: &Step<'_>, room: &mut Room, core: &mut Core) -> Result<(), NoMemory>
     requires live { IsLive site.now core.old }
     requires can { Can site.now.tree (world_in core.old) (step_of step.now) }
     ensures live { OnOk result (IsLive site.now core.new) }
@@ -311,7 +311,7 @@ fn advance(site: &Site, step: &Step<'_>, room: &mut Room, core: &mut Core) -> Re
     runs_stay_sound();
     steps_stay_written();
     written_are_short();
-    core.control.is_fabric();
+    core.control.is_active_config();
     core.control.has_low_serials();
     brings_bytes(step);
     match make(site, step, room, core) {

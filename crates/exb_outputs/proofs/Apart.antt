@@ -15,21 +15,21 @@ use Rattle.exb_outputs.specs.Apart.{CanBeRead, AreApart}
 use Rattle.exb_inputs.specs.Checks.{IsGood}
 use Rattle.exb_inputs.specs.Inputs.{bytes_named, input_from, is_named, name_of, records_at}
 use Rattle.exb_inputs.specs.Shelving.{ReadsCapture}
-use Rattle.exb_outputs.specs.Plans.{OnlyPlanned, output_name, Planned, output_count}
+use Rattle.exb_outputs.specs.Manifests.{OnlyListed, output_name, Listed, output_count}
 use Rattle.exb_inputs.proofs.Beginning.{none-elsewhere}
 
 -- ---- ids
 -- captures that are named are none of the outputs
-pub apart-named : (plan : Planned) (names : List Named) (ids : ℕ → Id) (mine : List ℕ) → ((q : ℕ) (name : List ℕ) → name_of names q ≡ Some name → (j : ℕ) → j < output_count plan → name ≢ output_name plan j) →
-    AllByRecursion (λ k. ReadsCapture names (ids k)) mine → AreApart plan ids mine
-apart-named plan names ids [] apart all = tt
-apart-named plan names ids (k ∷ mine) apart all = ((all.0.name, all.0.reads, apart all.0.port all.0.name all.0.named), apart-named plan names ids mine apart all.1)
+pub apart-named : (manifest : Listed) (names : List Named) (ids : ℕ → Id) (mine : List ℕ) → ((q : ℕ) (name : List ℕ) → name_of names q ≡ Some name → (j : ℕ) → j < output_count manifest → name ≢ output_name manifest j) →
+    AllByRecursion (λ k. ReadsCapture names (ids k)) mine → AreApart manifest ids mine
+apart-named manifest names ids [] apart all = tt
+apart-named manifest names ids (k ∷ mine) apart all = ((all.0.name, all.0.reads, apart all.0.port all.0.name all.0.named), apart-named manifest names ids mine apart all.1)
 
 -- ---- while outputs are made
 -- captures stay as they are, so what was told of them stands
-pub can-read-on : (tells : Type 0) (plan : Planned) (names : List Named) (file files : Files) (cs : List Checked) → (tells → OnlyPlanned plan file files) → CanBeRead tells plan names file cs →
-    CanBeRead tells plan names files cs
-can-read-on tells plan names file files cs only can = record {
+pub can-read-on : (tells : Type 0) (manifest : Listed) (names : List Named) (file files : Files) (cs : List Checked) → (tells → OnlyListed manifest file files) → CanBeRead tells manifest names file cs →
+    CanBeRead tells manifest names files cs
+can-read-on tells manifest names file files cs only can = record {
   checked = record {
     ports = can.checked.ports;
     small = can.checked.small;
@@ -42,9 +42,9 @@ can-read-on tells plan names file files cs only can = record {
   apart = can.apart;
 }
 
-pub input-stays : (setup : Setup) (commands : List Timed) (plan : Planned) (names : List Named) (file files : Files) (cs : List Checked) (tells : Type 0) → OnlyPlanned plan file files → CanBeRead tells plan names file cs →
+pub input-stays : (setup : Setup) (commands : List Timed) (manifest : Listed) (names : List Named) (file files : Files) (cs : List Checked) (tells : Type 0) → OnlyListed manifest file files → CanBeRead tells manifest names file cs →
     input_from setup commands names files ≡ input_from setup commands names file
-input-stays setup commands plan names file files cs tells only can =
+input-stays setup commands manifest names file files cs tells only can =
     ap (λ (records : ℕ → List Record). record { setup = setup; commands = map given_by commands; records = records }) (fun_ext λ q. records-stay q (name_of names q) refl)
   where
     records-stay : (q : ℕ) (o : Option (List ℕ)) → name_of names q ≡ o → records_at names files q ≡ records_at names file q

@@ -9,81 +9,81 @@ use Rattle.exb_text.specs.Names.{IsOfPort, file_name}
 use Rattle.exb_words.specs.declared.asked.Options.{Options}
 use Rattle.exb_words.specs.Kinds.{is_asked, kinds_behind, place_behind, port_of}
 use Rattle.exb_words.proofs.KindLemmas.{asked_stands, behind_is, capture_is, of_no_port}
-use Rattle.exb_outputs.specs.Plans.{output_name, Planned, IsMade, IsMadeAt, kind_at, output_count, place_at, place_in, place_of, port_at, port_count}
+use Rattle.exb_outputs.specs.Manifests.{output_name, Listed, IsMade, IsMadeAt, kind_at, output_count, place_at, place_in, place_of, port_at, port_count}
 use Rattle.exb_outputs.proofs.Places.{external_low, port_is, place_low, port_of_place, place_of_port}
 
--- ---- the kinds of a plan
-behind : (plan : Planned) (o : Output) (k : ℕ) → get_or (kinds_behind plan.options) k output.Journal ≡ o → kind_at plan (port_count plan + k) ≡ o
-behind plan o k is =
-    let rest : port_count plan + k - port_count plan ≡ k = omega arith in
-    rw (le-ltb (port_count plan + k) (port_count plan) (omega arith)) (ap (λ (n : ℕ). get_or (kinds_behind plan.options) n output.Journal) rest ∙ is)
+-- ---- the kinds of a manifest
+behind : (manifest : Listed) (o : Output) (k : ℕ) → get_or (kinds_behind manifest.options) k output.Journal ≡ o → kind_at manifest (port_count manifest + k) ≡ o
+behind manifest o k is =
+    let rest : port_count manifest + k - port_count manifest ≡ k = omega arith in
+    rw (le-ltb (port_count manifest + k) (port_count manifest) (omega arith)) (ap (λ (n : ℕ). get_or (kinds_behind manifest.options) n output.Journal) rest ∙ is)
 
 -- a kind that is asked for and is no capture stands behind the captures
-pub record StandsBehind (plan : Planned) (o : Output) : Type 0 where
-  pub low : port_count plan + place_behind plan.options o < output_count plan
-  pub at : kind_at plan (port_count plan + place_behind plan.options o) ≡ o
+pub record StandsBehind (manifest : Listed) (o : Output) : Type 0 where
+  pub low : port_count manifest + place_behind manifest.options o < output_count manifest
+  pub at : kind_at manifest (port_count manifest + place_behind manifest.options o) ≡ o
 
-pub stands_behind : (plan : Planned) (o : Output) → port_of o ≡ None → is_asked plan.options o ≡ true → StandsBehind plan o
-stands_behind plan o none asked =
-    let own = asked_stands plan.options o none asked in
-    record { low = (let inside = own.low in omega (arith, inside)); at = behind plan o (place_behind plan.options o) own.here }
+pub stands_behind : (manifest : Listed) (o : Output) → port_of o ≡ None → is_asked manifest.options o ≡ true → StandsBehind manifest o
+stands_behind manifest o none asked =
+    let own = asked_stands manifest.options o none asked in
+    record { low = (let inside = own.low in omega (arith, inside)); at = behind manifest o (place_behind manifest.options o) own.here }
 
 -- what is made has a place, and is found there
-pub record IsPlaced (plan : Planned) (o : Output) : Type 0 where
-  pub low : place_of plan o < output_count plan
-  pub at : kind_at plan (place_of plan o) ≡ o
+pub record IsPlaced (manifest : Listed) (o : Output) : Type 0 where
+  pub low : place_of manifest o < output_count manifest
+  pub at : kind_at manifest (place_of manifest o) ≡ o
 
-pub placed : (plan : Planned) (o : Output) → IsMade plan.options plan.tree o → IsOfPort o → IsPlaced plan o
-placed plan o made of_port = by_port (port_of o) refl
+pub placed : (manifest : Listed) (o : Output) → IsMade manifest.options manifest.tree o → IsOfPort o → IsPlaced manifest o
+placed manifest o made of_port = by_port (port_of o) refl
   where
-    by_port : (p : Option ℕ) → port_of o ≡ p → IsPlaced plan o
+    by_port : (p : Option ℕ) → port_of o ≡ p → IsPlaced manifest o
     by_port (Some q) is =
         let same : o ≡ output.Capture q = capture_is o q is in
-        let out : is_external plan.tree q ≡ true = subst (IsMadeAt plan.options plan.tree o) is made in
+        let out : is_external manifest.tree q ≡ true = subst (IsMadeAt manifest.options manifest.tree o) is made in
         let low : q < 4160 = subst IsOfPort same of_port in
-        let inside : place_in plan.tree q < port_count plan = place_low plan q low out in
-        let here : place_of plan o ≡ place_in plan.tree q = ap (place_at plan o) is in
+        let inside : place_in manifest.tree q < port_count manifest = place_low manifest q low out in
+        let here : place_of manifest o ≡ place_in manifest.tree q = ap (place_at manifest o) is in
         record {
           low = omega (arith, inside, here);
-          at = ap (kind_at plan) here ∙ rw (lt-ltb (place_in plan.tree q) (port_count plan) inside) (ap output.Capture (port_of_place plan q low out)) ∙ sym same;
+          at = ap (kind_at manifest) here ∙ rw (lt-ltb (place_in manifest.tree q) (port_count manifest) inside) (ap output.Capture (port_of_place manifest q low out)) ∙ sym same;
         }
     by_port None is =
-        let own = stands_behind plan o is (subst (IsMadeAt plan.options plan.tree o) is made) in
-        let here : place_of plan o ≡ port_count plan + place_behind plan.options o = ap (place_at plan o) is in
+        let own = stands_behind manifest o is (subst (IsMadeAt manifest.options manifest.tree o) is made) in
+        let here : place_of manifest o ≡ port_count manifest + place_behind manifest.options o = ap (place_at manifest o) is in
         record {
           low = (let inside = own.low in omega (arith, inside, here));
-          at = ap (kind_at plan) here ∙ own.at;
+          at = ap (kind_at manifest) here ∙ own.at;
         }
 
 -- and each place has a kind that is made
-pub record IsKind (plan : Planned) (j : ℕ) (o : Output) : Type 0 where
-  pub made : IsMade plan.options plan.tree o
+pub record IsKind (manifest : Listed) (j : ℕ) (o : Output) : Type 0 where
+  pub made : IsMade manifest.options manifest.tree o
   pub of_port : IsOfPort o
-  pub place : place_of plan o ≡ j
+  pub place : place_of manifest o ≡ j
 
-pub kind_is : (plan : Planned) (j : ℕ) → j < output_count plan → IsKind plan j (kind_at plan j)
-kind_is plan j low = elim (cases_lt j (port_count plan)) [
+pub kind_is : (manifest : Listed) (j : ℕ) → j < output_count manifest → IsKind manifest j (kind_at manifest j)
+kind_is manifest j low = elim (cases_lt j (port_count manifest)) [
   | inl inside ↦
-      let port = port_is plan j inside in
-      subst (IsKind plan j) (sym (capture_at inside)) (record { made = port.passes; of_port = port.low; place = place_of_port plan j inside })
+      let port = port_is manifest j inside in
+      subst (IsKind manifest j) (sym (capture_at inside)) (record { made = port.passes; of_port = port.low; place = place_of_port manifest j inside })
   | inr above ↦
-      let k : ℕ = j - port_count plan in
-      let whole : port_count plan + k ≡ j = omega (arith, above) in
-      let o : Output = get_or (kinds_behind plan.options) k output.Journal in
-      let own = behind_is plan.options k (omega (arith, low, above)) in
-      subst (IsKind plan j) (sym (other_at above))
+      let k : ℕ = j - port_count manifest in
+      let whole : port_count manifest + k ≡ j = omega (arith, above) in
+      let o : Output = get_or (kinds_behind manifest.options) k output.Journal in
+      let own = behind_is manifest.options k (omega (arith, low, above)) in
+      subst (IsKind manifest j) (sym (other_at above))
       (record {
-        made = subst (IsMadeAt plan.options plan.tree o) (sym own.none) own.asked;
+        made = subst (IsMadeAt manifest.options manifest.tree o) (sym own.none) own.asked;
         of_port = of_no_port o own.none;
-        place = ap (place_at plan o) own.none ∙ ap (λ (n : ℕ). port_count plan + n) own.place ∙ whole;
+        place = ap (place_at manifest o) own.none ∙ ap (λ (n : ℕ). port_count manifest + n) own.place ∙ whole;
       })
 ]
   where
-    capture_at : j < port_count plan → kind_at plan j ≡ output.Capture (port_at plan j)
-    capture_at inside = rw (lt-ltb j (port_count plan) inside) refl
+    capture_at : j < port_count manifest → kind_at manifest j ≡ output.Capture (port_at manifest j)
+    capture_at inside = rw (lt-ltb j (port_count manifest) inside) refl
 
-    other_at : port_count plan ≤ j → kind_at plan j ≡ get_or (kinds_behind plan.options) (j - port_count plan) output.Journal
-    other_at above = rw (le-ltb j (port_count plan) above) refl
+    other_at : port_count manifest ≤ j → kind_at manifest j ≡ get_or (kinds_behind manifest.options) (j - port_count manifest) output.Journal
+    other_at above = rw (le-ltb j (port_count manifest) above) refl
 
 -- what is made in a tree has a port of it, if any
 pub made_of_port : (options : Options) (t : Shape) (o : Output) → IsTree t → IsMade options t o → IsOfPort o
@@ -94,12 +94,12 @@ made_of_port options t o tree made = by_port (port_of o) refl
     by_port None is = of_no_port o is
 
 -- ---- names and kinds differ
-module _ (law : (prefix : List ℕ) (x y : Output) → IsOfPort x → IsOfPort y → file_name prefix x ≡ file_name prefix y → x ≡ y) (plan : Planned) where
-  pub names_apart : Apart (output_count plan) (output_name plan)
+module _ (law : (prefix : List ℕ) (x y : Output) → IsOfPort x → IsOfPort y → file_name prefix x ≡ file_name prefix y → x ≡ y) (manifest : Listed) where
+  pub names_apart : Apart (output_count manifest) (output_name manifest)
   names_apart i j li lj differ e =
-      let a = kind_is plan i li in
-      let b = kind_is plan j lj in
-      differ (sym a.place ∙ ap (place_of plan) (law plan.prefix (kind_at plan i) (kind_at plan j) a.of_port b.of_port e) ∙ b.place)
+      let a = kind_is manifest i li in
+      let b = kind_is manifest j lj in
+      differ (sym a.place ∙ ap (place_of manifest) (law manifest.prefix (kind_at manifest i) (kind_at manifest j) a.of_port b.of_port e) ∙ b.place)
 
-pub kinds_differ : (plan : Planned) (i j : ℕ) → i < output_count plan → j < output_count plan → i ≢ j → kind_at plan i ≢ kind_at plan j
-kinds_differ plan i j li lj differ e = differ (sym (kind_is plan i li).place ∙ ap (place_of plan) e ∙ (kind_is plan j lj).place)
+pub kinds_differ : (manifest : Listed) (i j : ℕ) → i < output_count manifest → j < output_count manifest → i ≢ j → kind_at manifest i ≢ kind_at manifest j
+kinds_differ manifest i j li lj differ e = differ (sym (kind_is manifest i li).place ∙ ap (place_of manifest) e ∙ (kind_is manifest j lj).place)

@@ -6,7 +6,7 @@ use Rattle.std.proofs.lemmas.Grind.{flat_map-append}
 use Rattle.exb_shelf.specs.Files.{Cut, Files, SameFiles, Puts, AddsFront, Filled}
 use Rattle.exb_shelf.proofs.FileLemmas.{Apart, cut_empty, filled_one}
 use Rattle.exb_text.specs.declared.output.Output.{Output}
-use Rattle.exb_outputs.specs.Plans.{Planned, kind_at, output_count, output_name}
+use Rattle.exb_outputs.specs.Manifests.{Listed, kind_at, output_count, output_name}
 use Rattle.exb_words.specs.Kinds.{is_same}
 use Rattle.exb_outputs.specs.Writing.{AreCut, Holds, HasTexts, with_more}
 use Rattle.exb_outputs.proofs.Filling.{still_filled}
@@ -50,29 +50,29 @@ goes_more text o xs k = by_test (is_same o k)
 
 -- ---- outputs that are cut
 -- by place
-abbrev pub AreCutAt : Planned → Files → Files → (ℕ → List ℕ) → Type 0
-AreCutAt plan f g text = Cut f g (output_count plan) (output_name plan) text
+abbrev pub AreCutAt : Listed → Files → Files → (ℕ → List ℕ) → Type 0
+AreCutAt manifest f g text = Cut f g (output_count manifest) (output_name manifest) text
 
 -- one whose text goes on
-pub longer : (f g : Files) (plan : Planned) (j : ℕ) (text whole : Output → List ℕ) → GoesOnAs text whole (kind_at plan j)
-    → (g (output_name plan j) ≡ f (output_name plan j)) ⊎ ((n : ℕ) × (g (output_name plan j) ≡ Some (take n (text (kind_at plan j)))))
-    → (g (output_name plan j) ≡ f (output_name plan j)) ⊎ ((n : ℕ) × (g (output_name plan j) ≡ Some (take n (whole (kind_at plan j)))))
-longer f g plan j text whole on (inl same) = inl same
-longer f g plan j text whole on (inr front) =
-    let r = front_part front.0 (text (kind_at plan j)) on.0 in
+pub longer : (f g : Files) (manifest : Listed) (j : ℕ) (text whole : Output → List ℕ) → GoesOnAs text whole (kind_at manifest j)
+    → (g (output_name manifest j) ≡ f (output_name manifest j)) ⊎ ((n : ℕ) × (g (output_name manifest j) ≡ Some (take n (text (kind_at manifest j)))))
+    → (g (output_name manifest j) ≡ f (output_name manifest j)) ⊎ ((n : ℕ) × (g (output_name manifest j) ≡ Some (take n (whole (kind_at manifest j)))))
+longer f g manifest j text whole on (inl same) = inl same
+longer f g manifest j text whole on (inr front) =
+    let r = front_part front.0 (text (kind_at manifest j)) on.0 in
     inr (r.0, front.1 ∙ ap Some (r.1 ∙ ap (take r.0) (sym on.1)))
 
 -- those whose texts go on
-pub cut_longer : (plan : Planned) (f g : Files) (text whole : Output → List ℕ) → ((j : ℕ) → j < output_count plan → GoesOnAs text whole (kind_at plan j)) → AreCut plan f g text → AreCut plan f g whole
-cut_longer plan f g text whole goes p = record { each = λ j l. longer f g plan j text whole (goes j l) (p.each j l); others = p.others }
+pub cut_longer : (manifest : Listed) (f g : Files) (text whole : Output → List ℕ) → ((j : ℕ) → j < output_count manifest → GoesOnAs text whole (kind_at manifest j)) → AreCut manifest f g text → AreCut manifest f g whole
+cut_longer manifest f g text whole goes p = record { each = λ j l. longer f g manifest j text whole (goes j l) (p.each j l); others = p.others }
 
 -- those of the same texts
-pub cut_same : (plan : Planned) (f g : Files) (text whole : Output → List ℕ) → ((o : Output) → text o ≡ whole o) → AreCut plan f g text → AreCut plan f g whole
-cut_same plan f g text whole same = cut_longer plan f g text whole (λ j l. goes_same text whole (kind_at plan j) (sym (same (kind_at plan j))))
+pub cut_same : (manifest : Listed) (f g : Files) (text whole : Output → List ℕ) → ((o : Output) → text o ≡ whole o) → AreCut manifest f g text → AreCut manifest f g whole
+cut_same manifest f g text whole same = cut_longer manifest f g text whole (λ j l. goes_same text whole (kind_at manifest j) (sym (same (kind_at manifest j))))
 
 -- those that have their texts so far
-pub cut_now : (plan : Planned) (f g : Files) (pieces : List (List ℕ)) (text : Output → List ℕ) → HasTexts plan pieces f g text → AreCut plan f g text
-cut_now plan f g pieces text p = record {
+pub cut_now : (manifest : Listed) (f g : Files) (pieces : List (List ℕ)) (text : Output → List ℕ) → HasTexts manifest pieces f g text → AreCut manifest f g text
+cut_now manifest f g pieces text p = record {
   each = λ j l.
       let now = p.each j l in
       let r = first_part now.0 (get_or pieces j []) in
@@ -81,33 +81,33 @@ cut_now plan f g pieces text p = record {
 }
 
 -- those that are whole
-pub cut_whole : (plan : Planned) (f g : Files) (text : Output → List ℕ) → Filled f g (output_count plan) (output_name plan) (λ j bytes. bytes ≡ text (kind_at plan j)) → AreCut plan f g text
-cut_whole plan f g text p = record {
+pub cut_whole : (manifest : Listed) (f g : Files) (text : Output → List ℕ) → Filled f g (output_count manifest) (output_name manifest) (λ j bytes. bytes ≡ text (kind_at manifest j)) → AreCut manifest f g text
+cut_whole manifest f g text p = record {
   each = λ j l.
       let now = p.each j l in
-      let r = first_part (text (kind_at plan j)) [] in
-      inr (r.0, now.1 ∙ ap Some (now.2 ∙ r.1 ∙ ap (take r.0) (append-nil (text (kind_at plan j)))));
+      let r = first_part (text (kind_at manifest j)) [] in
+      inr (r.0, now.1 ∙ ap Some (now.2 ∙ r.1 ∙ ap (take r.0) (append-nil (text (kind_at manifest j)))));
   others = p.others;
 }
 
 -- where some were made, and the next one maybe too
-pub cut_made : (plan : Planned) (f g h : Files) (k : ℕ) → Apart (output_count plan) (output_name plan) → k < output_count plan → Filled f g k (output_name plan) (λ j bytes. bytes ≡ [])
-    → SameFiles g h ⊎ Puts g h (output_name plan k) [] → (text : Output → List ℕ) → AreCut plan f h text
-cut_made plan f g h k apart lt made (inl same) text =
-    cut_empty f h (output_count plan) k (output_name plan) apart (omega arith) (still_filled f g h k (output_name plan) (λ j bytes. bytes ≡ []) made same) (λ j. text (kind_at plan j))
-cut_made plan f g h k apart lt made (inr put) text =
-    cut_empty f h (output_count plan) (k + 1) (output_name plan) apart (omega arith)
-    (filled_one f g h (output_count plan) k (output_name plan) (λ j bytes. bytes ≡ []) [] apart lt made put refl) (λ j. text (kind_at plan j))
+pub cut_made : (manifest : Listed) (f g h : Files) (k : ℕ) → Apart (output_count manifest) (output_name manifest) → k < output_count manifest → Filled f g k (output_name manifest) (λ j bytes. bytes ≡ [])
+    → SameFiles g h ⊎ Puts g h (output_name manifest k) [] → (text : Output → List ℕ) → AreCut manifest f h text
+cut_made manifest f g h k apart lt made (inl same) text =
+    cut_empty f h (output_count manifest) k (output_name manifest) apart (omega arith) (still_filled f g h k (output_name manifest) (λ j bytes. bytes ≡ []) made same) (λ j. text (kind_at manifest j))
+cut_made manifest f g h k apart lt made (inr put) text =
+    cut_empty f h (output_count manifest) (k + 1) (output_name manifest) apart (omega arith)
+    (filled_one f g h (output_count manifest) k (output_name manifest) (λ j bytes. bytes ≡ []) [] apart lt made put refl) (λ j. text (kind_at manifest j))
 
 -- where a front of a piece and of more was added to one
-cut_adds : (plan : Planned) (f g h : Files) (pieces : List (List ℕ)) (text : ℕ → List ℕ) (j : ℕ) (more : List ℕ)
-    → Apart (output_count plan) (output_name plan) → j < output_count plan → HasTextsAt plan pieces f g text
-    → AddsFront g h (output_name plan j) (get_or pieces j [] ++ more) → AreCutAt plan f h (more_at text j more)
-cut_adds plan f g h pieces text j more apart lt p (n, added) = record {
+cut_adds : (manifest : Listed) (f g h : Files) (pieces : List (List ℕ)) (text : ℕ → List ℕ) (j : ℕ) (more : List ℕ)
+    → Apart (output_count manifest) (output_name manifest) → j < output_count manifest → HasTextsAt manifest pieces f g text
+    → AddsFront g h (output_name manifest j) (get_or pieces j [] ++ more) → AreCutAt manifest f h (more_at text j more)
+cut_adds manifest f g h pieces text j more apart lt p (n, added) = record {
   each = λ k l. elim (cases_eq k j) [
     | inl same ↦
         let now = p.each k l in
-        let name = output_name plan in
+        let name = output_name manifest in
         let was : g (name j) ≡ Some now.0 = ap g (ap name (sym same)) ∙ now.1 in
         let r = front_behind n now.0 (get_or pieces j [] ++ more) in
         let whole : now.0 ++ (get_or pieces j [] ++ more) ≡ more_at text j more k =
@@ -121,7 +121,7 @@ cut_adds plan f g h pieces text j more apart lt p (n, added) = record {
         let r = first_part now.0 (get_or pieces k []) in
         inr (
           r.0,
-          added.others (output_name plan k) (apart k j l lt other) ∙ now.1
+          added.others (output_name manifest k) (apart k j l lt other) ∙ now.1
               ∙ ap Some (r.1 ∙ ap (take r.0) (now.2 ∙ sym (more_at_other text j more k other))),
         )
   ];
@@ -129,52 +129,52 @@ cut_adds plan f g h pieces text j more apart lt p (n, added) = record {
 }
 
 -- the same of the pieces of values, where one is read
-pub cut_at : {X : Type 0} (of : X → List ℕ) (plan : Planned) (f g h : Files) (all : List X) (text : ℕ → List ℕ) (j : ℕ) (was : X) (name more : List ℕ)
-    → Apart (output_count plan) (output_name plan) → j < output_count plan → length all ≡ output_count plan → was ≡ get_or all j was → name ≡ output_name plan j
-    → HasTextsAt plan (map of all) f g text → AddsFront g h name (of was ++ more) → AreCutAt plan f h (more_at text j more)
-cut_at of plan f g h all text j was name more apart lt long read named p added =
+pub cut_at : {X : Type 0} (of : X → List ℕ) (manifest : Listed) (f g h : Files) (all : List X) (text : ℕ → List ℕ) (j : ℕ) (was : X) (name more : List ℕ)
+    → Apart (output_count manifest) (output_name manifest) → j < output_count manifest → length all ≡ output_count manifest → was ≡ get_or all j was → name ≡ output_name manifest j
+    → HasTextsAt manifest (map of all) f g text → AddsFront g h name (of was ++ more) → AreCutAt manifest f h (more_at text j more)
+cut_at of manifest f g h all text j was name more apart lt long read named p added =
     let inside : j < length all = omega arith in
     let piece : get_or (map of all) j [] ≡ of was = get_or-map of all j was [] inside ∙ ap of (sym read) in
-    cut_adds plan f g h (map of all) text j more apart lt p
+    cut_adds manifest f g h (map of all) text j more apart lt p
     (subst (λ (n : List ℕ). AddsFront g h n (get_or (map of all) j [] ++ more)) named
     (subst (λ (xs : List ℕ). AddsFront g h name (xs ++ more)) (sym piece) added))
 
 -- the same by kind
-pub cut_kind : (plan : Planned) (f g : Files) (text : Output → List ℕ) (j : ℕ) (o : Output) (more : List ℕ) → j < output_count plan → kind_at plan j ≡ o
-    → AreCutAt plan f g (more_at (of_kind plan text) j more) → AreCut plan f g (with_more text o more)
-cut_kind plan f g text j o more low is p = record {
+pub cut_kind : (manifest : Listed) (f g : Files) (text : Output → List ℕ) (j : ℕ) (o : Output) (more : List ℕ) → j < output_count manifest → kind_at manifest j ≡ o
+    → AreCutAt manifest f g (more_at (of_kind manifest text) j more) → AreCut manifest f g (with_more text o more)
+cut_kind manifest f g text j o more low is p = record {
   each = λ k l. elim (p.each k l) [
     | inl same ↦ inl same
-    | inr front ↦ inr (front.0, front.1 ∙ ap Some (ap (take front.0) (kind_has_more plan text j o more low is k l)))
+    | inr front ↦ inr (front.0, front.1 ∙ ap Some (ap (take front.0) (kind_has_more manifest text j o more low is k l)))
   ];
   others = p.others;
 }
 
 -- and nothing more
-pub cut_piece : {X : Type 0} (of : X → List ℕ) (plan : Planned) (f g h : Files) (all : List X) (text : Output → List ℕ) (j : ℕ) (was : X) (name : List ℕ)
-    → Apart (output_count plan) (output_name plan) → j < output_count plan → length all ≡ output_count plan → was ≡ get_or all j was → name ≡ output_name plan j
-    → HasTexts plan (map of all) f g text → AddsFront g h name (of was) → AreCut plan f h text
-cut_piece of plan f g h all text j was name apart lt long read named p added =
-    cut_same plan f h (with_more text (kind_at plan j) []) text (λ k. with_more_nothing text (kind_at plan j) k)
-    (cut_kind plan f h text j (kind_at plan j) [] lt refl
-    (cut_at of plan f g h all (of_kind plan text) j was name [] apart lt long read named p (subst (λ (xs : List ℕ). AddsFront g h name xs) (sym (append-nil (of was))) added)))
+pub cut_piece : {X : Type 0} (of : X → List ℕ) (manifest : Listed) (f g h : Files) (all : List X) (text : Output → List ℕ) (j : ℕ) (was : X) (name : List ℕ)
+    → Apart (output_count manifest) (output_name manifest) → j < output_count manifest → length all ≡ output_count manifest → was ≡ get_or all j was → name ≡ output_name manifest j
+    → HasTexts manifest (map of all) f g text → AddsFront g h name (of was) → AreCut manifest f h text
+cut_piece of manifest f g h all text j was name apart lt long read named p added =
+    cut_same manifest f h (with_more text (kind_at manifest j) []) text (λ k. with_more_nothing text (kind_at manifest j) k)
+    (cut_kind manifest f h text j (kind_at manifest j) [] lt refl
+    (cut_at of manifest f g h all (of_kind manifest text) j was name [] apart lt long read named p (subst (λ (xs : List ℕ). AddsFront g h name xs) (sym (append-nil (of was))) added)))
 
 -- more of one output
-pub cut_more : (plan : Planned) (f g : Files) (text : Output → List ℕ) (o : Output) (more : List ℕ) → AreCut plan f g text → AreCut plan f g (with_more text o more)
-cut_more plan f g text o more = cut_longer plan f g text (with_more text o more) (λ k l. goes_more text o more (kind_at plan k))
+pub cut_more : (manifest : Listed) (f g : Files) (text : Output → List ℕ) (o : Output) (more : List ℕ) → AreCut manifest f g text → AreCut manifest f g (with_more text o more)
+cut_more manifest f g text o more = cut_longer manifest f g text (with_more text o more) (λ k l. goes_more text o more (kind_at manifest k))
 
-pub cut_spelled : (plan : Planned) (f g : Files) (text : Output → List ℕ) (o p : Output) (xs ys : List ℕ) → o ≡ p → xs ≡ ys → AreCut plan f g (with_more text o xs) → AreCut plan f g (with_more text p ys)
-cut_spelled plan f g text o p xs ys eo ex cut =
-    subst (λ (k : Output). AreCut plan f g (with_more text k ys)) eo (subst (λ (zs : List ℕ). AreCut plan f g (with_more text o zs)) ex cut)
+pub cut_spelled : (manifest : Listed) (f g : Files) (text : Output → List ℕ) (o p : Output) (xs ys : List ℕ) → o ≡ p → xs ≡ ys → AreCut manifest f g (with_more text o xs) → AreCut manifest f g (with_more text p ys)
+cut_spelled manifest f g text o p xs ys eo ex cut =
+    subst (λ (k : Output). AreCut manifest f g (with_more text k ys)) eo (subst (λ (zs : List ℕ). AreCut manifest f g (with_more text o zs)) ex cut)
 
 -- ---- in the middle of a list
 -- what is before, one more, and the rest
-pub cut_behind : (plan : Planned) (f g : Files) (text : Output → List ℕ) (o : Output) (before one rest whole : List ℕ) → (before ++ one) ++ rest ≡ whole
-    → AreCut plan f g (with_more (with_more text o before) o one) → AreCut plan f g (with_more text o whole)
-cut_behind plan f g text o before one rest whole is =
-    cut_longer plan f g (with_more (with_more text o before) o one) (with_more text o whole)
+pub cut_behind : (manifest : Listed) (f g : Files) (text : Output → List ℕ) (o : Output) (before one rest whole : List ℕ) → (before ++ one) ++ rest ≡ whole
+    → AreCut manifest f g (with_more (with_more text o before) o one) → AreCut manifest f g (with_more text o whole)
+cut_behind manifest f g text o before one rest whole is =
+    cut_longer manifest f g (with_more (with_more text o before) o one) (with_more text o whole)
     (λ k l.
-    let p : Output = kind_at plan k in
+    let p : Output = kind_at manifest k in
     let on = goes_more (with_more text o (before ++ one)) o rest p in (
       on.0,
       ap (λ (xs : List ℕ). with_more text o xs p) (sym is) ∙ sym (with_more_twice text o (before ++ one) rest p) ∙ on.1

@@ -10,27 +10,27 @@ use Rattle.exb_capture.specs.Replaying.{IsReplaying}
 use Rattle.exb_shelf.specs.Files.{Files, SameFiles, bytes_of}
 use Rattle.exb_shelf.specs.Shelf.{Id, IsReadingOf, Opens, writing}
 use Rattle.exb_outputs.specs.declared.outputs.Outputs.{Outputs}
-use Rattle.exb_outputs.specs.Plans.{OnlyPlanned, output_name, Planned, output_count}
+use Rattle.exb_outputs.specs.Manifests.{OnlyListed, output_name, Listed, output_count}
 use Rattle.exb_inputs.specs.Shelving.{OnlyReads}
 use Rattle.exb_outputs.specs.Apart.{AreApart}
 use Rattle.exb_outputs.specs.Writing.{IsReady, ids_of}
 
 -- ---- captures while outputs are written
 -- a capture stays as it is, where no output has its name
-unwritten : (plan : Planned) (file files : Files) (name : List ℕ) → OnlyPlanned plan file files → ((j : ℕ) → j < output_count plan → name ≢ output_name plan j) → files name ≡ file name
-unwritten plan file files name only apart = only name apart
+unwritten : (manifest : Listed) (file files : Files) (name : List ℕ) → OnlyListed manifest file files → ((j : ℕ) → j < output_count manifest → name ≢ output_name manifest j) → files name ≡ file name
+unwritten manifest file files name only apart = only name apart
 
-pub replays-written : (plan : Planned) (file files : Files) (ids : ℕ → Id) (ss : List Again) (xs : List Stream) → AreApart plan ids (map (λ (s : Again). s.replay.file.id) ss) → OnlyPlanned plan file files →
+pub replays-written : (manifest : Listed) (file files : Files) (ids : ℕ → Id) (ss : List Again) (xs : List Stream) → AreApart manifest ids (map (λ (s : Again). s.replay.file.id) ss) → OnlyListed manifest file files →
     AreReplays file ids ss xs → AreReplays files ids ss xs
-replays-written plan file files ids [] [] apart only are = tt
-replays-written plan file files ids [] (x ∷ xs) apart only are = absurd are
-replays-written plan file files ids (s ∷ ss) [] apart only are = absurd are
-replays-written plan file files ids (s ∷ ss) (x ∷ xs) apart only are =
+replays-written manifest file files ids [] [] apart only are = tt
+replays-written manifest file files ids [] (x ∷ xs) apart only are = absurd are
+replays-written manifest file files ids (s ∷ ss) [] apart only are = absurd are
+replays-written manifest file files ids (s ∷ ss) (x ∷ xs) apart only are =
     let (name, reads, none) = apart.0 in
     let one : IsReplayOf file ids s x = are.0 in
     let named : (ids s.replay.file.id).name ≡ name = reads.named in
     let same : bytes_of (files (ids s.replay.file.id).name) ≡ bytes_of (file (ids s.replay.file.id).name) =
-    ap bytes_of (unwritten plan file files (ids s.replay.file.id).name only (λ j low is. none j low (sym named ∙ is))) in (
+    ap bytes_of (unwritten manifest file files (ids s.replay.file.id).name only (λ j low is. none j low (sym named ∙ is))) in (
       record {
         port = one.port;
         index = one.index;
@@ -38,7 +38,7 @@ replays-written plan file files ids (s ∷ ss) (x ∷ xs) apart only are =
         left = subst (λ (bytes : List ℕ). IsReplaying bytes x.records s.replay) (sym same) one.left;
         over = one.over;
       },
-      replays-written plan file files ids ss xs apart.1 only are.1,
+      replays-written manifest file files ids ss xs apart.1 only are.1,
     )
 
 -- ---- outputs while captures are read
@@ -55,21 +55,21 @@ opened-at : (given : ℕ → Id) (ss : List Again) → AllByRecursion (IsOpened 
 opened-at given [] all = tt
 opened-at given (s ∷ ss) all = (all.0.at, opened-at given ss all.1)
 
-pub ready-read : (plan : Planned) (given ids : ℕ → Id) (o : Outputs) (ss : List Again) → IsReady plan given o → AllByRecursion (IsOpened given) ss →
-    ReadsOn (map (λ (s : Again). s.replay.file.id) ss) given ids → IsReady plan ids o
-ready-read plan given ids o ss ready opened reads = record {
+pub ready-read : (manifest : Listed) (given ids : ℕ → Id) (o : Outputs) (ss : List Again) → IsReady manifest given o → AllByRecursion (IsOpened given) ss →
+    ReadsOn (map (λ (s : Again). s.replay.file.id) ss) given ids → IsReady manifest ids o
+ready-read manifest given ids o ss ready opened reads = record {
   files = ready.files;
   named = λ j low.
-      reads.others (slice_index (ids_of o) j) (differ given (slice_index (ids_of o) j) (output_name plan j) ss (ready.named j low) (opened-at given ss opened))
+      reads.others (slice_index (ids_of o) j) (differ given (slice_index (ids_of o) j) (output_name manifest j) ss (ready.named j low) (opened-at given ss opened))
       ∙ ready.named j low;
 }
 
 -- captures are still read through the same ids
-pub apart-read : (plan : Planned) (given ids : ℕ → Id) (mine all : List ℕ) → ReadsOn all given ids → AreApart plan given mine → AreApart plan ids mine
-apart-read plan given ids [] all reads apart = tt
-apart-read plan given ids (k ∷ mine) all reads apart =
+pub apart-read : (manifest : Listed) (given ids : ℕ → Id) (mine all : List ℕ) → ReadsOn all given ids → AreApart manifest given mine → AreApart manifest ids mine
+apart-read manifest given ids [] all reads apart = tt
+apart-read manifest given ids (k ∷ mine) all reads apart =
     let (name, is, none) = apart.0 in
-    ((name, reads.same k name is, none), apart-read plan given ids mine all reads apart.1)
+    ((name, reads.same k name is, none), apart-read manifest given ids mine all reads apart.1)
 
 -- the same ids
 pub ids-same : (given ids : ℕ → Id) → ((j : ℕ) → ids j ≡ given j) → ids ≡ given
@@ -130,8 +130,8 @@ replays-unread file files given ids all ss xs opened only =
     replays-named files file ids given ss xs (λ n. sym (only.files n)) (names-back given ids ss (names-read given ids all ss only.reads (opened-at given ss opened)))
 
 -- outputs while captures are opened
-pub ready-opened : (P : Id → Type 0) (plan : Planned) (given ids : ℕ → Id) (o : Outputs) → IsReady plan given o → Opens P given ids → IsReady plan ids o
-ready-opened P plan given ids o ready opens = record {
+pub ready-opened : (P : Id → Type 0) (manifest : Listed) (given ids : ℕ → Id) (o : Outputs) → IsReady manifest given o → Opens P given ids → IsReady manifest ids o
+ready-opened P manifest given ids o ready opens = record {
   files = ready.files;
   named = λ j low. opens.kept (slice_index (ids_of o) j) (ap (λ (i : Id). i.given) (ready.named j low)) ∙ ready.named j low;
 }

@@ -6,23 +6,23 @@ use Rattle.exb_inputs.specs.declared.fault.Fault.{Fault}
 use Rattle.exb_inputs.specs.declared.fault.Fault.TheVariants.{Usage, Missing, Topology as BadTopology, Capture, Changed, Net as BadNet, Member as BadMember, MemberCapture, MemberChanged, Output, TooLarge, BadLine, Illegal, Read, Write, Memory}
 use Rattle.exb_inputs.specs.Reading.{IsOfCapture}
 use Rattle.exb_outputs.specs.Order.{IsLate, MakesFile, MadeInOrder, MakesInOrder}
-use Rattle.exb_outputs.specs.Plans.{output_name, Planned, output_count}
+use Rattle.exb_outputs.specs.Manifests.{output_name, Listed, output_count}
 use Rattle.exb_outputs.specs.Shelving.{IsOfWriting}
 
 -- ---- ids
 given_as : (i j : Id) → i ≡ j → j.given ≡ true → i.given ≡ true
 given_as i j same is = ap (λ (x : Id). x.given) same ∙ is
 
-written : (i : Id) (plan : Planned) (j : ℕ) → i ≡ writing (output_name plan j) → i.given ≡ true
-written i plan j is = ap (λ (x : Id). x.given) is
+written : (i : Id) (manifest : Listed) (j : ℕ) → i ≡ writing (output_name manifest j) → i.given ≡ true
+written i manifest j is = ap (λ (x : Id). x.given) is
 
 -- one that wasn't given isn't one that was
 pub not_given : (a : ℕ → Id) (i j : ℕ) → (a i).given ≡ true → (a j).given ≡ false → i ≢ j
 not_given a i j is free same = false≢true (sym free ∙ sym (ap (λ (k : ℕ). (a k).given) same) ∙ is)
 
 -- ---- none
-pub made_none : (plan : Planned) (a : ℕ → Id) → MadeInOrder plan 0 a a
-made_none plan a = record {
+pub made_none : (manifest : Listed) (a : ℕ → Id) → MadeInOrder manifest 0 a a
+made_none manifest a = record {
   at = λ j. j;
   within = omega arith;
   fresh = λ j low. absurd (omega arith);
@@ -32,8 +32,8 @@ made_none plan a = record {
 }
 
 -- ---- one more
-module _ (plan : Planned) (k : ℕ) (a b c : ℕ → Id) (m : MadeInOrder plan k a b) (kept : (j : ℕ) → (a j).given ≡ true → b j ≡ a j) (id : ℕ) (room : k < output_count plan) (free : (b id).given ≡ false)
-    (above : (j : ℕ) → (b j).given ≡ true → j < id) (here : c id ≡ writing (output_name plan k)) (others : (j : ℕ) → j ≢ id → c j ≡ b j) where
+module _ (manifest : Listed) (k : ℕ) (a b c : ℕ → Id) (m : MadeInOrder manifest k a b) (kept : (j : ℕ) → (a j).given ≡ true → b j ≡ a j) (id : ℕ) (room : k < output_count manifest) (free : (b id).given ≡ false)
+    (above : (j : ℕ) → (b j).given ≡ true → j < id) (here : c id ≡ writing (output_name manifest k)) (others : (j : ℕ) → j ≢ id → c j ≡ b j) where
   at_more : ℕ → ℕ
   at_more j = cond (j == k) id (m.at j)
 
@@ -46,7 +46,7 @@ module _ (plan : Planned) (k : ℕ) (a b c : ℕ → Id) (m : MadeInOrder plan k
   at_new = ap (λ (x : Bool). cond x id (m.at k)) (eq-eqb k k refl)
 
   old_given : (j : ℕ) → j < k → (b (m.at j)).given ≡ true
-  old_given j low = written (b (m.at j)) plan j (m.named j low)
+  old_given j low = written (b (m.at j)) manifest j (m.named j low)
 
   new_free : (a id).given ≡ false
   new_free = elim (cases_Bool (a id).given) [
@@ -54,7 +54,7 @@ module _ (plan : Planned) (k : ℕ) (a b c : ℕ → Id) (m : MadeInOrder plan k
     | inr not ↦ not
   ]
 
-  pub made_next : MadeInOrder plan (k + 1) a c
+  pub made_next : MadeInOrder manifest (k + 1) a c
   made_next = record {
     at = at_more;
     within = omega arith;
@@ -64,7 +64,7 @@ module _ (plan : Planned) (k : ℕ) (a b c : ℕ → Id) (m : MadeInOrder plan k
     ];
     named = λ j low. elim (cases_lt j k) [
       | inl old ↦ ap c (at_old j old) ∙ others (m.at j) (not_given b (m.at j) id (old_given j old) free) ∙ m.named j old
-      | inr last ↦ let same : j ≡ k = omega arith in ap (λ (i : ℕ). c (at_more i)) same ∙ ap c at_new ∙ here ∙ ap (λ (i : ℕ). writing (output_name plan i)) (sym same)
+      | inr last ↦ let same : j ≡ k = omega arith in ap (λ (i : ℕ). c (at_more i)) same ∙ ap c at_new ∙ here ∙ ap (λ (i : ℕ). writing (output_name manifest i)) (sym same)
     ];
     rises = λ i j less low. elim (cases_lt j k) [
       | inl old ↦
@@ -88,12 +88,12 @@ module _ (plan : Planned) (k : ℕ) (a b c : ℕ → Id) (m : MadeInOrder plan k
     ];
   }
 
-pub made_more : (plan : Planned) (k : ℕ) (a b c : ℕ → Id) → MadeInOrder plan k a b → ((j : ℕ) → (a j).given ≡ true → b j ≡ a j) → k < output_count plan → (id : ℕ) → MakesFile id (output_name plan k) b c → MadeInOrder plan (k + 1) a c
-made_more plan k a b c m kept room id is = made_next plan k a b c m kept id room is.fresh is.above is.named is.others
+pub made_more : (manifest : Listed) (k : ℕ) (a b c : ℕ → Id) → MadeInOrder manifest k a b → ((j : ℕ) → (a j).given ≡ true → b j ≡ a j) → k < output_count manifest → (id : ℕ) → MakesFile id (output_name manifest k) b c → MadeInOrder manifest (k + 1) a c
+made_more manifest k a b c m kept room id is = made_next manifest k a b c m kept id room is.fresh is.above is.named is.others
 
 -- ---- where files are opened to be read, before and after
-pub made_same : (plan : Planned) (k : ℕ) (a b c : ℕ → Id) → MadeInOrder plan k a b → ((j : ℕ) → c j ≡ b j) → MadeInOrder plan k a c
-made_same plan k a b c m same = record {
+pub made_same : (manifest : Listed) (k : ℕ) (a b c : ℕ → Id) → MadeInOrder manifest k a b → ((j : ℕ) → c j ≡ b j) → MadeInOrder manifest k a c
+made_same manifest k a b c m same = record {
   at = m.at;
   within = m.within;
   fresh = m.fresh;
@@ -102,12 +102,12 @@ made_same plan k a b c m same = record {
   only = λ id free given reads. m.only id free (ap (λ (x : Id). x.given) (sym (same id)) ∙ given) (ap (λ (x : Id). x.reads) (sym (same id)) ∙ reads);
 }
 
-pub made_then_read : (P : Id → Type 0) (plan : Planned) (k : ℕ) (a b c : ℕ → Id) → ((i : Id) → P i → i.reads ≡ true) → MadeInOrder plan k a b → Opens P b c → MadeInOrder plan k a c
-made_then_read P plan k a b c reading m opens = record {
+pub made_then_read : (P : Id → Type 0) (manifest : Listed) (k : ℕ) (a b c : ℕ → Id) → ((i : Id) → P i → i.reads ≡ true) → MadeInOrder manifest k a b → Opens P b c → MadeInOrder manifest k a c
+made_then_read P manifest k a b c reading m opens = record {
   at = m.at;
   within = m.within;
   fresh = m.fresh;
-  named = λ j low. opens.kept (m.at j) (written (b (m.at j)) plan j (m.named j low)) ∙ m.named j low;
+  named = λ j low. opens.kept (m.at j) (written (b (m.at j)) manifest j (m.named j low)) ∙ m.named j low;
   rises = m.rises;
   only = λ id free given reads. elim (cases_Bool (b id).given) [
     | inl was ↦ let same : c id ≡ b id = opens.kept id was in m.only id free was (ap (λ (x : Id). x.reads) (sym same) ∙ reads)
@@ -115,8 +115,8 @@ made_then_read P plan k a b c reading m opens = record {
   ];
 }
 
-pub read_then_made : (P : Id → Type 0) (plan : Planned) (k : ℕ) (a b c : ℕ → Id) → ((i : Id) → P i → i.reads ≡ true) → Opens P a b → ((j : ℕ) → (b j).given ≡ true → c j ≡ b j) → MadeInOrder plan k b c → MadeInOrder plan k a c
-read_then_made P plan k a b c reading opens kept m = record {
+pub read_then_made : (P : Id → Type 0) (manifest : Listed) (k : ℕ) (a b c : ℕ → Id) → ((i : Id) → P i → i.reads ≡ true) → Opens P a b → ((j : ℕ) → (b j).given ≡ true → c j ≡ b j) → MadeInOrder manifest k b c → MadeInOrder manifest k a c
+read_then_made P manifest k a b c reading opens kept m = record {
   at = m.at;
   within = m.within;
   fresh = λ j low. elim (cases_Bool (a (m.at j)).given) [
@@ -132,8 +132,8 @@ read_then_made P plan k a b c reading opens kept m = record {
 }
 
 -- ---- how many
-pub makes_all : {X : Type 0} (plan : Planned) (k : ℕ) (result : Result X Fault) (a b : ℕ → Id) → MadeInOrder plan k a b → k ≡ output_count plan → MakesInOrder plan result a b
-makes_all plan k result a b m full = record { count = k; made = m; all = λ late. full }
+pub makes_all : {X : Type 0} (manifest : Listed) (k : ℕ) (result : Result X Fault) (a b : ℕ → Id) → MadeInOrder manifest k a b → k ≡ output_count manifest → MakesInOrder manifest result a b
+makes_all manifest k result a b m full = record { count = k; made = m; all = λ late. full }
 
 writing_early : (X : Type 0) (x : Fault) → IsOfWriting x → IsLate {X = X} (Err x) → ⊥
 writing_early X Usage is late = late
@@ -172,29 +172,29 @@ capture_early X Read is late = late
 capture_early X Write is late = late
 capture_early X Memory is late = late
 
-pub makes_some : {X : Type 0} (plan : Planned) (k : ℕ) (x : Fault) (a b c : ℕ → Id) → MadeInOrder plan k a b → ((j : ℕ) → (a j).given ≡ true → b j ≡ a j) → k < output_count plan
-    → ((j : ℕ) → c j ≡ b j) ⊎ ((id : ℕ) × MakesFile id (output_name plan k) b c) → IsOfWriting x → MakesInOrder {X = X} plan (Err x) a c
-makes_some {X = X} plan k x a b c m kept room (inl same) is = record { count = k; made = made_same plan k a b c m same; all = λ late. absurd (writing_early X x is late) }
-makes_some {X = X} plan k x a b c m kept room (inr (id, made)) is = record { count = k + 1; made = made_more plan k a b c m kept room id made; all = λ late. absurd (writing_early X x is late) }
+pub makes_some : {X : Type 0} (manifest : Listed) (k : ℕ) (x : Fault) (a b c : ℕ → Id) → MadeInOrder manifest k a b → ((j : ℕ) → (a j).given ≡ true → b j ≡ a j) → k < output_count manifest
+    → ((j : ℕ) → c j ≡ b j) ⊎ ((id : ℕ) × MakesFile id (output_name manifest k) b c) → IsOfWriting x → MakesInOrder {X = X} manifest (Err x) a c
+makes_some {X = X} manifest k x a b c m kept room (inl same) is = record { count = k; made = made_same manifest k a b c m same; all = λ late. absurd (writing_early X x is late) }
+makes_some {X = X} manifest k x a b c m kept room (inr (id, made)) is = record { count = k + 1; made = made_more manifest k a b c m kept room id made; all = λ late. absurd (writing_early X x is late) }
 
 -- none, where only captures were opened
-pub makes_none : {X : Type 0} (P : Id → Type 0) (plan : Planned) (x : Fault) (a b : ℕ → Id) → ((i : Id) → P i → i.reads ≡ true) → Opens P a b → IsOfCapture x → MakesInOrder {X = X} plan (Err x) a b
-makes_none {X = X} P plan x a b reading opens is = record { count = 0; made = made_then_read P plan 0 a a b reading (made_none plan a) opens; all = λ late. absurd (capture_early X x is late) }
+pub makes_none : {X : Type 0} (P : Id → Type 0) (manifest : Listed) (x : Fault) (a b : ℕ → Id) → ((i : Id) → P i → i.reads ≡ true) → Opens P a b → IsOfCapture x → MakesInOrder {X = X} manifest (Err x) a b
+makes_none {X = X} P manifest x a b reading opens is = record { count = 0; made = made_then_read P manifest 0 a a b reading (made_none manifest a) opens; all = λ late. absurd (capture_early X x is late) }
 
 -- what was made, where captures are opened behind it, and whatever ends it then
-pub makes_then_read : {X Y : Type 0} (P : Id → Type 0) (plan : Planned) (first : X) (result : Result Y Fault) (a b c : ℕ → Id) → ((i : Id) → P i → i.reads ≡ true) → MakesInOrder plan (Ok first) a b → Opens P b c → MakesInOrder plan result a c
-makes_then_read P plan first result a b c reading m opens = record { count = m.count; made = made_then_read P plan m.count a b c reading m.made opens; all = λ late. m.all tt }
+pub makes_then_read : {X Y : Type 0} (P : Id → Type 0) (manifest : Listed) (first : X) (result : Result Y Fault) (a b c : ℕ → Id) → ((i : Id) → P i → i.reads ≡ true) → MakesInOrder manifest (Ok first) a b → Opens P b c → MakesInOrder manifest result a c
+makes_then_read P manifest first result a b c reading m opens = record { count = m.count; made = made_then_read P manifest m.count a b c reading m.made opens; all = λ late. m.all tt }
 
 -- and where they are opened before it
-pub read_then_makes : {X : Type 0} (P : Id → Type 0) (plan : Planned) (result : Result X Fault) (a b c : ℕ → Id) → ((i : Id) → P i → i.reads ≡ true) → Opens P a b → ((j : ℕ) → (b j).given ≡ true → c j ≡ b j) → MakesInOrder plan result b c
-    → MakesInOrder plan result a c
-read_then_makes P plan result a b c reading opens kept m = record { count = m.count; made = read_then_made P plan m.count a b c reading opens kept m.made; all = m.all }
+pub read_then_makes : {X : Type 0} (P : Id → Type 0) (manifest : Listed) (result : Result X Fault) (a b c : ℕ → Id) → ((i : Id) → P i → i.reads ≡ true) → Opens P a b → ((j : ℕ) → (b j).given ≡ true → c j ≡ b j) → MakesInOrder manifest result b c
+    → MakesInOrder manifest result a c
+read_then_makes P manifest result a b c reading opens kept m = record { count = m.count; made = read_then_made P manifest m.count a b c reading opens kept m.made; all = m.all }
 
 -- the fault of another call
-pub makes_as : {X Y : Type 0} (plan : Planned) (x : Fault) (a b : ℕ → Id) → MakesInOrder {X = X} plan (Err x) a b → MakesInOrder {X = Y} plan (Err x) a b
-makes_as {X = X} {Y = Y} plan x a b m = record { count = m.count; made = m.made; all = late_as x m.all }
+pub makes_as : {X Y : Type 0} (manifest : Listed) (x : Fault) (a b : ℕ → Id) → MakesInOrder {X = X} manifest (Err x) a b → MakesInOrder {X = Y} manifest (Err x) a b
+makes_as {X = X} {Y = Y} manifest x a b m = record { count = m.count; made = m.made; all = late_as x m.all }
   where
-    late_as : (y : Fault) → (IsLate {X = X} (Err y) → m.count ≡ output_count plan) → IsLate {X = Y} (Err y) → m.count ≡ output_count plan
+    late_as : (y : Fault) → (IsLate {X = X} (Err y) → m.count ≡ output_count manifest) → IsLate {X = Y} (Err y) → m.count ≡ output_count manifest
     late_as Usage all late = absurd late
     late_as (Missing name) all late = absurd late
     late_as (BadTopology fault) all late = absurd late

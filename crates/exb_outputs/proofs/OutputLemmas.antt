@@ -9,7 +9,7 @@ use Rattle.exb_shelf.specs.Shelf.{Id, IsWriting, writing}
 use Rattle.exb_shelf.proofs.FileLemmas.{Apart}
 use Rattle.exb_text.specs.declared.output.Output.{Output}
 use Rattle.exb_outputs.specs.declared.outputs.Unfinished.{Unfinished}
-use Rattle.exb_outputs.specs.Plans.{Planned, IsMade, kind_at, output_count, output_name}
+use Rattle.exb_outputs.specs.Manifests.{Listed, IsMade, kind_at, output_count, output_name}
 use Rattle.exb_words.specs.Kinds.{is_same}
 use Rattle.exb_outputs.specs.Writing.{Holds, HasTexts, with_more}
 use Rattle.exb_outputs.proofs.Filling.{weaker, still_filled, one_more}
@@ -18,8 +18,8 @@ use Rattle.exb_words.proofs.KindLemmas.{other_kind, same_itself}
 
 -- ---- by place
 -- each output has the text of its place
-abbrev pub HasTextsAt : Planned → List (List ℕ) → Files → Files → (ℕ → List ℕ) → Type 0
-HasTextsAt plan pieces f g text = Filled f g (output_count plan) (output_name plan) (Holds pieces text)
+abbrev pub HasTextsAt : Listed → List (List ℕ) → Files → Files → (ℕ → List ℕ) → Type 0
+HasTextsAt manifest pieces f g text = Filled f g (output_count manifest) (output_name manifest) (Holds pieces text)
 
 -- the text of one place has more
 abbrev pub more_at : (ℕ → List ℕ) → ℕ → List ℕ → ℕ → List ℕ
@@ -39,13 +39,13 @@ holds_other pieces text j piece more k bytes ne h =
     ap (λ (xs : List ℕ). bytes ++ xs) (get_or-set_other pieces j k piece [] ne) ∙ h ∙ sym (more_at_other text j more k ne)
 
 -- an output has more in its piece, or in its file
-pub has_more : (plan : Planned) (f g h : Files) (pieces : List (List ℕ)) (text : ℕ → List ℕ) (j : ℕ) (piece more : List ℕ)
-    → Apart (output_count plan) (output_name plan) → j < output_count plan → j < length pieces → HasTextsAt plan pieces f g text
-    → (SameFiles g h × (piece ≡ get_or pieces j [] ++ more)) ⊎ (Adds g h (output_name plan j) (get_or pieces j [] ++ more) × (piece ≡ []))
-    → HasTextsAt plan (set pieces j piece) f h (more_at text j more)
-has_more plan f g h pieces text j piece more apart lt in_pieces p (inl kept) =
-    still_filled f g h (output_count plan) (output_name plan) (Holds (set pieces j piece) (more_at text j more))
-    (weaker f g (output_count plan) (output_name plan) (Holds pieces text) (Holds (set pieces j piece) (more_at text j more)) p
+pub has_more : (manifest : Listed) (f g h : Files) (pieces : List (List ℕ)) (text : ℕ → List ℕ) (j : ℕ) (piece more : List ℕ)
+    → Apart (output_count manifest) (output_name manifest) → j < output_count manifest → j < length pieces → HasTextsAt manifest pieces f g text
+    → (SameFiles g h × (piece ≡ get_or pieces j [] ++ more)) ⊎ (Adds g h (output_name manifest j) (get_or pieces j [] ++ more) × (piece ≡ []))
+    → HasTextsAt manifest (set pieces j piece) f h (more_at text j more)
+has_more manifest f g h pieces text j piece more apart lt in_pieces p (inl kept) =
+    still_filled f g h (output_count manifest) (output_name manifest) (Holds (set pieces j piece) (more_at text j more))
+    (weaker f g (output_count manifest) (output_name manifest) (Holds pieces text) (Holds (set pieces j piece) (more_at text j more)) p
     (λ k bytes _ held. elim (cases_eq k j) [
       | inl same ↦ subst (λ (i : ℕ). Holds (set pieces j piece) (more_at text j more) i bytes) (sym same)
           (ap (λ (xs : List ℕ). bytes ++ xs) (get_or-set_same pieces j piece [] in_pieces ∙ kept.1)
@@ -55,8 +55,8 @@ has_more plan f g h pieces text j piece more apart lt in_pieces p (inl kept) =
       | inr other ↦ holds_other pieces text j piece more k bytes other held
     ]))
     kept.0
-has_more plan f g h pieces text j piece more apart lt in_pieces p (inr written) =
-    one_more f g h (output_count plan) j (output_name plan) (Holds pieces text) (Holds (set pieces j piece) (more_at text j more))
+has_more manifest f g h pieces text j piece more apart lt in_pieces p (inr written) =
+    one_more f g h (output_count manifest) j (output_name manifest) (Holds pieces text) (Holds (set pieces j piece) (more_at text j more))
     (get_or pieces j [] ++ more) apart lt p written.0
     (λ k bytes other held. holds_other pieces text j piece more k bytes other held)
     (λ bytes held.
@@ -82,17 +82,17 @@ can_be_written given all at file name read inside is =
     record { given = ap (λ (i : Id). i.given) own; writes = ap (λ (i : Id). i.reads) own }
 
 -- the same of the pieces of values, where one is read and written
-pub has_more_of : {X : Type 0} (of : X → List ℕ) (plan : Planned) (f g h : Files) (all : List X) (text : ℕ → List ℕ) (j : ℕ) (was now : X) (name more : List ℕ)
-    → Apart (output_count plan) (output_name plan) → j < output_count plan → length all ≡ output_count plan → was ≡ get_or all j was → name ≡ output_name plan j
-    → HasTextsAt plan (map of all) f g text
+pub has_more_of : {X : Type 0} (of : X → List ℕ) (manifest : Listed) (f g h : Files) (all : List X) (text : ℕ → List ℕ) (j : ℕ) (was now : X) (name more : List ℕ)
+    → Apart (output_count manifest) (output_name manifest) → j < output_count manifest → length all ≡ output_count manifest → was ≡ get_or all j was → name ≡ output_name manifest j
+    → HasTextsAt manifest (map of all) f g text
     → (SameFiles g h × (of now ≡ of was ++ more)) ⊎ (Adds g h name (of was ++ more) × (of now ≡ []))
-    → HasTextsAt plan (map of (set all j now)) f h (more_at text j more)
-has_more_of of plan f g h all text j was now name more apart lt long read named p change =
+    → HasTextsAt manifest (map of (set all j now)) f h (more_at text j more)
+has_more_of of manifest f g h all text j was now name more apart lt long read named p change =
     let inside : j < length all = omega arith in
     let in_map : j < length (map of all) = omega (arith, length-map all of) in
     let piece : get_or (map of all) j [] ≡ of was = get_or-map of all j was [] inside ∙ ap of (sym read) in
-    subst (λ (ps : List (List ℕ)). HasTextsAt plan ps f h (more_at text j more)) (sym (map-set of all j now))
-    (has_more plan f g h (map of all) text j (of now) more apart lt in_map p
+    subst (λ (ps : List (List ℕ)). HasTextsAt manifest ps f h (more_at text j more)) (sym (map-set of all j now))
+    (has_more manifest f g h (map of all) text j (of now) more apart lt in_map p
     (elim change [
       | inl kept ↦ inl (kept.0, kept.1 ∙ ap (λ (xs : List ℕ). xs ++ more) (sym piece))
       | inr written ↦ inr (
@@ -111,13 +111,13 @@ more_at_nothing text j k = elim (cases_eq k j) [
 ]
 
 -- a piece is written
-pub is_flushed : {X : Type 0} (of : X → List ℕ) (plan : Planned) (f g h : Files) (all : List X) (text : ℕ → List ℕ) (j : ℕ) (was now : X) (name : List ℕ)
-    → Apart (output_count plan) (output_name plan) → j < output_count plan → length all ≡ output_count plan → was ≡ get_or all j was → name ≡ output_name plan j
-    → HasTextsAt plan (map of all) f g text → Adds g h name (of was) → of now ≡ []
-    → HasTextsAt plan (map of (set all j now)) f h text
-is_flushed of plan f g h all text j was now name apart lt long read named p add empty =
-    weaker f h (output_count plan) (output_name plan) (Holds (map of (set all j now)) (more_at text j [])) (Holds (map of (set all j now)) text)
-    (has_more_of of plan f g h all text j was now name [] apart lt long read named p
+pub is_flushed : {X : Type 0} (of : X → List ℕ) (manifest : Listed) (f g h : Files) (all : List X) (text : ℕ → List ℕ) (j : ℕ) (was now : X) (name : List ℕ)
+    → Apart (output_count manifest) (output_name manifest) → j < output_count manifest → length all ≡ output_count manifest → was ≡ get_or all j was → name ≡ output_name manifest j
+    → HasTextsAt manifest (map of all) f g text → Adds g h name (of was) → of now ≡ []
+    → HasTextsAt manifest (map of (set all j now)) f h text
+is_flushed of manifest f g h all text j was now name apart lt long read named p add empty =
+    weaker f h (output_count manifest) (output_name manifest) (Holds (map of (set all j now)) (more_at text j [])) (Holds (map of (set all j now)) text)
+    (has_more_of of manifest f g h all text j was now name [] apart lt long read named p
     (inr (subst (λ (xs : List ℕ). Adds g h name xs) (sym (append-nil (of was))) add, empty)))
     (λ k bytes _ held. held ∙ more_at_nothing text j k)
 
@@ -134,19 +134,19 @@ more_empty of all i now inside empty before j lt =
     ]
 
 -- with nothing left in the pieces, each file is its text
-pub all_written : (plan : Planned) (f g : Files) (pieces : List (List ℕ)) (text : ℕ → List ℕ)
-    → ((j : ℕ) → j < output_count plan → get_or pieces j [] ≡ []) → HasTextsAt plan pieces f g text
-    → Filled f g (output_count plan) (output_name plan) (λ j bytes. bytes ≡ text j)
-all_written plan f g pieces text empty p =
-    weaker f g (output_count plan) (output_name plan) (Holds pieces text) (λ j bytes. bytes ≡ text j) p
+pub all_written : (manifest : Listed) (f g : Files) (pieces : List (List ℕ)) (text : ℕ → List ℕ)
+    → ((j : ℕ) → j < output_count manifest → get_or pieces j [] ≡ []) → HasTextsAt manifest pieces f g text
+    → Filled f g (output_count manifest) (output_name manifest) (λ j bytes. bytes ≡ text j)
+all_written manifest f g pieces text empty p =
+    weaker f g (output_count manifest) (output_name manifest) (Holds pieces text) (λ j bytes. bytes ≡ text j) p
     (λ j bytes l held. sym (append-nil bytes) ∙ ap (λ (xs : List ℕ). bytes ++ xs) (sym (empty j l)) ∙ held)
 
 -- empty files have the texts that their pieces are
-pub none_written : (plan : Planned) (f g : Files) (pieces : List (List ℕ)) (text : ℕ → List ℕ)
-    → ((j : ℕ) → j < output_count plan → get_or pieces j [] ≡ text j)
-    → Filled f g (output_count plan) (output_name plan) (λ j bytes. bytes ≡ []) → HasTextsAt plan pieces f g text
-none_written plan f g pieces text is p =
-    weaker f g (output_count plan) (output_name plan) (λ j bytes. bytes ≡ []) (Holds pieces text) p
+pub none_written : (manifest : Listed) (f g : Files) (pieces : List (List ℕ)) (text : ℕ → List ℕ)
+    → ((j : ℕ) → j < output_count manifest → get_or pieces j [] ≡ text j)
+    → Filled f g (output_count manifest) (output_name manifest) (λ j bytes. bytes ≡ []) → HasTextsAt manifest pieces f g text
+none_written manifest f g pieces text is p =
+    weaker f g (output_count manifest) (output_name manifest) (λ j bytes. bytes ≡ []) (Holds pieces text) p
     (λ j bytes l empty. ap (λ (xs : List ℕ). xs ++ get_or pieces j []) empty ∙ is j l)
 
 -- one more id has its name, and one more piece its text
@@ -179,33 +179,33 @@ more_texts pieces piece at text long before here j lt = elim (cases_lt j at) [
 ]
 
 -- ---- by kind
-abbrev pub of_kind : Planned → (Output → List ℕ) → ℕ → List ℕ
-of_kind plan text j = text (kind_at plan j)
+abbrev pub of_kind : Listed → (Output → List ℕ) → ℕ → List ℕ
+of_kind manifest text j = text (kind_at manifest j)
 
 -- the text of one kind has more where that of its place has
-pub kind_has_more : (plan : Planned) (text : Output → List ℕ) (j : ℕ) (o : Output) (more : List ℕ) → j < output_count plan → kind_at plan j ≡ o
-    → (k : ℕ) → k < output_count plan → more_at (of_kind plan text) j more k ≡ with_more text o more (kind_at plan k)
-kind_has_more plan text j o more low is k lk = elim (cases_eq k j) [
+pub kind_has_more : (manifest : Listed) (text : Output → List ℕ) (j : ℕ) (o : Output) (more : List ℕ) → j < output_count manifest → kind_at manifest j ≡ o
+    → (k : ℕ) → k < output_count manifest → more_at (of_kind manifest text) j more k ≡ with_more text o more (kind_at manifest k)
+kind_has_more manifest text j o more low is k lk = elim (cases_eq k j) [
   | inl same ↦
-      let here : is_same o (kind_at plan k) ≡ true = ap (λ (p : Output). is_same o p) (ap (kind_at plan) same ∙ is) ∙ same_itself o in
+      let here : is_same o (kind_at manifest k) ≡ true = ap (λ (p : Output). is_same o p) (ap (kind_at manifest) same ∙ is) ∙ same_itself o in
       rw (here, eq-eqb k j same) refl
   | inr other ↦
-      let away : is_same o (kind_at plan k) ≡ false = other_kind o (kind_at plan k) (λ e. kinds_differ plan k j lk low other (sym e ∙ sym is)) in
+      let away : is_same o (kind_at manifest k) ≡ false = other_kind o (kind_at manifest k) (λ e. kinds_differ manifest k j lk low other (sym e ∙ sym is)) in
       rw (away, ne_eqb k j other) refl
 ]
 
-pub by_kind : (plan : Planned) (f g : Files) (pieces : List (List ℕ)) (text : Output → List ℕ) (j : ℕ) (o : Output) (more : List ℕ) → j < output_count plan → kind_at plan j ≡ o
-    → HasTextsAt plan pieces f g (more_at (of_kind plan text) j more) → HasTexts plan pieces f g (with_more text o more)
-by_kind plan f g pieces text j o more low is p =
-    weaker f g (output_count plan) (output_name plan) (Holds pieces (more_at (of_kind plan text) j more)) (Holds pieces (of_kind plan (with_more text o more))) p
-    (λ k bytes lk held. held ∙ kind_has_more plan text j o more low is k lk)
+pub by_kind : (manifest : Listed) (f g : Files) (pieces : List (List ℕ)) (text : Output → List ℕ) (j : ℕ) (o : Output) (more : List ℕ) → j < output_count manifest → kind_at manifest j ≡ o
+    → HasTextsAt manifest pieces f g (more_at (of_kind manifest text) j more) → HasTexts manifest pieces f g (with_more text o more)
+by_kind manifest f g pieces text j o more low is p =
+    weaker f g (output_count manifest) (output_name manifest) (Holds pieces (more_at (of_kind manifest text) j more)) (Holds pieces (of_kind manifest (with_more text o more))) p
+    (λ k bytes lk held. held ∙ kind_has_more manifest text j o more low is k lk)
 
 -- the same texts
-pub kinds_same : (plan : Planned) (f g : Files) (pieces : List (List ℕ)) (text other : Output → List ℕ) → ((o : Output) → text o ≡ other o)
-    → HasTexts plan pieces f g text → HasTexts plan pieces f g other
-kinds_same plan f g pieces text other same p =
-    weaker f g (output_count plan) (output_name plan) (Holds pieces (of_kind plan text)) (Holds pieces (of_kind plan other)) p
-    (λ k bytes lk held. held ∙ same (kind_at plan k))
+pub kinds_same : (manifest : Listed) (f g : Files) (pieces : List (List ℕ)) (text other : Output → List ℕ) → ((o : Output) → text o ≡ other o)
+    → HasTexts manifest pieces f g text → HasTexts manifest pieces f g other
+kinds_same manifest f g pieces text other same p =
+    weaker f g (output_count manifest) (output_name manifest) (Holds pieces (of_kind manifest text)) (Holds pieces (of_kind manifest other)) p
+    (λ k bytes lk held. held ∙ same (kind_at manifest k))
 
 -- nothing more of a kind, and more of it twice
 pub with_more_nothing : (text : Output → List ℕ) (o k : Output) → with_more text o [] k ≡ text k
@@ -223,23 +223,23 @@ with_more_twice text o xs ys k = by_test (is_same o k)
     by_test false = refl
 
 -- nothing more of an output
-pub no_more : (plan : Planned) (f g : Files) (pieces : List (List ℕ)) (text : Output → List ℕ) (o : Output)
-    → HasTexts plan pieces f g text → HasTexts plan pieces f g (with_more text o [])
-no_more plan f g pieces text o = kinds_same plan f g pieces text (with_more text o []) (λ k. sym (with_more_nothing text o k))
+pub no_more : (manifest : Listed) (f g : Files) (pieces : List (List ℕ)) (text : Output → List ℕ) (o : Output)
+    → HasTexts manifest pieces f g text → HasTexts manifest pieces f g (with_more text o [])
+no_more manifest f g pieces text o = kinds_same manifest f g pieces text (with_more text o []) (λ k. sym (with_more_nothing text o k))
 
 -- more, and then more
-pub more_behind : (plan : Planned) (f g : Files) (pieces : List (List ℕ)) (text : Output → List ℕ) (o : Output) (before one after : List ℕ) → before ++ one ≡ after
-    → HasTexts plan pieces f g (with_more (with_more text o before) o one) → HasTexts plan pieces f g (with_more text o after)
-more_behind plan f g pieces text o before one after is =
-    kinds_same plan f g pieces (with_more (with_more text o before) o one) (with_more text o after)
+pub more_behind : (manifest : Listed) (f g : Files) (pieces : List (List ℕ)) (text : Output → List ℕ) (o : Output) (before one after : List ℕ) → before ++ one ≡ after
+    → HasTexts manifest pieces f g (with_more (with_more text o before) o one) → HasTexts manifest pieces f g (with_more text o after)
+more_behind manifest f g pieces text o before one after is =
+    kinds_same manifest f g pieces (with_more (with_more text o before) o one) (with_more text o after)
     (λ k. with_more_twice text o before one k ∙ ap (λ (xs : List ℕ). with_more text o xs k) is)
 
 -- more of a kind, spelled in another way
-pub more_spelled : (plan : Planned) (f g : Files) (pieces : List (List ℕ)) (text : Output → List ℕ) (o p : Output) (xs ys : List ℕ)
-    → o ≡ p → xs ≡ ys → HasTexts plan pieces f g (with_more text o xs) → HasTexts plan pieces f g (with_more text p ys)
-more_spelled plan f g pieces text o p xs ys eo ex held =
-    subst (λ (k : Output). HasTexts plan pieces f g (with_more text k ys)) eo
-    (subst (λ (zs : List ℕ). HasTexts plan pieces f g (with_more text o zs)) ex held)
+pub more_spelled : (manifest : Listed) (f g : Files) (pieces : List (List ℕ)) (text : Output → List ℕ) (o p : Output) (xs ys : List ℕ)
+    → o ≡ p → xs ≡ ys → HasTexts manifest pieces f g (with_more text o xs) → HasTexts manifest pieces f g (with_more text p ys)
+more_spelled manifest f g pieces text o p xs ys eo ex held =
+    subst (λ (k : Output). HasTexts manifest pieces f g (with_more text k ys)) eo
+    (subst (λ (zs : List ℕ). HasTexts manifest pieces f g (with_more text o zs)) ex held)
 
 -- the texts of one of a list more
 pub texts_more : {X : Type 0} (text : X → List ℕ) (xs : List X) (i : ℕ) (x : X) → i < length xs → x ≡ get_or xs i x
@@ -251,11 +251,11 @@ texts_more text xs i x inside is =
     ∙ ap (flat_map text) (sym (take_more xs i x inside))
 
 -- a kind that isn't made has no file
-pub unmade : (plan : Planned) (o : Output) (j : ℕ) → j < output_count plan → (IsMade plan.options plan.tree o → ⊥) → kind_at plan j ≢ o
-unmade plan o j low not e = not (subst (IsMade plan.options plan.tree) e (kind_is plan j low).made)
+pub unmade : (manifest : Listed) (o : Output) (j : ℕ) → j < output_count manifest → (IsMade manifest.options manifest.tree o → ⊥) → kind_at manifest j ≢ o
+unmade manifest o j low not e = not (subst (IsMade manifest.options manifest.tree) e (kind_is manifest j low).made)
 
-pub not_written : (plan : Planned) (f g : Files) (pieces : List (List ℕ)) (text : Output → List ℕ) (o : Output) (more : List ℕ) → (IsMade plan.options plan.tree o → ⊥)
-    → HasTexts plan pieces f g text → HasTexts plan pieces f g (with_more text o more)
-not_written plan f g pieces text o more not p =
-    weaker f g (output_count plan) (output_name plan) (Holds pieces (of_kind plan text)) (Holds pieces (of_kind plan (with_more text o more))) p
-    (λ k bytes low held. held ∙ sym (ap (λ (b : Bool). if b then text (kind_at plan k) ++ more else text (kind_at plan k)) (other_kind o (kind_at plan k) (λ e. unmade plan o k low not (sym e)))))
+pub not_written : (manifest : Listed) (f g : Files) (pieces : List (List ℕ)) (text : Output → List ℕ) (o : Output) (more : List ℕ) → (IsMade manifest.options manifest.tree o → ⊥)
+    → HasTexts manifest pieces f g text → HasTexts manifest pieces f g (with_more text o more)
+not_written manifest f g pieces text o more not p =
+    weaker f g (output_count manifest) (output_name manifest) (Holds pieces (of_kind manifest text)) (Holds pieces (of_kind manifest (with_more text o more))) p
+    (λ k bytes low held. held ∙ sym (ap (λ (b : Bool). if b then text (kind_at manifest k) ++ more else text (kind_at manifest k)) (other_kind o (kind_at manifest k) (λ e. unmade manifest o k low not (sym e)))))

@@ -9,7 +9,7 @@ use Rattle.exb_model.proofs.TreeHung.{extender-low}
 use Rattle.exb_model.proofs.TreeWays.{any_below-from}
 use Rattle.exb_model.proofs.Validity.{extender_from, no_port_past}
 use Rattle.exb_inputs.proofs.Passing.{last, passed_here, passed_more, passed_none, passed_not}
-use Rattle.exb_outputs.specs.Plans.{Planned, port_count, port_at, place_in, ArePlaced}
+use Rattle.exb_outputs.specs.Manifests.{Listed, port_count, port_at, place_in, ArePlaced}
 
 module _ (P : ℕ → Bool) where
   none_passed : length (filter P (below 0)) ≡ 0
@@ -153,23 +153,23 @@ places_end t n row table is all =
 pub places_low : (t : Shape) (n : ℕ) (row table : List ℕ) → ArePlacedBelow t n row table → length row ≤ n
 places_low t n row table is = let size = ap (λ (xs : List ℕ). length xs) is.ports in let few = few_pass (is_external t) n in omega arith
 
--- ---- the captures of a plan
+-- ---- the captures of a manifest
 
-pub port_is : (plan : Planned) (j : ℕ) → j < port_count plan → IsAt (is_external plan.tree) 4160 j (port_at plan j)
+pub port_is : (manifest : Listed) (j : ℕ) → j < port_count manifest → IsAt (is_external manifest.tree) 4160 j (port_at manifest j)
 unfolding external_ports
-port_is plan j low = at_place (is_external plan.tree) 4160 j 0 low
+port_is manifest j low = at_place (is_external manifest.tree) 4160 j 0 low
 
-pub place_is : (plan : Planned) (q : ℕ) → q < 4160 → is_external plan.tree q ≡ true → IsPlaced (is_external plan.tree) 4160 q 0
-place_is plan q low is = placed (is_external plan.tree) 4160 q 0 low is
+pub place_is : (manifest : Listed) (q : ℕ) → q < 4160 → is_external manifest.tree q ≡ true → IsPlaced (is_external manifest.tree) 4160 q 0
+place_is manifest q low is = placed (is_external manifest.tree) 4160 q 0 low is
 
 -- the place of an external port is that of its capture
-pub place_low : (plan : Planned) (q : ℕ) → q < 4160 → is_external plan.tree q ≡ true → place_in plan.tree q < port_count plan
+pub place_low : (manifest : Listed) (q : ℕ) → q < 4160 → is_external manifest.tree q ≡ true → place_in manifest.tree q < port_count manifest
 unfolding external_ports
-place_low plan q low is = (place_is plan q low is).inside
+place_low manifest q low is = (place_is manifest q low is).inside
 
-pub port_of_place : (plan : Planned) (q : ℕ) → q < 4160 → is_external plan.tree q ≡ true → port_at plan (place_in plan.tree q) ≡ q
+pub port_of_place : (manifest : Listed) (q : ℕ) → q < 4160 → is_external manifest.tree q ≡ true → port_at manifest (place_in manifest.tree q) ≡ q
 unfolding external_ports
-port_of_place plan q low is = (place_is plan q low is).here
+port_of_place manifest q low is = (place_is manifest q low is).here
 
-pub place_of_port : (plan : Planned) (j : ℕ) → j < port_count plan → place_in plan.tree (port_at plan j) ≡ j
-place_of_port plan j low = (port_is plan j low).back
+pub place_of_port : (manifest : Listed) (j : ℕ) → j < port_count manifest → place_in manifest.tree (port_at manifest j) ≡ j
+place_of_port manifest j low = (port_is manifest j low).back

@@ -13,7 +13,7 @@ use Rattle.exb_text.specs.declared.output.Output.{Output}
 use Rattle.exb_text.specs.declared.output.Output.TheVariants as output
 use Rattle.exb_outputs.specs.declared.outputs.Outputs.{Outputs}
 use Rattle.exb_outputs.specs.declared.outputs.Unfinished.{Unfinished}
-use Rattle.exb_outputs.specs.Plans.{Planned, kind_at, output_count, place_in, port_at, port_count}
+use Rattle.exb_outputs.specs.Manifests.{Listed, kind_at, output_count, place_in, port_at, port_count}
 use Rattle.exb_outputs.specs.Sent.{AreCountedAt, GrowsAt, HasSent, IsCountedAt, SameCaptures, capture_size, frames_at, records_of, sent_more, size_at, sizes_of}
 use Rattle.exb_outputs.specs.Writing.{IsReady, first_text, ids_of}
 use Rattle.exb_outputs.proofs.ByKind.{placed}
@@ -47,9 +47,9 @@ value_same of all at was now inside read is j = elim (cases_eq j at) [
 ]
 
 -- all have their ids yet
-pub ready_with : (plan : Planned) (given ids : ℕ → Id) (old new : Outputs) (at : ℕ) (was now : Unfinished) → new.files.items ≡ set old.files.items at now → at < length old.files.items → was ≡ get_or old.files.items at was
-    → now.id ≡ was.id → ((j : ℕ) → ids j ≡ given j) → IsReady plan given old → IsReady plan ids new
-ready_with plan given ids old new at was now is inside read id kept ready = record {
+pub ready_with : (manifest : Listed) (given ids : ℕ → Id) (old new : Outputs) (at : ℕ) (was now : Unfinished) → new.files.items ≡ set old.files.items at now → at < length old.files.items → was ≡ get_or old.files.items at was
+    → now.id ≡ was.id → ((j : ℕ) → ids j ≡ given j) → IsReady manifest given old → IsReady manifest ids new
+ready_with manifest given ids old new at was now is inside read id kept ready = record {
   files = ap (λ (xs : List Unfinished). length xs) is ∙ length-set old.files.items at now ∙ ready.files;
   named = λ j low.
       let same : slice_index (ids_of new) j ≡ slice_index (ids_of old) j = ap (λ (xs : List Unfinished). slice_index (map (λ f. f.id) xs) j) is ∙ value_same (λ f. f.id) old.files.items at was now inside read id j in
@@ -97,11 +97,11 @@ grows_at old new at n was now is inside read records size =
     }
 
 -- ---- captures
-pub same_none : (plan : Planned) (o : Outputs) → SameCaptures plan o o
-same_none plan o = record { each = λ q low out. (refl, refl) }
+pub same_none : (manifest : Listed) (o : Outputs) → SameCaptures manifest o o
+same_none manifest o = record { each = λ q low out. (refl, refl) }
 
-pub same_then : (plan : Planned) (a b c : Outputs) → SameCaptures plan a b → SameCaptures plan b c → SameCaptures plan a c
-same_then plan a b c first later = record {
+pub same_then : (manifest : Listed) (a b c : Outputs) → SameCaptures manifest a b → SameCaptures manifest b c → SameCaptures manifest a c
+same_then manifest a b c first later = record {
   each = λ q low out.
       let x = first.each q low out in
       let y = later.each q low out in
@@ -109,11 +109,11 @@ same_then plan a b c first later = record {
 }
 
 -- behind the captures something was written
-pub same_captures : (plan : Planned) (old new : Outputs) (at n : ℕ) → port_count plan ≤ at → GrowsAt at n old new → SameCaptures plan old new
-same_captures plan old new at n behind grows = record {
+pub same_captures : (manifest : Listed) (old new : Outputs) (at n : ℕ) → port_count manifest ≤ at → GrowsAt at n old new → SameCaptures manifest old new
+same_captures manifest old new at n behind grows = record {
   each = λ q low out.
-      let inside : place_in plan.tree q < port_count plan = place_low plan q low out in
-      (grows.records (place_in plan.tree q), grows.others (place_in plan.tree q) (λ e. omega (arith, inside, behind, e)));
+      let inside : place_in manifest.tree q < port_count manifest = place_low manifest q low out in
+      (grows.records (place_in manifest.tree q), grows.others (place_in manifest.tree q) (λ e. omega (arith, inside, behind, e)));
 }
 
 -- ---- frames
@@ -124,65 +124,65 @@ more_size xs m bytes =
     let one : length bytes + 0 ≡ length bytes = omega arith in
     omega (arith, longer, sums, one)
 
-module _ (plan : Planned) (old new : Outputs) (p m : ℕ) (bytes : List ℕ) (was now : Unfinished) (is : new.files.items ≡ set old.files.items (place_in plan.tree p) now) (inside : place_in plan.tree p < length old.files.items)
-    (read : was ≡ get_or old.files.items (place_in plan.tree p) was) (records : now.records ≡ (was.records + 1) % 2 ^ 64)
-    (size : size_of was + (16 + length bytes) < 2 ^ 64 → size_of now ≡ size_of was + (16 + length bytes)) (low : p < 4160) (out : is_external plan.tree p ≡ true) where
+module _ (manifest : Listed) (old new : Outputs) (p m : ℕ) (bytes : List ℕ) (was now : Unfinished) (is : new.files.items ≡ set old.files.items (place_in manifest.tree p) now) (inside : place_in manifest.tree p < length old.files.items)
+    (read : was ≡ get_or old.files.items (place_in manifest.tree p) was) (records : now.records ≡ (was.records + 1) % 2 ^ 64)
+    (size : size_of was + (16 + length bytes) < 2 ^ 64 → size_of now ≡ size_of was + (16 + length bytes)) (low : p < 4160) (out : is_external manifest.tree p ≡ true) where
   at : ℕ
-  at = place_in plan.tree p
+  at = place_in manifest.tree p
 
-  spelled : (of : Unfinished → ℕ) (j : ℕ) → slice_index (map of new.files.items) j ≡ slice_index (map of (set old.files.items (place_in plan.tree p) now)) j
+  spelled : (of : Unfinished → ℕ) (j : ℕ) → slice_index (map of new.files.items) j ≡ slice_index (map of (set old.files.items (place_in manifest.tree p) now)) j
   spelled of j = ap (λ (xs : List Unfinished). slice_index (map of xs) j) is
 
   -- at its port
-  here : (sent : ℕ → List Sent) → HasSent plan old sent → capture_size (sent p ++ (m, bytes) ∷ []) < 2 ^ 64
-      → (frames_at plan new p ≡ length (sent p ++ (m, bytes) ∷ [])) × (size_at plan new p ≡ capture_size (sent p ++ (m, bytes) ∷ []))
+  here : (sent : ℕ → List Sent) → HasSent manifest old sent → capture_size (sent p ++ (m, bytes) ∷ []) < 2 ^ 64
+      → (frames_at manifest new p ≡ length (sent p ++ (m, bytes) ∷ [])) × (size_at manifest new p ≡ capture_size (sent p ++ (m, bytes) ∷ []))
   here sent has fits =
       let more = more_size (sent p) m bytes in
       let before = has.each p low out (omega (arith, fits, more)) in
-      let frames : was.records ≡ length (sent p) = sym (value_at (λ f. f.records) old.files.items (place_in plan.tree p) was inside read) ∙ before.0 in
-      let bytes_were : size_of was ≡ capture_size (sent p) = sym (value_at size_of old.files.items (place_in plan.tree p) was inside read) ∙ before.1 in
+      let frames : was.records ≡ length (sent p) = sym (value_at (λ f. f.records) old.files.items (place_in manifest.tree p) was inside read) ∙ before.0 in
+      let bytes_were : size_of was ≡ capture_size (sent p) = sym (value_at size_of old.files.items (place_in manifest.tree p) was inside read) ∙ before.1 in
       let longer = length-append (sent p) ((m, bytes) ∷ []) in
       let room : was.records + 1 < 2 ^ 64 = omega (arith, frames, fits, more) in
       let grown = size (omega (arith, bytes_were, fits, more)) in (
-        spelled (λ f. f.records) (place_in plan.tree p) ∙ value_here (λ f. f.records) old.files.items (place_in plan.tree p) now inside ∙ records ∙ counts_more was.records 1 room
+        spelled (λ f. f.records) (place_in manifest.tree p) ∙ value_here (λ f. f.records) old.files.items (place_in manifest.tree p) now inside ∙ records ∙ counts_more was.records 1 room
             ∙ omega (arith, frames, longer),
-        spelled size_of (place_in plan.tree p) ∙ value_here size_of old.files.items (place_in plan.tree p) now inside ∙ omega (arith, grown, bytes_were, more),
+        spelled size_of (place_in manifest.tree p) ∙ value_here size_of old.files.items (place_in manifest.tree p) now inside ∙ omega (arith, grown, bytes_were, more),
       )
 
   -- and at others
-  other : (sent : ℕ → List Sent) → HasSent plan old sent → (q : ℕ) → q < 4160 → is_external plan.tree q ≡ true → q ≢ p → capture_size (sent q) < 2 ^ 64
-      → (frames_at plan new q ≡ length (sent q)) × (size_at plan new q ≡ capture_size (sent q))
+  other : (sent : ℕ → List Sent) → HasSent manifest old sent → (q : ℕ) → q < 4160 → is_external manifest.tree q ≡ true → q ≢ p → capture_size (sent q) < 2 ^ 64
+      → (frames_at manifest new q ≡ length (sent q)) × (size_at manifest new q ≡ capture_size (sent q))
   other sent has q q_low q_out differ fits =
-      let apart : place_in plan.tree q ≢ place_in plan.tree p = λ e. differ (sym (port_of_place plan q q_low q_out) ∙ ap (port_at plan) e ∙ port_of_place plan p low out) in
+      let apart : place_in manifest.tree q ≢ place_in manifest.tree p = λ e. differ (sym (port_of_place manifest q q_low q_out) ∙ ap (port_at manifest) e ∙ port_of_place manifest p low out) in
       let before = has.each q q_low q_out fits in (
-        spelled (λ f. f.records) (place_in plan.tree q) ∙ value_other (λ f. f.records) old.files.items (place_in plan.tree p) now (place_in plan.tree q) apart ∙ before.0,
-        spelled size_of (place_in plan.tree q) ∙ value_other size_of old.files.items (place_in plan.tree p) now (place_in plan.tree q) apart ∙ before.1,
+        spelled (λ f. f.records) (place_in manifest.tree q) ∙ value_other (λ f. f.records) old.files.items (place_in manifest.tree p) now (place_in manifest.tree q) apart ∙ before.0,
+        spelled size_of (place_in manifest.tree q) ∙ value_other size_of old.files.items (place_in manifest.tree p) now (place_in manifest.tree q) apart ∙ before.1,
       )
 
-  pub frame_sent : (sent : ℕ → List Sent) → HasSent plan old sent → HasSent plan new (sent_more sent p (m, bytes))
+  pub frame_sent : (sent : ℕ → List Sent) → HasSent manifest old sent → HasSent manifest new (sent_more sent p (m, bytes))
   frame_sent sent has = record {
     each = λ q q_low q_out. elim (cases_eq q p) [
       | inl same ↦
-          rw (eq-eqb p q (sym same)) (subst (λ (k : ℕ). capture_size (sent k ++ (m, bytes) ∷ []) < 2 ^ 64 → (frames_at plan new k ≡ length (sent k ++ (m, bytes) ∷ [])) × (size_at plan new k ≡ capture_size (sent k ++ (m, bytes) ∷ []))) (sym same)
+          rw (eq-eqb p q (sym same)) (subst (λ (k : ℕ). capture_size (sent k ++ (m, bytes) ∷ []) < 2 ^ 64 → (frames_at manifest new k ≡ length (sent k ++ (m, bytes) ∷ [])) × (size_at manifest new k ≡ capture_size (sent k ++ (m, bytes) ∷ []))) (sym same)
           (here sent has))
       | inr differ ↦ rw (ne_eqb p q (λ e. differ (sym e))) (other sent has q q_low q_out differ)
     ];
   }
 
 -- before any frame
-pub first_sent : (plan : Planned) (o : Outputs) → ((j : ℕ) → j < output_count plan → slice_index (records_of o) j ≡ 0)
-    → ((j : ℕ) → j < output_count plan → slice_index (sizes_of o) j ≡ length (first_text (kind_at plan j))) → HasSent plan o (λ q. [])
-first_sent plan o records sizes = record {
+pub first_sent : (manifest : Listed) (o : Outputs) → ((j : ℕ) → j < output_count manifest → slice_index (records_of o) j ≡ 0)
+    → ((j : ℕ) → j < output_count manifest → slice_index (sizes_of o) j ≡ length (first_text (kind_at manifest j))) → HasSent manifest o (λ q. [])
+first_sent manifest o records sizes = record {
   each = λ q low out fits.
-      let place = placed plan (output.Capture q) out low in (
-        records (place_in plan.tree q) place.low,
-        sizes (place_in plan.tree q) place.low ∙ ap (λ (k : Output). length (first_text k)) place.at,
+      let place = placed manifest (output.Capture q) out low in (
+        records (place_in manifest.tree q) place.low,
+        sizes (place_in manifest.tree q) place.low ∙ ap (λ (k : Output). length (first_text k)) place.at,
       );
 }
 
 -- what was counted is that of the same frames yet
-pub sent_same : (plan : Planned) (old new : Outputs) (sent : ℕ → List Sent) → SameCaptures plan old new → HasSent plan old sent → HasSent plan new sent
-sent_same plan old new sent same has = record {
+pub sent_same : (manifest : Listed) (old new : Outputs) (sent : ℕ → List Sent) → SameCaptures manifest old new → HasSent manifest old sent → HasSent manifest new sent
+sent_same manifest old new sent same has = record {
   each = λ q low out fits.
       let s = same.each q low out in
       let before = has.each q low out fits in
@@ -190,22 +190,22 @@ sent_same plan old new sent same has = record {
 }
 
 -- and of frames that are the same
-pub sent_as : (plan : Planned) (o : Outputs) (sent other : ℕ → List Sent) → ((q : ℕ) → sent q ≡ other q) → HasSent plan o sent → HasSent plan o other
-sent_as plan o sent other same has = record {
-  each = λ q low out. subst (λ (xs : List Sent). capture_size xs < 2 ^ 64 → (frames_at plan o q ≡ length xs) × (size_at plan o q ≡ capture_size xs)) (same q) (has.each q low out);
+pub sent_as : (manifest : Listed) (o : Outputs) (sent other : ℕ → List Sent) → ((q : ℕ) → sent q ≡ other q) → HasSent manifest o sent → HasSent manifest o other
+sent_as manifest o sent other same has = record {
+  each = λ q low out. subst (λ (xs : List Sent). capture_size xs < 2 ^ 64 → (frames_at manifest o q ≡ length xs) × (size_at manifest o q ≡ capture_size xs)) (same q) (has.each q low out);
 }
 
 -- where all bytes are counted
-pub counted_of : (plan : Planned) (o : Outputs) (sent : ℕ → List Sent) → ((q : ℕ) → capture_size (sent q) < 2 ^ 64) → HasSent plan o sent → AreCountedAt plan o
-counted_of plan o sent room has q low out =
+pub counted_of : (manifest : Listed) (o : Outputs) (sent : ℕ → List Sent) → ((q : ℕ) → capture_size (sent q) < 2 ^ 64) → HasSent manifest o sent → AreCountedAt manifest o
+counted_of manifest o sent room has q low out =
     let own = has.each q low out (room q) in
     let frames = own.0 in
     let size = own.1 in
     let few = room q in
     record { whole = omega (arith, frames, size); fits = omega (arith, size, few) }
 
-pub counted_same : (plan : Planned) (old new : Outputs) (q : ℕ) → q < 4160 → is_external plan.tree q ≡ true → SameCaptures plan old new → IsCountedAt plan old q → IsCountedAt plan new q
-counted_same plan old new q low out same is =
+pub counted_same : (manifest : Listed) (old new : Outputs) (q : ℕ) → q < 4160 → is_external manifest.tree q ≡ true → SameCaptures manifest old new → IsCountedAt manifest old q → IsCountedAt manifest new q
+counted_same manifest old new q low out same is =
     let s = same.each q low out in
     let frames = s.0 in
     let size = s.1 in
@@ -214,12 +214,12 @@ counted_same plan old new q low out same is =
     record { whole = omega (arith, frames, size, whole); fits = omega (arith, size, fits) }
 
 -- of the port of a capture, by its file
-module _ (plan : Planned) (o : Outputs) (at : ℕ) (file : Unfinished) (low : at < port_count plan) (inside : at < length o.files.items) (read : file ≡ get_or o.files.items at file) where
-  own_place : place_in plan.tree (port_at plan at) ≡ at
-  own_place = place_of_port plan at low
+module _ (manifest : Listed) (o : Outputs) (at : ℕ) (file : Unfinished) (low : at < port_count manifest) (inside : at < length o.files.items) (read : file ≡ get_or o.files.items at file) where
+  own_place : place_in manifest.tree (port_at manifest at) ≡ at
+  own_place = place_of_port manifest at low
 
-  pub frames_of_file : frames_at plan o (port_at plan at) ≡ file.records
+  pub frames_of_file : frames_at manifest o (port_at manifest at) ≡ file.records
   frames_of_file = ap (λ (k : ℕ). slice_index (records_of o) k) own_place ∙ value_at (λ f. f.records) o.files.items at file inside read
 
-  pub size_of_file : size_at plan o (port_at plan at) ≡ size_of file
+  pub size_of_file : size_at manifest o (port_at manifest at) ≡ size_of file
   size_of_file = ap (λ (k : ℕ). slice_index (sizes_of o) k) own_place ∙ value_at size_of o.files.items at file inside read

@@ -6,17 +6,17 @@ use Rattle.exb_tables.specs.declared.rows.Named.{Named}
 use Rattle.exb_inputs.specs.declared.checked.Checked.{Checked}
 use Rattle.exb_inputs.specs.Checks.{AreChecked}
 use Rattle.exb_inputs.specs.Inputs.{is_named, name_of}
-use Rattle.exb_outputs.specs.Plans.{output_name, Planned, output_count}
+use Rattle.exb_outputs.specs.Manifests.{output_name, Listed, output_count}
 use Rattle.std.specs.List.{AllByRecursion}
 use Rattle.exb_shelf.specs.Shelf.{Id, IsReadingOf}
 
--- The captures of some external ports that were checked: no output of the plan has the name of one of them, so they stay as they are while
+-- The captures of some external ports that were checked: no output of the manifest has the name of one of them, so they stay as they are while
 -- the outputs are written.
-pub record CanBeRead (tells : Type 0) (plan : Planned) (names : List Named) (file : Files) (captures : List Checked) : Type 0 where
+pub record CanBeRead (tells : Type 0) (manifest : Listed) (names : List Named) (file : Files) (captures : List Checked) : Type 0 where
   pub checked : AreChecked tells names file captures
-  pub external : (q : ℕ) → is_named names q ≡ true → is_external plan.tree q ≡ true
-  pub apart : (q : ℕ) (name : List ℕ) → name_of names q ≡ Some name → (j : ℕ) → j < output_count plan → name ≢ output_name plan j
+  pub external : (q : ℕ) → is_named names q ≡ true → is_external manifest.tree q ≡ true
+  pub apart : (q : ℕ) (name : List ℕ) → name_of names q ≡ Some name → (j : ℕ) → j < output_count manifest → name ≢ output_name manifest j
 
 -- the captures are read through these ids, and none has the name of an output
-abbrev pub AreApart : Planned → (ℕ → Id) → List ℕ → Type 0
-AreApart plan ids mine = AllByRecursion (λ k. (name : List ℕ) × IsReadingOf name (ids k) × ((j : ℕ) → j < output_count plan → name ≢ output_name plan j)) mine
+abbrev pub AreApart : Listed → (ℕ → Id) → List ℕ → Type 0
+AreApart manifest ids mine = AllByRecursion (λ k. (name : List ℕ) × IsReadingOf name (ids k) × ((j : ℕ) → j < output_count manifest → name ≢ output_name manifest j)) mine

@@ -1,4 +1,4 @@
-pub mod Plans
+pub mod Manifests
 pub mod Order
 pub mod Shelving
 pub mod Writing

@@ -5,7 +5,7 @@ use Rattle.exb_shelf.specs.Files.{Files}
 use Rattle.exb_text.specs.declared.output.Output.{Output}
 use Rattle.exb_text.specs.Names.{file_name}
 use Rattle.exb_words.specs.declared.asked.Options.{Options}
-use Rattle.exb_outputs.specs.Plans.{IsMade}
+use Rattle.exb_outputs.specs.Manifests.{IsMade}
 
 -- no file but those of the kinds that are made has changed
 abbrev pub OnlyOutputs : Options → Shape → List ℕ → Files → Files → Type 0

@@ -3,7 +3,7 @@ use Rattle.std.specs.Prelude.{⊤, ◌≡◌, ◌≢◌, ◌<◌, ◌≤◌, ℕ
 use Rattle.exb_inputs.specs.declared.fault.Fault.{Fault}
 use Rattle.exb_inputs.specs.declared.fault.Fault.TheVariants.{Changed}
 use Rattle.exb_shelf.specs.Shelf.{Id, writing}
-use Rattle.exb_outputs.specs.Plans.{output_name, Planned, output_count}
+use Rattle.exb_outputs.specs.Manifests.{output_name, Listed, output_count}
 
 -- the file of this name was made through this id, which is above all that were given, and no other was opened
 pub record MakesFile (id : ℕ) (name : List ℕ) (given ids : ℕ → Id) : Type 0 where
@@ -12,13 +12,13 @@ pub record MakesFile (id : ℕ) (name : List ℕ) (given ids : ℕ → Id) : Typ
   pub named : ids id ≡ writing name
   pub others : (j : ℕ) → j ≢ id → ids j ≡ given j
 
--- The first k outputs of a plan were made, one after the other and each once, and no other file: `at` says through which ids. Since ids
+-- The first k outputs of a manifest were made, one after the other and each once, and no other file: `at` says through which ids. Since ids
 -- rise, their order is that in which the files were made.
-pub record MadeInOrder (plan : Planned) (k : ℕ) (given ids : ℕ → Id) : Type 0 where
+pub record MadeInOrder (manifest : Listed) (k : ℕ) (given ids : ℕ → Id) : Type 0 where
   pub at : ℕ → ℕ
-  pub within : k ≤ output_count plan
+  pub within : k ≤ output_count manifest
   pub fresh : (j : ℕ) → j < k → (given (at j)).given ≡ false
-  pub named : (j : ℕ) → j < k → ids (at j) ≡ writing (output_name plan j)
+  pub named : (j : ℕ) → j < k → ids (at j) ≡ writing (output_name manifest j)
   pub rises : (i j : ℕ) → i < j → j < k → at i < at j
   pub only : (id : ℕ) → (given id).given ≡ false → (ids id).given ≡ true → (ids id).reads ≡ false → (j : ℕ) × (j < k) × (id ≡ at j)
 
@@ -29,7 +29,7 @@ IsLate (Err (Changed p at)) = ⊤
 IsLate (Err _) = ⊥
 
 -- the first outputs were made, and all of them where all went well or a capture turned out to be another one
-pub record MakesInOrder {X : Type 0} (plan : Planned) (result : Result X Fault) (given ids : ℕ → Id) : Type 0 where
+pub record MakesInOrder {X : Type 0} (manifest : Listed) (result : Result X Fault) (given ids : ℕ → Id) : Type 0 where
   pub count : ℕ
-  pub made : MadeInOrder plan count given ids
-  pub all : IsLate result → count ≡ output_count plan
+  pub made : MadeInOrder manifest count given ids
+  pub all : IsLate result → count ≡ output_count manifest

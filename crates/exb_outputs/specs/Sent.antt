@@ -4,7 +4,7 @@ use Rattle.exb_model.specs.FlatBridge.{Sent}
 use Rattle.exb_model.specs.Tree.{is_external}
 use Rattle.exb_counters.specs.Counters.{octets_of}
 use Rattle.exb_outputs.specs.declared.outputs.Outputs.{Outputs}
-use Rattle.exb_outputs.specs.Plans.{Planned, place_in}
+use Rattle.exb_outputs.specs.Manifests.{Listed, place_in}
 
 -- ---- what was counted
 -- how many records were put behind each output, as they were counted
@@ -16,11 +16,11 @@ abbrev pub sizes_of : Outputs → List ℕ
 sizes_of o = map (λ f. f.written + length f.piece.items) o.files.items
 
 -- the same of the capture of port q
-abbrev pub frames_at : Planned → Outputs → ℕ → ℕ
-frames_at plan o q = slice_index (records_of o) (place_in plan.tree q)
+abbrev pub frames_at : Listed → Outputs → ℕ → ℕ
+frames_at manifest o q = slice_index (records_of o) (place_in manifest.tree q)
 
-abbrev pub size_at : Planned → Outputs → ℕ → ℕ
-size_at plan o q = slice_index (sizes_of o) (place_in plan.tree q)
+abbrev pub size_at : Listed → Outputs → ℕ → ℕ
+size_at manifest o q = slice_index (sizes_of o) (place_in manifest.tree q)
 
 -- An output got so many bytes, and all others are as they were. Bytes are counted as far as 64 bits do.
 pub record GrowsAt (at bytes : ℕ) (old new : Outputs) : Type 0 where
@@ -29,8 +29,8 @@ pub record GrowsAt (at bytes : ℕ) (old new : Outputs) : Type 0 where
   pub here : slice_index (sizes_of old) at + bytes < 2 ^ 64 → slice_index (sizes_of new) at ≡ slice_index (sizes_of old) at + bytes
 
 -- what was counted of each capture is the same
-pub record SameCaptures (plan : Planned) (old new : Outputs) : Type 0 where
-  pub each : (q : ℕ) → q < 4160 → is_external plan.tree q ≡ true → (frames_at plan new q ≡ frames_at plan old q) × (size_at plan new q ≡ size_at plan old q)
+pub record SameCaptures (manifest : Listed) (old new : Outputs) : Type 0 where
+  pub each : (q : ℕ) → q < 4160 → is_external manifest.tree q ≡ true → (frames_at manifest new q ≡ frames_at manifest old q) × (size_at manifest new q ≡ size_at manifest old q)
 
 -- ---- frames
 -- how many bytes a capture of these frames has: 24 before the first record, and 16 before each frame
@@ -38,8 +38,8 @@ abbrev pub capture_size : List Sent → ℕ
 capture_size xs = 24 + 16 * length xs + octets_of xs
 
 -- These frames were put into the capture of each external port: records and bytes are counted, as far as 64 bits do.
-pub record HasSent (plan : Planned) (o : Outputs) (sent : ℕ → List Sent) : Type 0 where
-  pub each : (q : ℕ) → q < 4160 → is_external plan.tree q ≡ true → capture_size (sent q) < 2 ^ 64 → (frames_at plan o q ≡ length (sent q)) × (size_at plan o q ≡ capture_size (sent q))
+pub record HasSent (manifest : Listed) (o : Outputs) (sent : ℕ → List Sent) : Type 0 where
+  pub each : (q : ℕ) → q < 4160 → is_external manifest.tree q ≡ true → capture_size (sent q) < 2 ^ 64 → (frames_at manifest o q ≡ length (sent q)) × (size_at manifest o q ≡ capture_size (sent q))
 
 -- with one frame more at port p
 abbrev pub sent_more : (ℕ → List Sent) → ℕ → Sent → ℕ → List Sent
@@ -47,9 +47,9 @@ sent_more sent p x q = if p == q then sent q ++ x ∷ [] else sent q
 
 -- ---- where all is counted
 -- the bytes of a capture are all counted, and are no fewer than those beside its frames
-pub record IsCountedAt (plan : Planned) (o : Outputs) (q : ℕ) : Type 0 where
-  pub whole : 24 + 16 * frames_at plan o q ≤ size_at plan o q
-  pub fits : size_at plan o q < 2 ^ 64
+pub record IsCountedAt (manifest : Listed) (o : Outputs) (q : ℕ) : Type 0 where
+  pub whole : 24 + 16 * frames_at manifest o q ≤ size_at manifest o q
+  pub fits : size_at manifest o q < 2 ^ 64
 
-abbrev pub AreCountedAt : Planned → Outputs → Type 0
-AreCountedAt plan o = (q : ℕ) → q < 4160 → is_external plan.tree q ≡ true → IsCountedAt plan o q
+abbrev pub AreCountedAt : Listed → Outputs → Type 0
+AreCountedAt manifest o = (q : ℕ) → q < 4160 → is_external manifest.tree q ≡ true → IsCountedAt manifest o q

@@ -4,24 +4,24 @@ use Rattle.exb_shelf.specs.Files.{Files}
 use Rattle.exb_shelf.specs.Shelf.{Id, Opens, writing}
 use Rattle.exb_inputs.specs.declared.fault.Fault.{Fault}
 use Rattle.exb_inputs.specs.declared.fault.Fault.TheVariants.{Write, Memory}
-use Rattle.exb_outputs.specs.Plans.{Planned, OnlyPlanned, output_count, output_name}
+use Rattle.exb_outputs.specs.Manifests.{Listed, OnlyListed, output_count, output_name}
 
 -- a fault that can come while outputs are made and written
 abbrev pub IsOfWriting : Fault → Type 0
 IsOfWriting fault = (fault ≡ Write) ⊎ (fault ≡ Memory)
 
--- an id to write an output of a plan
-pub record WritesPlanned (plan : Planned) (i : Id) : Type 0 where
+-- an id to write an output of a manifest
+pub record WritesListed (manifest : Listed) (i : Id) : Type 0 where
   pub at : ℕ
-  pub within : at < output_count plan
-  pub writes : i ≡ writing (output_name plan at)
+  pub within : at < output_count manifest
+  pub writes : i ≡ writing (output_name manifest at)
 
--- no file but the outputs of a plan has changed, and none was opened
-pub record OnlyWrites (tells : Type 0) (plan : Planned) (old new : Files) (given ids : ℕ → Id) : Type 0 where
-  pub others : tells → OnlyPlanned plan old new
+-- no file but the outputs of a manifest has changed, and none was opened
+pub record OnlyWrites (tells : Type 0) (manifest : Listed) (old new : Files) (given ids : ℕ → Id) : Type 0 where
+  pub others : tells → OnlyListed manifest old new
   pub kept : (j : ℕ) → ids j ≡ given j
 
--- the same, where outputs of the plan may have been made
-pub record OnlyMakes (tells : Type 0) (plan : Planned) (old new : Files) (given ids : ℕ → Id) : Type 0 where
-  pub others : tells → OnlyPlanned plan old new
-  pub opened : Opens (WritesPlanned plan) given ids
+-- the same, where outputs of the manifest may have been made
+pub record OnlyMakes (tells : Type 0) (manifest : Listed) (old new : Files) (given ids : ℕ → Id) : Type 0 where
+  pub others : tells → OnlyListed manifest old new
+  pub opened : Opens (WritesListed manifest) given ids

@@ -9,7 +9,7 @@ use Rattle.exb_text.specs.declared.output.Output.{Output}
 use Rattle.exb_shelf.specs.Shelf.{Id, writing}
 use Rattle.exb_outputs.specs.declared.outputs.Outputs.{Outputs}
 use Rattle.exb_words.specs.Kinds.{is_same, port_of}
-use Rattle.exb_outputs.specs.Plans.{Planned, kind_at, output_count, output_name}
+use Rattle.exb_outputs.specs.Manifests.{Listed, kind_at, output_count, output_name}
 
 -- the ids of their files
 abbrev pub ids_of : Outputs → List ℕ
@@ -24,17 +24,17 @@ abbrev pub Holds : List (List ℕ) → (ℕ → List ℕ) → ℕ → List ℕ �
 Holds pieces text j bytes = bytes ++ slice_index_or pieces j [] ≡ text j
 
 -- each output has the text of its kind, and no other file has changed
-abbrev pub HasTexts : Planned → List (List ℕ) → Files → Files → (Output → List ℕ) → Type 0
-HasTexts plan pieces old new text = Filled old new (output_count plan) (output_name plan) (Holds pieces (λ j. text (kind_at plan j)))
+abbrev pub HasTexts : Listed → List (List ℕ) → Files → Files → (Output → List ℕ) → Type 0
+HasTexts manifest pieces old new text = Filled old new (output_count manifest) (output_name manifest) (Holds pieces (λ j. text (kind_at manifest j)))
 
 -- each output is as it was or holds a front of the text of its kind, and no other file has changed
-abbrev pub AreCut : Planned → Files → Files → (Output → List ℕ) → Type 0
-AreCut plan old new text = Cut old new (output_count plan) (output_name plan) (λ j. text (kind_at plan j))
+abbrev pub AreCut : Listed → Files → Files → (Output → List ℕ) → Type 0
+AreCut manifest old new text = Cut old new (output_count manifest) (output_name manifest) (λ j. text (kind_at manifest j))
 
--- the outputs of a plan, each with an id of its file
-pub record IsReady (plan : Planned) (given : ℕ → Id) (o : Outputs) : Type 0 where
-  pub files : length o.files.items ≡ output_count plan
-  pub named : (j : ℕ) → j < output_count plan → given (slice_index (ids_of o) j) ≡ writing (output_name plan j)
+-- the outputs of a manifest, each with an id of its file
+pub record IsReady (manifest : Listed) (given : ℕ → Id) (o : Outputs) : Type 0 where
+  pub files : length o.files.items ≡ output_count manifest
+  pub named : (j : ℕ) → j < output_count manifest → given (slice_index (ids_of o) j) ≡ writing (output_name manifest j)
 
 -- what the outputs begin with: captures with their header
 abbrev pub first_at : Option ℕ → List ℕ
@@ -53,8 +53,8 @@ abbrev pub lines_of : List Event → List ℕ
 lines_of events = flat_map (λ e. line_of e ++ 10 ∷ []) events
 
 -- a frame whose record can be written in a capture: it left an external port, below 2^32 seconds
-pub record CanBeRecorded (plan : Planned) (q time : ℕ) (frame : List ℕ) : Type 0 where
-  pub port : is_external plan.tree q ≡ true
+pub record CanBeRecorded (manifest : Listed) (q time : ℕ) (frame : List ℕ) : Type 0 where
+  pub port : is_external manifest.tree q ≡ true
   pub low : q < 4160
   pub moment : time < 2 ^ 32 * 1_000_000_000
   pub bytes : length frame < 2 ^ 32

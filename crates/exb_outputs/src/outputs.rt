@@ -3,10 +3,10 @@ ghost use Rattle.std.specs.Prelude.{◌≡◌, ◌≢◌, true, ◌≤◌, ◌<�
 ghost use Rattle.exb_shelf.specs.Files.{Files, SameFiles, Puts, Adds, AddsFront, Filled};
 ghost use Rattle.exb_shelf.specs.Shelf.{IsWriting, Opens, writing};
 ghost use Rattle.exb_words.specs.Kinds.{is_asked, port_of};
-ghost use Rattle.exb_outputs.specs.Plans.{Planned, kind_at, output_count, output_name, port_at, port_count};
+ghost use Rattle.exb_outputs.specs.Manifests.{Listed, kind_at, output_count, output_name, port_at, port_count};
 ghost use Rattle.exb_outputs.specs.Order.{MakesFile, MakesInOrder};
 ghost use Rattle.exb_inputs.specs.Shelving.{CountsFaults};
-ghost use Rattle.exb_outputs.specs.Shelving.{IsOfWriting, OnlyMakes, OnlyWrites, WritesPlanned};
+ghost use Rattle.exb_outputs.specs.Shelving.{IsOfWriting, OnlyMakes, OnlyWrites, WritesListed};
 ghost use Rattle.exb_model.specs.FlatBridge.{Sent};
 ghost use Rattle.exb_model.specs.Texts.{record_text as record_of};
 ghost use Rattle.exb_model.specs.Tree.{is_external};
@@ -15,7 +15,7 @@ ghost use Rattle.exb_text.specs.declared.output.Output.TheVariants as output;
 ghost use Rattle.exb_outputs.specs.Sent.{GrowsAt, HasSent, SameCaptures, frames_at, records_of, sent_more, size_at, sizes_of};
 ghost use Rattle.exb_outputs.specs.Writing.{ids_of, pieces_of, AreCut, CanBeRecorded, HasTexts, IsReady, first_text, with_more};
 
-use crate::plan::Plan;
+use crate::manifest::Manifest;
 use exb_capture::{header_text, record_text};
 use exb_inputs::Fault;
 use exb_model::memory::NoMemory;
@@ -45,26 +45,26 @@ pub struct Outputs {
 }
 
 /// The name of output `at`.
-fn output_name(alloc: Global, plan: &Plan, at: u16) -> Result<String, NoMemory>
-    requires { at < output_count plan.now }
-    ensures { IfOk result (λ name. string_bytes name ≡ output_name plan.now at) }
+fn output_name(alloc: Global, manifest: &Manifest, at: u16) -> Result<String, NoMemory>
+    requires { at < output_count manifest.now }
+    ensures { IfOk result (λ name. string_bytes name ≡ output_name manifest.now at) }
 {
-    file_name(alloc, plan.prefix(), &plan.kind(at))
+    file_name(alloc, manifest.prefix(), &manifest.kind(at))
 }
 
-/// The outputs of a plan have different names.
+/// The outputs of a manifest have different names.
 fn output_names_differ()
-    ensures { (plan : Planned) (i j : ℕ) → i < output_count plan → j < output_count plan → i ≢ j → output_name plan i ≢ output_name plan j }
+    ensures { (manifest : Listed) (i j : ℕ) → i < output_count manifest → j < output_count manifest → i ≢ j → output_name manifest i ≢ output_name manifest j }
 {
     file_names_differ();
 }
 
 /// What output `at` begins with.
-fn first_piece(alloc: Global, plan: &Plan, at: u16) -> Result<Vec<u8>, NoMemory>
-    requires { at < output_count plan.now }
-    ensures { IfOk result (λ piece. piece.items ≡ first_text (kind_at plan.now at)) }
+fn first_piece(alloc: Global, manifest: &Manifest, at: u16) -> Result<Vec<u8>, NoMemory>
+    requires { at < output_count manifest.now }
+    ensures { IfOk result (λ piece. piece.items ≡ first_text (kind_at manifest.now at)) }
 {
-    match plan.kind(at) {
+    match manifest.kind(at) {
         Output::Capture(_) => Ok(header_text().to_vec(alloc)?),
         _ => Ok(Vec::new(alloc)),
     }
@@ -74,28 +74,28 @@ fn first_piece(alloc: Global, plan: &Plan, at: u16) -> Result<Vec<u8>, NoMemory>
 fn create_one<S: Shelf>(
     alloc: Global,
     shelf: &mut S,
-    plan: &Plan,
+    manifest: &Manifest,
     at: u16,
     outputs: &mut Outputs,
 ) -> Result<(), Fault>
-    requires within { at < output_count plan.now }
+    requires within { at < output_count manifest.now }
     requires files { length outputs.old.files.items ≡ at }
-    ensures ids { OnOk result ((id : ℕ) × (ids_of outputs.new ≡ ids_of outputs.old ++ id ∷ []) × (S.ids shelf.new id ≡ writing (output_name plan.now at))) }
-    ensures pieces { OnOk result (pieces_of outputs.new ≡ pieces_of outputs.old ++ first_text (kind_at plan.now at) ∷ []) }
+    ensures ids { OnOk result ((id : ℕ) × (ids_of outputs.new ≡ ids_of outputs.old ++ id ∷ []) × (S.ids shelf.new id ≡ writing (output_name manifest.now at))) }
+    ensures pieces { OnOk result (pieces_of outputs.new ≡ pieces_of outputs.old ++ first_text (kind_at manifest.now at) ∷ []) }
     ensures records { OnOk result (records_of outputs.new ≡ records_of outputs.old ++ 0 ∷ []) }
-    ensures sizes { OnOk result (sizes_of outputs.new ≡ sizes_of outputs.old ++ length (first_text (kind_at plan.now at)) ∷ []) }
+    ensures sizes { OnOk result (sizes_of outputs.new ≡ sizes_of outputs.old ++ length (first_text (kind_at manifest.now at)) ∷ []) }
     ensures count { OnOk result (length outputs.new.files.items ≡ at + 1) }
-    ensures opened { Opens (WritesPlanned plan.now) (S.ids shelf.old) (S.ids shelf.new) }
-    ensures makes { OnOk result ((id : ℕ) × MakesFile id (output_name plan.now at) (S.ids shelf.old) (S.ids shelf.new)) }
-    ensures may_make { OnErr result (((j : ℕ) → S.ids shelf.new j ≡ S.ids shelf.old j) ⊎ ((id : ℕ) × MakesFile id (output_name plan.now at) (S.ids shelf.old) (S.ids shelf.new))) }
-    ensures empty { S.tells → OnOk result (Puts (S.file shelf.old) (S.file shelf.new) (output_name plan.now at) []) }
-    ensures others { S.tells → OnErr result ((m : List ℕ) → m ≢ output_name plan.now at → S.file shelf.new m ≡ S.file shelf.old m) }
-    ensures stays { S.tells → OnErr result (SameFiles (S.file shelf.old) (S.file shelf.new) ⊎ Puts (S.file shelf.old) (S.file shelf.new) (output_name plan.now at) []) }
+    ensures opened { Opens (WritesListed manifest.now) (S.ids shelf.old) (S.ids shelf.new) }
+    ensures makes { OnOk result ((id : ℕ) × MakesFile id (output_name manifest.now at) (S.ids shelf.old) (S.ids shelf.new)) }
+    ensures may_make { OnErr result (((j : ℕ) → S.ids shelf.new j ≡ S.ids shelf.old j) ⊎ ((id : ℕ) × MakesFile id (output_name manifest.now at) (S.ids shelf.old) (S.ids shelf.new))) }
+    ensures empty { S.tells → OnOk result (Puts (S.file shelf.old) (S.file shelf.new) (output_name manifest.now at) []) }
+    ensures others { S.tells → OnErr result ((m : List ℕ) → m ≢ output_name manifest.now at → S.file shelf.new m ≡ S.file shelf.old m) }
+    ensures stays { S.tells → OnErr result (SameFiles (S.file shelf.old) (S.file shelf.new) ⊎ Puts (S.file shelf.old) (S.file shelf.new) (output_name manifest.now at) []) }
     ensures causes { IfErr result IsOfWriting }
     ensures faults { CountsFaults result (S.faults shelf.old) (S.faults shelf.new) }
 {
-    let name = output_name(alloc, plan, at)?;
-    let piece = first_piece(alloc, plan, at)?;
+    let name = output_name(alloc, manifest, at)?;
+    let piece = first_piece(alloc, manifest, at)?;
     let id = shelf.create(name.as_str())?;
     let file = Unfinished {
         id,
@@ -110,13 +110,17 @@ fn create_one<S: Shelf>(
 }
 
 /// Makes all outputs, each empty, with the piece that it begins with.
-pub fn create_all<S: Shelf>(alloc: Global, shelf: &mut S, plan: &Plan) -> Result<Outputs, Fault>
-    ensures ready { IfOk result (λ outputs. IsReady plan.now (S.ids shelf.new) outputs) }
-    ensures texts { S.tells → IfOk result (λ outputs. HasTexts plan.now (pieces_of outputs) (S.file shelf.old) (S.file shelf.new) first_text) }
-    ensures sent { IfOk result (λ outputs. HasSent plan.now outputs (λ q. [])) }
-    ensures cut { S.tells → OnErr result ((text : Output → List ℕ) → AreCut plan.now (S.file shelf.old) (S.file shelf.new) text) }
-    ensures only { OnlyMakes S.tells plan.now (S.file shelf.old) (S.file shelf.new) (S.ids shelf.old) (S.ids shelf.new) }
-    ensures made { MakesInOrder plan.now result (S.ids shelf.old) (S.ids shelf.new) }
+pub fn create_all<S: Shelf>(
+    alloc: Global,
+    shelf: &mut S,
+    manifest: &Manifest,
+) -> Result<Outputs, Fault>
+    ensures ready { IfOk result (λ outputs. IsReady manifest.now (S.ids shelf.new) outputs) }
+    ensures texts { S.tells → IfOk result (λ outputs. HasTexts manifest.now (pieces_of outputs) (S.file shelf.old) (S.file shelf.new) first_text) }
+    ensures sent { IfOk result (λ outputs. HasSent manifest.now outputs (λ q. [])) }
+    ensures cut { S.tells → OnErr result ((text : Output → List ℕ) → AreCut manifest.now (S.file shelf.old) (S.file shelf.new) text) }
+    ensures only { OnlyMakes S.tells manifest.now (S.file shelf.old) (S.file shelf.new) (S.ids shelf.old) (S.ids shelf.new) }
+    ensures made { MakesInOrder manifest.now result (S.ids shelf.old) (S.ids shelf.new) }
     ensures causes { IfErr result IsOfWriting }
     ensures faults { CountsFaults result (S.faults shelf.old) (S.faults shelf.new) }
 {
@@ -124,8 +128,8 @@ pub fn create_all<S: Shelf>(alloc: Global, shelf: &mut S, plan: &Plan) -> Result
         files: Vec::new(alloc),
     };
     output_names_differ();
-    for at in 0..plan.outputs() {
-        create_one(alloc, shelf, plan, at, &mut outputs)?;
+    for at in 0..manifest.outputs() {
+        create_one(alloc, shelf, manifest, at, &mut outputs)?;
     }
     Ok(outputs)
 }
@@ -212,25 +216,25 @@ impl Outputs {
     pub fn write_frame<S: Shelf>(
         &mut self,
         shelf: &mut S,
-        plan: &Plan,
+        manifest: &Manifest,
         port: PortId,
         moment: u64,
         bytes: &[u8],
     ) -> Result<(), Fault>
-        requires ready { IsReady plan.now (S.ids shelf.old) self.old }
-        requires frame { CanBeRecorded plan.now port moment bytes.now }
-        ensures ready { IsReady plan.now (S.ids shelf.new) self.new }
-        ensures texts { S.tells → OnOk result ((orig : Files) (text : Output → List ℕ) → HasTexts plan.now (pieces_of self.old) orig (S.file shelf.old) text
-            → HasTexts plan.now (pieces_of self.new) orig (S.file shelf.new) (with_more text (output.Capture port) (record_of (moment, bytes.now)))) }
-        ensures cut { S.tells → OnErr result ((orig : Files) (text : Output → List ℕ) → HasTexts plan.now (pieces_of self.old) orig (S.file shelf.old) text
-            → AreCut plan.now orig (S.file shelf.new) (with_more text (output.Capture port) (record_of (moment, bytes.now)))) }
-        ensures sent { OnOk result ((sent : ℕ → List Sent) → HasSent plan.now self.old sent → HasSent plan.now self.new (sent_more sent port (moment, bytes.now))) }
-        ensures only { OnlyWrites S.tells plan.now (S.file shelf.old) (S.file shelf.new) (S.ids shelf.old) (S.ids shelf.new) }
+        requires ready { IsReady manifest.now (S.ids shelf.old) self.old }
+        requires frame { CanBeRecorded manifest.now port moment bytes.now }
+        ensures ready { IsReady manifest.now (S.ids shelf.new) self.new }
+        ensures texts { S.tells → OnOk result ((orig : Files) (text : Output → List ℕ) → HasTexts manifest.now (pieces_of self.old) orig (S.file shelf.old) text
+            → HasTexts manifest.now (pieces_of self.new) orig (S.file shelf.new) (with_more text (output.Capture port) (record_of (moment, bytes.now)))) }
+        ensures cut { S.tells → OnErr result ((orig : Files) (text : Output → List ℕ) → HasTexts manifest.now (pieces_of self.old) orig (S.file shelf.old) text
+            → AreCut manifest.now orig (S.file shelf.new) (with_more text (output.Capture port) (record_of (moment, bytes.now)))) }
+        ensures sent { OnOk result ((sent : ℕ → List Sent) → HasSent manifest.now self.old sent → HasSent manifest.now self.new (sent_more sent port (moment, bytes.now))) }
+        ensures only { OnlyWrites S.tells manifest.now (S.file shelf.old) (S.file shelf.new) (S.ids shelf.old) (S.ids shelf.new) }
         ensures causes { IfErr result IsOfWriting }
         ensures faults { CountsFaults result (S.faults shelf.old) (S.faults shelf.new) }
     {
         let head = record_text(moment, bytes.len() as u32);
-        self.write_record(shelf, plan, port, &head, bytes)
+        self.write_record(shelf, manifest, port, &head, bytes)
     }
 
     /// Puts a record behind the capture of a port: what stands before the bytes of its frame, and these.
@@ -238,39 +242,39 @@ impl Outputs {
     pub fn write_record<S: Shelf>(
         &mut self,
         shelf: &mut S,
-        plan: &Plan,
+        manifest: &Manifest,
         port: PortId,
         head: &[u8; 16],
         bytes: &[u8],
     ) -> Result<(), Fault>
-        requires ready { IsReady plan.now (S.ids shelf.old) self.old }
-        requires external { is_external plan.now.tree port ≡ true }
+        requires ready { IsReady manifest.now (S.ids shelf.old) self.old }
+        requires external { is_external manifest.now.tree port ≡ true }
         requires low { port < 4160 }
-        ensures ready { IsReady plan.now (S.ids shelf.new) self.new }
-        ensures texts { S.tells → OnOk result ((orig : Files) (text : Output → List ℕ) → HasTexts plan.now (pieces_of self.old) orig (S.file shelf.old) text
-            → HasTexts plan.now (pieces_of self.new) orig (S.file shelf.new) (with_more text (output.Capture port) (head.now ++ bytes.now))) }
-        ensures cut { S.tells → OnErr result ((orig : Files) (text : Output → List ℕ) → HasTexts plan.now (pieces_of self.old) orig (S.file shelf.old) text
-            → AreCut plan.now orig (S.file shelf.new) (with_more text (output.Capture port) (head.now ++ bytes.now))) }
-        ensures sent { OnOk result ((moment : ℕ) (sent : ℕ → List Sent) → HasSent plan.now self.old sent → HasSent plan.now self.new (sent_more sent port (moment, bytes.now))) }
-        ensures only { OnlyWrites S.tells plan.now (S.file shelf.old) (S.file shelf.new) (S.ids shelf.old) (S.ids shelf.new) }
+        ensures ready { IsReady manifest.now (S.ids shelf.new) self.new }
+        ensures texts { S.tells → OnOk result ((orig : Files) (text : Output → List ℕ) → HasTexts manifest.now (pieces_of self.old) orig (S.file shelf.old) text
+            → HasTexts manifest.now (pieces_of self.new) orig (S.file shelf.new) (with_more text (output.Capture port) (head.now ++ bytes.now))) }
+        ensures cut { S.tells → OnErr result ((orig : Files) (text : Output → List ℕ) → HasTexts manifest.now (pieces_of self.old) orig (S.file shelf.old) text
+            → AreCut manifest.now orig (S.file shelf.new) (with_more text (output.Capture port) (head.now ++ bytes.now))) }
+        ensures sent { OnOk result ((moment : ℕ) (sent : ℕ → List Sent) → HasSent manifest.now self.old sent → HasSent manifest.now self.new (sent_more sent port (moment, bytes.now))) }
+        ensures only { OnlyWrites S.tells manifest.now (S.file shelf.old) (S.file shelf.new) (S.ids shelf.old) (S.ids shelf.new) }
         ensures causes { IfErr result IsOfWriting }
         ensures faults { CountsFaults result (S.faults shelf.old) (S.faults shelf.new) }
     {
         output_names_differ();
-        let at = plan.place(port) as usize;
+        let at = manifest.place(port) as usize;
         let file = &mut self.files[at];
         file.records = file.records.wrapping_add(1);
         add_record(shelf, file, head, bytes)
     }
 
     /// Writes all that is not written yet.
-    pub fn finish<S: Shelf>(&mut self, shelf: &mut S, plan: &Plan) -> Result<(), Fault>
-        requires ready { IsReady plan.now (S.ids shelf.old) self.old }
-        ensures texts { S.tells → OnOk result ((orig : Files) (text : Output → List ℕ) → HasTexts plan.now (pieces_of self.old) orig (S.file shelf.old) text
-            → Filled orig (S.file shelf.new) (output_count plan.now) (output_name plan.now) (λ j bytes. bytes ≡ text (kind_at plan.now j))) }
-        ensures cut { S.tells → OnErr result ((orig : Files) (text : Output → List ℕ) → HasTexts plan.now (pieces_of self.old) orig (S.file shelf.old) text
-            → AreCut plan.now orig (S.file shelf.new) text) }
-        ensures only { OnlyWrites S.tells plan.now (S.file shelf.old) (S.file shelf.new) (S.ids shelf.old) (S.ids shelf.new) }
+    pub fn finish<S: Shelf>(&mut self, shelf: &mut S, manifest: &Manifest) -> Result<(), Fault>
+        requires ready { IsReady manifest.now (S.ids shelf.old) self.old }
+        ensures texts { S.tells → OnOk result ((orig : Files) (text : Output → List ℕ) → HasTexts manifest.now (pieces_of self.old) orig (S.file shelf.old) text
+            → Filled orig (S.file shelf.new) (output_count manifest.now) (output_name manifest.now) (λ j bytes. bytes ≡ text (kind_at manifest.now j))) }
+        ensures cut { S.tells → OnErr result ((orig : Files) (text : Output → List ℕ) → HasTexts manifest.now (pieces_of self.old) orig (S.file shelf.old) text
+            → AreCut manifest.now orig (S.file shelf.new) text) }
+        ensures only { OnlyWrites S.tells manifest.now (S.file shelf.old) (S.file shelf.new) (S.ids shelf.old) (S.ids shelf.new) }
         ensures causes { IfErr result IsOfWriting }
         ensures faults { CountsFaults result (S.faults shelf.old) (S.faults shelf.new) }
     {
@@ -286,43 +290,43 @@ impl Outputs {
     pub fn write<S: Shelf>(
         &mut self,
         shelf: &mut S,
-        plan: &Plan,
+        manifest: &Manifest,
         kind: Output,
         bytes: &[u8],
     ) -> Result<(), Fault>
-        requires asked { is_asked plan.now.options kind ≡ true }
+        requires asked { is_asked manifest.now.options kind ≡ true }
         requires behind { port_of kind ≡ None }
-        requires ready { IsReady plan.now (S.ids shelf.old) self.old }
-        ensures ready { IsReady plan.now (S.ids shelf.new) self.new }
-        ensures texts { S.tells → OnOk result ((orig : Files) (text : Output → List ℕ) → HasTexts plan.now (pieces_of self.old) orig (S.file shelf.old) text
-            → HasTexts plan.now (pieces_of self.new) orig (S.file shelf.new) (with_more text kind bytes.now)) }
-        ensures cut { S.tells → OnErr result ((orig : Files) (text : Output → List ℕ) → HasTexts plan.now (pieces_of self.old) orig (S.file shelf.old) text
-            → AreCut plan.now orig (S.file shelf.new) (with_more text kind bytes.now)) }
-        ensures same { OnOk result (SameCaptures plan.now self.old self.new) }
-        ensures only { OnlyWrites S.tells plan.now (S.file shelf.old) (S.file shelf.new) (S.ids shelf.old) (S.ids shelf.new) }
+        requires ready { IsReady manifest.now (S.ids shelf.old) self.old }
+        ensures ready { IsReady manifest.now (S.ids shelf.new) self.new }
+        ensures texts { S.tells → OnOk result ((orig : Files) (text : Output → List ℕ) → HasTexts manifest.now (pieces_of self.old) orig (S.file shelf.old) text
+            → HasTexts manifest.now (pieces_of self.new) orig (S.file shelf.new) (with_more text kind bytes.now)) }
+        ensures cut { S.tells → OnErr result ((orig : Files) (text : Output → List ℕ) → HasTexts manifest.now (pieces_of self.old) orig (S.file shelf.old) text
+            → AreCut manifest.now orig (S.file shelf.new) (with_more text kind bytes.now)) }
+        ensures same { OnOk result (SameCaptures manifest.now self.old self.new) }
+        ensures only { OnlyWrites S.tells manifest.now (S.file shelf.old) (S.file shelf.new) (S.ids shelf.old) (S.ids shelf.new) }
         ensures causes { IfErr result IsOfWriting }
         ensures faults { CountsFaults result (S.faults shelf.old) (S.faults shelf.new) }
     {
-        let at = plan.place_behind(kind);
-        self.add_to(shelf, plan, at, bytes)
+        let at = manifest.place_behind(kind);
+        self.add_to(shelf, manifest, at, bytes)
     }
 
     /// How many frames were put behind capture `at`.
-    pub fn frames_of(&self, plan: &Plan, at: u16) -> u64
-        requires within { at < port_count plan.now }
-        requires files { port_count plan.now ≤ length self.now.files.items }
-        ensures { result ≡ frames_at plan.now self.now (port_at plan.now at) }
+    pub fn frames_of(&self, manifest: &Manifest, at: u16) -> u64
+        requires within { at < port_count manifest.now }
+        requires files { port_count manifest.now ≤ length self.now.files.items }
+        ensures { result ≡ frames_at manifest.now self.now (port_at manifest.now at) }
     {
         let file = &self.files[at as usize];
         file.records
     }
 
     /// How many bytes capture `at` has.
-    pub fn size_of(&self, plan: &Plan, at: u16) -> u64
-        requires within { at < port_count plan.now }
-        requires files { port_count plan.now ≤ length self.now.files.items }
-        requires fits { size_at plan.now self.now (port_at plan.now at) < 2 ^ 64 }
-        ensures { result ≡ size_at plan.now self.now (port_at plan.now at) }
+    pub fn size_of(&self, manifest: &Manifest, at: u16) -> u64
+        requires within { at < port_count manifest.now }
+        requires files { port_count manifest.now ≤ length self.now.files.items }
+        requires fits { size_at manifest.now self.now (port_at manifest.now at) < 2 ^ 64 }
+        ensures { result ≡ size_at manifest.now self.now (port_at manifest.now at) }
     {
         let file = &self.files[at as usize];
         let size = file.written + file.piece.len() as u64;
@@ -334,19 +338,19 @@ impl Outputs {
     fn add_to<S: Shelf>(
         &mut self,
         shelf: &mut S,
-        plan: &Plan,
+        manifest: &Manifest,
         at: u16,
         bytes: &[u8],
     ) -> Result<(), Fault>
-        requires ready { IsReady plan.now (S.ids shelf.old) self.old }
-        requires within { at < output_count plan.now }
-        ensures ready { IsReady plan.now (S.ids shelf.new) self.new }
-        ensures texts { S.tells → OnOk result ((orig : Files) (text : Output → List ℕ) → HasTexts plan.now (pieces_of self.old) orig (S.file shelf.old) text
-            → HasTexts plan.now (pieces_of self.new) orig (S.file shelf.new) (with_more text (kind_at plan.now at) bytes.now)) }
-        ensures cut { S.tells → OnErr result ((orig : Files) (text : Output → List ℕ) → HasTexts plan.now (pieces_of self.old) orig (S.file shelf.old) text
-            → AreCut plan.now orig (S.file shelf.new) (with_more text (kind_at plan.now at) bytes.now)) }
+        requires ready { IsReady manifest.now (S.ids shelf.old) self.old }
+        requires within { at < output_count manifest.now }
+        ensures ready { IsReady manifest.now (S.ids shelf.new) self.new }
+        ensures texts { S.tells → OnOk result ((orig : Files) (text : Output → List ℕ) → HasTexts manifest.now (pieces_of self.old) orig (S.file shelf.old) text
+            → HasTexts manifest.now (pieces_of self.new) orig (S.file shelf.new) (with_more text (kind_at manifest.now at) bytes.now)) }
+        ensures cut { S.tells → OnErr result ((orig : Files) (text : Output → List ℕ) → HasTexts manifest.now (pieces_of self.old) orig (S.file shelf.old) text
+            → AreCut manifest.now orig (S.file shelf.new) (with_more text (kind_at manifest.now at) bytes.now)) }
         ensures grows { OnOk result (GrowsAt at (length bytes.now) self.old self.new) }
-        ensures only { OnlyWrites S.tells plan.now (S.file shelf.old) (S.file shelf.new) (S.ids shelf.old) (S.ids shelf.new) }
+        ensures only { OnlyWrites S.tells manifest.now (S.file shelf.old) (S.file shelf.new) (S.ids shelf.old) (S.ids shelf.new) }
         ensures causes { IfErr result IsOfWriting }
         ensures faults { CountsFaults result (S.faults shelf.old) (S.faults shelf.new) }
     {

@@ -23,7 +23,7 @@ use Rattle.exb_outputs.specs.Apart.{CanBeRead}
 use Rattle.exb_inputs.specs.Again.{first_standing, start_told, stream_told}
 use Rattle.exb_inputs.specs.Inputs.{input_from, is_named}
 use Rattle.exb_inputs.specs.Shelving.{ReadsCapture}
-use Rattle.exb_outputs.specs.Plans.{Planned}
+use Rattle.exb_outputs.specs.Manifests.{Listed}
 use Rattle.exb_play.specs.Playing.{IsScript}
 use Rattle.exb_play.specs.UnderWay.{CanBegin}
 use Rattle.exb_outputs.specs.Sent.{HasSent}
@@ -36,13 +36,13 @@ pub timely : (t : Shape) (commands : List Timed) (fate : List Verdict) (i : Inpu
 timely t commands fate i script same = subst (λ (gs : List Given). AllPairs (λ (c d : Given). c.at ≤ d.at) gs) (sym same) (rising-given commands script.rising)
 
 -- So a run of them begins.
-pub can-begin : (tells : Type 0) (m : Mode) (setup : Setup) (commands : List Timed) (fate : List Verdict) (plan : Planned) (names : List Named) (file now : Files) (cs : List Checked) (ids : ℕ → Id) (o : Outputs)
-    (before : Files) (p : Programme) → MergeOfAll → StartIsLeast → IsScript (shape_of setup) commands fate → plan.tree ≡ shape_of setup → CanBeRead tells plan names file cs →
+pub can-begin : (tells : Type 0) (m : Mode) (setup : Setup) (commands : List Timed) (fate : List Verdict) (manifest : Listed) (names : List Named) (file now : Files) (cs : List Checked) (ids : ℕ → Id) (o : Outputs)
+    (before : Files) (p : Programme) → MergeOfAll → StartIsLeast → IsScript (shape_of setup) commands fate → manifest.tree ≡ shape_of setup → CanBeRead tells manifest names file cs →
     p.start ≡ start_told cs → p.commands.now ≡ commands → p.taken ≡ 0 → standings p.captures ≡ map first_standing cs → left_in p.captures ≤ sum_by (λ c. c.told.bytes + 1) cs →
     AllByRecursion (λ k. ReadsCapture names (ids k)) (ids_in p.captures) → (tells → AreReplays now ids p.captures.sources.items (map (stream_told names file) cs)) →
-    (tells → HasTexts plan (pieces_of o) before now first_text) → HasSent plan o (λ q. []) →
-    CanBegin tells m (record { input = input_from setup commands names file; before = before }) setup plan now ids o p
-can-begin tells m setup commands fate plan names file now cs ids o before p law least script tree can start same none standing left named replays texts sent =
+    (tells → HasTexts manifest (pieces_of o) before now first_text) → HasSent manifest o (λ q. []) →
+    CanBegin tells m (record { input = input_from setup commands names file; before = before }) setup manifest now ids o p
+can-begin tells m setup commands fate manifest names file now cs ids o before p law least script tree can start same none standing left named replays texts sent =
     let i : Input = input_from setup commands names file in
     let t : Shape = shape_of setup in
     let ports : ports_in cs ≡ filter (is_named names) all_ports = can.checked.ports in
@@ -64,7 +64,7 @@ can-begin tells m setup commands fate plan names file now cs ids o before p law 
         few_bytes = (let low = low-bytes names cs can.checked.small ports in omega (arith, left, low));
         since = refl;
       };
-      apart = apart-named plan names ids (ids_in p.captures) can.apart named;
+      apart = apart-named manifest names ids (ids_in p.captures) can.apart named;
       leads = λ told. record {
         streams = map (stream_told names file) cs;
         replays = replays told;
@@ -75,14 +75,14 @@ can-begin tells m setup commands fate plan names file now cs ids o before p law 
     }
 
 -- the same, where the programme was made of captures that were opened
-pub can-begin-of : (tells : Type 0) (m : Mode) (setup : Setup) (commands : List Timed) (fate : List Verdict) (plan : Planned) (names : List Named) (file now : Files) (cs : List Checked) (ids : ℕ → Id) (o : Outputs)
-    (before : Files) (p : Programme) (captures : Replays) → MergeOfAll → StartIsLeast → IsScript (shape_of setup) commands fate → plan.tree ≡ shape_of setup → CanBeRead tells plan names file cs →
+pub can-begin-of : (tells : Type 0) (m : Mode) (setup : Setup) (commands : List Timed) (fate : List Verdict) (manifest : Listed) (names : List Named) (file now : Files) (cs : List Checked) (ids : ℕ → Id) (o : Outputs)
+    (before : Files) (p : Programme) (captures : Replays) → MergeOfAll → StartIsLeast → IsScript (shape_of setup) commands fate → manifest.tree ≡ shape_of setup → CanBeRead tells manifest names file cs →
     p.start ≡ start_told cs → p.commands.now ≡ commands → p.taken ≡ 0 → p.captures ≡ captures → standings captures ≡ map first_standing cs → left_in captures ≤ sum_by (λ c. c.told.bytes + 1) cs →
     AllByRecursion (λ k. ReadsCapture names (ids k)) (ids_in captures) → (tells → AreReplays now ids captures.sources.items (map (stream_told names file) cs)) →
-    (tells → HasTexts plan (pieces_of o) before now first_text) → HasSent plan o (λ q. []) →
-    CanBegin tells m (record { input = input_from setup commands names file; before = before }) setup plan now ids o p
-can-begin-of tells m setup commands fate plan names file now cs ids o before p captures law least script tree can start same none are standing left named replays texts sent =
-    can-begin tells m setup commands fate plan names file now cs ids o before p law least script tree can start same none
+    (tells → HasTexts manifest (pieces_of o) before now first_text) → HasSent manifest o (λ q. []) →
+    CanBegin tells m (record { input = input_from setup commands names file; before = before }) setup manifest now ids o p
+can-begin-of tells m setup commands fate manifest names file now cs ids o before p captures law least script tree can start same none are standing left named replays texts sent =
+    can-begin tells m setup commands fate manifest names file now cs ids o before p law least script tree can start same none
     (ap standings are ∙ standing)
     (let size = ap left_in are in omega (arith, size, left))
     (subst (λ (r : Replays). AllByRecursion (λ k. ReadsCapture names (ids k)) (ids_in r)) (sym are) named)

@@ -27,7 +27,7 @@ use Rattle.exb_writers.specs.declared.counted.Counted.{Counted}
 use Rattle.exb_outputs.specs.declared.outputs.Outputs.{Outputs}
 use Rattle.exb_writers.specs.Texts.{AreCutEagerly, GrowsEagerly, output_text, text_so_far}
 use Rattle.exb_play.specs.Outputs.{HasPlayed}
-use Rattle.exb_outputs.specs.Plans.{output_name, Planned, IsMade, kind_at, output_count}
+use Rattle.exb_outputs.specs.Manifests.{output_name, Listed, IsMade, kind_at, output_count}
 use Rattle.exb_play.specs.Playing.{IsCutOff, IsTold, Run}
 use Rattle.exb_outputs.specs.Writing.{AreCut, HasTexts, lines_of, pieces_of}
 use Rattle.exb_outputs.proofs.Cutting.{GoesOnAs, cut_now, cut_same, cut_whole, longer}
@@ -42,9 +42,9 @@ use Rattle.exb_writers.specs.Telling.{with_end}
 
 -- ---- where it ends
 -- before the next segment is played
-pub cut_before : (tells : Type 0) (m : Mode) (r : Run) (plan : Planned) (now : Files) (n : Network) (c : Counted) (o : Outputs) (so_far rest : List Segment) → tells → IsTold tells m r plan now n c o so_far
-    → segments m r.input ≡ so_far ++ rest → IsCutOff m r plan now
-cut_before tells m r plan now n c o so_far rest t is segments_are = record {
+pub cut_before : (tells : Type 0) (m : Mode) (r : Run) (manifest : Listed) (now : Files) (n : Network) (c : Counted) (o : Outputs) (so_far rest : List Segment) → tells → IsTold tells m r manifest now n c o so_far
+    → segments m r.input ≡ so_far ++ rest → IsCutOff m r manifest now
+cut_before tells m r manifest now n c o so_far rest t is segments_are = record {
   tree = is.tree;
   so_far = so_far;
   rest = rest;
@@ -57,14 +57,14 @@ cut_before tells m r plan now n c o so_far rest t is segments_are = record {
   played = is.played;
   tracing = is.tracing;
   counts = [];
-  cut = cut_now plan r.before now (pieces_of o) (text_so_far is.told is.gone is.lines []) (is.texts t);
+  cut = cut_now manifest r.before now (pieces_of o) (text_so_far is.told is.gone is.lines []) (is.texts t);
 }
 
 -- while what it told is written
-pub cut_amid : (m : Mode) (r : Run) (plan : Planned) (now : Files) (so_far rest : List Segment) (v : Network) (told more : List Event) (passed : List Bool) (gone : List Leaving) (left : List Left) (lines new : List TraceLine)
-    → plan.tree ≡ tree_of r.input → segments m r.input ≡ so_far ++ rest → v.log.tracing ≡ plan.options.trace → IsPlayedBy m r.input so_far v (told ++ more) passed (gone ++ all_left left) (lines ++ new)
-    → AreCut plan r.before now (texts-with told more gone left lines new) → IsCutOff m r plan now
-cut_amid m r plan now so_far rest v told more passed gone left lines new tree segments_are tracing played cut = record {
+pub cut_amid : (m : Mode) (r : Run) (manifest : Listed) (now : Files) (so_far rest : List Segment) (v : Network) (told more : List Event) (passed : List Bool) (gone : List Leaving) (left : List Left) (lines new : List TraceLine)
+    → manifest.tree ≡ tree_of r.input → segments m r.input ≡ so_far ++ rest → v.log.tracing ≡ manifest.options.trace → IsPlayedBy m r.input so_far v (told ++ more) passed (gone ++ all_left left) (lines ++ new)
+    → AreCut manifest r.before now (texts-with told more gone left lines new) → IsCutOff m r manifest now
+cut_amid m r manifest now so_far rest v told more passed gone left lines new tree segments_are tracing played cut = record {
   tree = tree;
   so_far = so_far;
   rest = rest;
@@ -77,13 +77,13 @@ cut_amid m r plan now so_far rest v told more passed gone left lines new tree se
   played = played;
   tracing = tracing;
   counts = [];
-  cut = cut_same plan r.before now (texts-with told more gone left lines new) (text_so_far (told ++ more) (gone ++ all_left left) (lines ++ new) []) (text-more told more gone left lines new) cut;
+  cut = cut_same manifest r.before now (texts-with told more gone left lines new) (text_so_far (told ++ more) (gone ++ all_left left) (lines ++ new) []) (text-more told more gone left lines new) cut;
 }
 
 -- while what is left of all is written
-pub cut_at_end : (tells : Type 0) (m : Mode) (r : Run) (plan : Planned) (old now : Files) (n : Network) (c : Counted) (o : Outputs) → tells → (is : IsTold tells m r plan old n c o (segments m r.input))
-    → (ports : Option Counters) → ((orig : Files) (text : Output → List ℕ) → HasTexts plan (pieces_of o) orig old text → AreCut plan orig now (with_end text plan ports o)) → IsCutOff m r plan now
-cut_at_end tells m r plan old now n c o t is ports cut = record {
+pub cut_at_end : (tells : Type 0) (m : Mode) (r : Run) (manifest : Listed) (old now : Files) (n : Network) (c : Counted) (o : Outputs) → tells → (is : IsTold tells m r manifest old n c o (segments m r.input))
+    → (ports : Option Counters) → ((orig : Files) (text : Output → List ℕ) → HasTexts manifest (pieces_of o) orig old text → AreCut manifest orig now (with_end text manifest ports o)) → IsCutOff m r manifest now
+cut_at_end tells m r manifest old now n c o t is ports cut = record {
   tree = is.tree;
   so_far = segments m r.input;
   rest = [];
@@ -93,11 +93,11 @@ cut_at_end tells m r plan old now n c o t is ports cut = record {
   passed = is.passed;
   gone = is.gone;
   lines = is.lines;
-  counts = counts_text plan ports o;
+  counts = counts_text manifest ports o;
   played = is.played;
   tracing = is.tracing;
-  cut = cut_same plan r.before now (with_end (text_so_far is.told is.gone is.lines []) plan ports o) (text_so_far is.told is.gone is.lines (counts_text plan ports o))
-      (end_written is.told is.gone is.lines plan ports o) (cut r.before (text_so_far is.told is.gone is.lines []) (is.texts t));
+  cut = cut_same manifest r.before now (with_end (text_so_far is.told is.gone is.lines []) manifest ports o) (text_so_far is.told is.gone is.lines (counts_text manifest ports o))
+      (end_written is.told is.gone is.lines manifest ports o) (cut r.before (text_so_far is.told is.gone is.lines []) (is.texts t));
 }
 
 -- ---- texts of a longer history
@@ -109,7 +109,7 @@ flat_later b q (e ∷ es) h =
     let r = flat_later b q es (e ∷ h) in
     (now ++ r.0, r.1 ∙ append_assoc (flat b h q) now r.0)
 
-module _ (law : RunsWriteFronts) (r : Run) (plan : Planned) (now : Files) (timely : IsTimely r.input) (k : IsCutOff Eager r plan now) where
+module _ (law : RunsWriteFronts) (r : Run) (manifest : Listed) (now : Files) (timely : IsTimely r.input) (k : IsCutOff Eager r manifest now) where
   written : HasWrittenFront r.input k.played.done
   written = law r.input k.so_far k.rest k.played.done timely k.segments_are k.played.plays
 
@@ -129,27 +129,27 @@ module _ (law : RunsWriteFronts) (r : Run) (plan : Planned) (now : Files) (timel
   journal_goes : (more : List ℕ) × (journal_text (eager r.input) ≡ journal_text ([] then k.told) ++ more)
   journal_goes = (lines_of written.more, ap journal_text history ∙ journal_text-then ([] then k.told) written.more)
 
-  goes : (o : Output) → IsMade plan.options plan.tree o → GrowsEagerly o → GoesOnAs (text_so_far k.told k.gone k.lines k.counts) (output_text r.input (eager r.input) []) o
-  goes = goes_eagerly r.input plan.options plan.tree k.told k.gone k.lines k.counts (λ q out. capture_goes q (ap (λ (t : Shape). is_external t q) (sym k.tree) ∙ out)) journal_goes
+  goes : (o : Output) → IsMade manifest.options manifest.tree o → GrowsEagerly o → GoesOnAs (text_so_far k.told k.gone k.lines k.counts) (output_text r.input (eager r.input) []) o
+  goes = goes_eagerly r.input manifest.options manifest.tree k.told k.gone k.lines k.counts (λ q out. capture_goes q (ap (λ (t : Shape). is_external t q) (sym k.tree) ∙ out)) journal_goes
 
   -- of a run that ended early
-  whole : AreCutEagerly r.input plan r.before now
-  whole j low grows = longer r.before now plan j (text_so_far k.told k.gone k.lines k.counts) (output_text r.input (eager r.input) []) (goes (kind_at plan j) (kind_is plan j low).made grows) (k.cut.each j low)
+  whole : AreCutEagerly r.input manifest r.before now
+  whole j low grows = longer r.before now manifest j (text_so_far k.told k.gone k.lines k.counts) (output_text r.input (eager r.input) []) (goes (kind_at manifest j) (kind_is manifest j low).made grows) (k.cut.each j low)
 
-pub cut_eagerly : (law : RunsWriteFronts) (r : Run) (plan : Planned) (now : Files) → IsTimely r.input → IsCutOff Eager r plan now → AreCutEagerly r.input plan r.before now
-cut_eagerly law r plan now timely k = whole law r plan now timely k
+pub cut_eagerly : (law : RunsWriteFronts) (r : Run) (manifest : Listed) (now : Files) → IsTimely r.input → IsCutOff Eager r manifest now → AreCutEagerly r.input manifest r.before now
+cut_eagerly law r manifest now timely k = whole law r manifest now timely k
 
 -- of one that played all
-pub played_eagerly : (i : Input) (plan : Planned) (f g : Files) (line : List ℕ) → HasPlayed Eager i plan f g line → AreCutEagerly i plan f g
-played_eagerly i plan f g line played =
-    but_the_trace i plan played.lines f g
-    (cut_whole plan f g (output_text i (eager i) played.lines)
-    (weaker f g (output_count plan) (output_name plan) (λ j bytes. bytes ≡ output_text i played.history played.lines (kind_at plan j)) (λ j bytes. bytes ≡ output_text i (eager i) played.lines (kind_at plan j)) played.outputs
-    (λ j bytes l is. is ∙ ap (λ (h : History). output_text i h played.lines (kind_at plan j)) (played.eager refl))))
+pub played_eagerly : (i : Input) (manifest : Listed) (f g : Files) (line : List ℕ) → HasPlayed Eager i manifest f g line → AreCutEagerly i manifest f g
+played_eagerly i manifest f g line played =
+    but_the_trace i manifest played.lines f g
+    (cut_whole manifest f g (output_text i (eager i) played.lines)
+    (weaker f g (output_count manifest) (output_name manifest) (λ j bytes. bytes ≡ output_text i played.history played.lines (kind_at manifest j)) (λ j bytes. bytes ≡ output_text i (eager i) played.lines (kind_at manifest j)) played.outputs
+    (λ j bytes l is. is ∙ ap (λ (h : History). output_text i h played.lines (kind_at manifest j)) (played.eager refl))))
 
 -- however it ended
-pub ended_eagerly : (law : RunsWriteFronts) (m : Mode) (r : Run) (plan : Planned) (now : Files) (o : Result (String Global) Fault) → m ≡ Eager → IsTimely r.input
-    → IfOk o (λ line. HasPlayed m r.input plan r.before now (string_bytes line)) → OnErr o (IsCutOff m r plan now) → AreCutEagerly r.input plan r.before now
-ended_eagerly law m r plan now (Ok line) is timely played cut =
-    played_eagerly r.input plan r.before now (string_bytes line) (subst (λ (k : Mode). HasPlayed k r.input plan r.before now (string_bytes line)) is played)
-ended_eagerly law m r plan now (Err x) is timely played cut = cut_eagerly law r plan now timely (subst (λ (k : Mode). IsCutOff k r plan now) is cut)
+pub ended_eagerly : (law : RunsWriteFronts) (m : Mode) (r : Run) (manifest : Listed) (now : Files) (o : Result (String Global) Fault) → m ≡ Eager → IsTimely r.input
+    → IfOk o (λ line. HasPlayed m r.input manifest r.before now (string_bytes line)) → OnErr o (IsCutOff m r manifest now) → AreCutEagerly r.input manifest r.before now
+ended_eagerly law m r manifest now (Ok line) is timely played cut =
+    played_eagerly r.input manifest r.before now (string_bytes line) (subst (λ (k : Mode). HasPlayed k r.input manifest r.before now (string_bytes line)) is played)
+ended_eagerly law m r manifest now (Err x) is timely played cut = cut_eagerly law r manifest now timely (subst (λ (k : Mode). IsCutOff k r manifest now) is cut)

@@ -26,7 +26,7 @@ use Rattle.exb_play.specs.Outputs.{IsTraceOf}
 use Rattle.exb_writers.specs.Texts.{output_text, text_so_far}
 use Rattle.exb_outputs.specs.declared.outputs.Outputs.{Outputs}
 use Rattle.exb_outputs.specs.Sent.{HasSent, capture_size}
-use Rattle.exb_outputs.specs.Plans.{Planned, kind_at, output_count}
+use Rattle.exb_outputs.specs.Manifests.{Listed, kind_at, output_count}
 use Rattle.exb_writers.specs.Counts.{AreCounted, counts_so_far, counts_text, counts_with}
 use Rattle.exb_writers.proofs.PortCounts.{counts_end, port_whole}
 use Rattle.exb_outputs.proofs.ByKind.{kind_is}
@@ -34,7 +34,7 @@ use Rattle.exb_writers.proofs.Counting.{LeftExternal, counts-whole}
 use Rattle.exb_outputs.proofs.Places.{external_low}
 use Rattle.exb_writers.proofs.Cutting.{whole_is}
 
-module _ (m : Mode) (i : Input) (plan : Planned) (tree : plan.tree ≡ tree_of i) (is_tree : IsTree plan.tree) (timely : IsTimely i) (under_way : RunsAreUnderWay) (legally : RunsWriteLegally)
+module _ (m : Mode) (i : Input) (manifest : Listed) (tree : manifest.tree ≡ tree_of i) (is_tree : IsTree manifest.tree) (timely : IsTimely i) (under_way : RunsAreUnderWay) (legally : RunsWriteLegally)
     (n : Network) (told : List Event) (passed : List Bool) (gone : List Left) (lines : List TraceLine) (played : HasPlayed m i (segments m i) n told passed gone lines) where
   written : HasWrittenIn m i played.done
   written = legally m i played.done timely played.plays
@@ -60,18 +60,18 @@ module _ (m : Mode) (i : Input) (plan : Planned) (tree : plan.tree ≡ tree_of i
   sent q is = ap (left_at q) played.gone ∙ written.captures q is ∙ ap (λ (g : History). flat (basis_of i) g q) (sym same-history)
 
   -- the text of its counters
-  counters-whole : (ports : Option Counters) (o : Outputs) → AreCounted plan ports told passed → HasSent plan o (λ q. left_at q gone) → ((q : ℕ) → capture_size (left_at q gone) < 2 ^ 64) → CountsGoOn → RunsSayPassed → plan.options.counters ≡ true → counts_text plan ports o ≡ count_text (tree_of i) (basis_of i) ([] then told)
+  counters-whole : (ports : Option Counters) (o : Outputs) → AreCounted manifest ports told passed → HasSent manifest o (λ q. left_at q gone) → ((q : ℕ) → capture_size (left_at q gone) < 2 ^ 64) → CountsGoOn → RunsSayPassed → manifest.options.counters ≡ true → counts_text manifest ports o ≡ count_text (tree_of i) (basis_of i) ([] then told)
   counters-whole None o are has room go_on says asked = absurd (false≢true (sym are ∙ asked))
   counters-whole (Some c) o are has room go_on says asked =
-      counts_end (tree_of i) (basis_of i) told passed gone go_on (played.said ∙ says m i played.done timely played.plays ∙ ap (passed_over (basis_of i) []) (sym played.told)) sent plan.tree tree (counts_with plan o c)
-      (λ q low out. port_whole plan o c told passed gone q low out (are.2 q (are.1 q low out)) has (room q))
+      counts_end (tree_of i) (basis_of i) told passed gone go_on (played.said ∙ says m i played.done timely played.plays ∙ ap (passed_over (basis_of i) []) (sym played.told)) sent manifest.tree tree (counts_with manifest o c)
+      (λ q low out. port_whole manifest o c told passed gone q low out (are.2 q (are.1 q low out)) has (room q))
 
   -- its texts
-  pub texts-whole : (ports : Option Counters) (o : Outputs) → AreCounted plan ports told passed → HasSent plan o (λ q. left_at q gone) → ((q : ℕ) → capture_size (left_at q gone) < 2 ^ 64) → CountsGoOn → RunsSayPassed →
-      (j : ℕ) → j < output_count plan → text_so_far told gone lines (counts_text plan ports o) (kind_at plan j) ≡ output_text i ([] then told) lines (kind_at plan j)
+  pub texts-whole : (ports : Option Counters) (o : Outputs) → AreCounted manifest ports told passed → HasSent manifest o (λ q. left_at q gone) → ((q : ℕ) → capture_size (left_at q gone) < 2 ^ 64) → CountsGoOn → RunsSayPassed →
+      (j : ℕ) → j < output_count manifest → text_so_far told gone lines (counts_text manifest ports o) (kind_at manifest j) ≡ output_text i ([] then told) lines (kind_at manifest j)
   texts-whole ports o are has room go_on says j low =
-      whole_is i plan.options plan.tree told gone lines (counts_text plan ports o) (λ q out. sent q (ap (λ (t : Shape). is_external t q) (sym tree) ∙ out)) (counters-whole ports o are has room go_on says)
-      (kind_at plan j) (kind_is plan j low).made
+      whole_is i manifest.options manifest.tree told gone lines (counts_text manifest ports o) (λ q out. sent q (ap (λ (t : Shape). is_external t q) (sym tree) ∙ out)) (counters-whole ports o are has room go_on says)
+      (kind_at manifest j) (kind_is manifest j low).made
 
   own : All (LeftExternal (tree_of i)) gone
   own k d low =
@@ -79,7 +79,7 @@ module _ (m : Mode) (i : Input) (plan : Planned) (tree : plan.tree ≡ tree_of i
       let size = ap (λ (xs : List Left). length xs) played.gone in
       let copy = (under_way m i (segments m i) played.done played.plays).copies k d (omega (arith, low, size)) in
       let port : is_external (tree_of i) (get_or gone k d).port ≡ true = ap (λ (x : Left). is_external (tree_of i) x.port) same ∙ copy.port in
-      record { port = port; low = external_low plan.tree (get_or gone k d).port is_tree (ap (λ (t : Shape). is_external t (get_or gone k d).port) tree ∙ port) }
+      record { port = port; low = external_low manifest.tree (get_or gone k d).port is_tree (ap (λ (t : Shape). is_external t (get_or gone k d).port) tree ∙ port) }
 
   -- its counts
   pub counts-end : counts_so_far told gone ≡ counts (tree_of i) (basis_of i) ([] then told)

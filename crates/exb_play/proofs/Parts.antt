@@ -19,7 +19,7 @@ use Rattle.exb_tracing.specs.SoFar.{HasToldSoFar, IsHistorySoFar, IsTraceSoFar, 
 use Rattle.exb_shelf.specs.Files.{Files}
 use Rattle.exb_text.specs.declared.output.Output.{Output}
 use Rattle.exb_inputs.specs.declared.fault.Fault.{Fault}
-use Rattle.exb_outputs.specs.Plans.{IsMade, Planned, kind_at, output_name}
+use Rattle.exb_outputs.specs.Manifests.{IsMade, Listed, kind_at, output_name}
 use Rattle.exb_outputs.specs.Writing.{AreCut, HasTexts, first_text}
 use Rattle.exb_outputs.proofs.ByKind.{kind_is}
 use Rattle.exb_outputs.proofs.Cutting.{cut_now, cut_whole}
@@ -31,31 +31,31 @@ use Rattle.exb_play.specs.Playing.{IsCutOff, Run}
 use Rattle.exb_writers.proofs.Cutting.{along_is}
 
 -- ---- where a run ended early
-module _ (law : RunsTellSoFar) (m : Mode) (r : Run) (plan : Planned) (now : Files) (timely : IsTimely r.input) (k : IsCutOff m r plan now) where
+module _ (law : RunsTellSoFar) (m : Mode) (r : Run) (manifest : Listed) (now : Files) (timely : IsTimely r.input) (k : IsCutOff m r manifest now) where
   so : HasToldSoFar m r.input k.played.done
   so = law m r.input k.so_far k.rest k.played.done timely k.segments_are k.played.plays
 
   same-history : ([] then k.played.done.events) ≡ ([] then k.told)
   same-history = ap (λ (es : List Event). [] then es) (sym k.played.told)
 
-  trace_of : plan.options.trace ≡ true → IsTraceSoFar r.input ([] then k.told) k.lines
+  trace_of : manifest.options.trace ≡ true → IsTraceSoFar r.input ([] then k.told) k.lines
   trace_of on =
       subst (λ (ls : List TraceLine). IsTraceSoFar r.input ([] then k.told) ls) (sym (k.played.traced (k.tracing ∙ on)))
       (subst (λ (h : History). IsTraceSoFar r.input h (all_told k.played.done.lines)) same-history so.trace)
 
-  sent : (q : ℕ) → is_external plan.tree q ≡ true → left_at q k.gone ≡ flat (basis_of r.input) ([] then k.told) q
+  sent : (q : ℕ) → is_external manifest.tree q ≡ true → left_at q k.gone ≡ flat (basis_of r.input) ([] then k.told) q
   sent q out = ap (left_at q) k.played.gone ∙ so.captures q (ap (λ (t : Shape). is_external t q) (sym k.tree) ∙ out) ∙ ap (λ (h : History). flat (basis_of r.input) h q) same-history
 
-  text_is : (o : Output) → IsMade plan.options plan.tree o → IsWrittenAlong o → text_so_far k.told k.gone k.lines k.counts o ≡ output_text r.input ([] then k.told) k.lines o
-  text_is = along_is r.input plan.options plan.tree k.told k.gone k.lines k.counts sent
+  text_is : (o : Output) → IsMade manifest.options manifest.tree o → IsWrittenAlong o → text_so_far k.told k.gone k.lines k.counts o ≡ output_text r.input ([] then k.told) k.lines o
+  text_is = along_is r.input manifest.options manifest.tree k.told k.gone k.lines k.counts sent
 
-  pub cut-so-far : IsCutSoFar m r.input plan r.before now
+  pub cut-so-far : IsCutSoFar m r.input manifest r.before now
   cut-so-far = record {
     history = [] then k.told;
     lines = k.lines;
     told = subst (λ (h : History). IsHistorySoFar m r.input h) same-history so.journal;
     traced = trace_of;
-    cut = λ j low along. subst (λ (text : List ℕ). IsCut (r.before (output_name plan j)) (now (output_name plan j)) text) (text_is (kind_at plan j) (kind_is plan j low).made along) (k.cut.each j low);
+    cut = λ j low along. subst (λ (text : List ℕ). IsCut (r.before (output_name manifest j)) (now (output_name manifest j)) text) (text_is (kind_at manifest j) (kind_is manifest j low).made along) (k.cut.each j low);
   }
 
 -- ---- where all was played
@@ -77,24 +77,24 @@ whole-history m i h legal = record {
 whole-trace : (i : Input) (h : History) (lines : List TraceLine) → IsTraceOf i h lines → IsTraceSoFar i h lines
 whole-trace i h lines legal = record { came = frames_in i; firsts = λ p ext. (length (frames_in i p), sym (take-length (frames_in i p))); legal = legal }
 
-pub cut-played : (m : Mode) (i : Input) (plan : Planned) (f g : Files) (line : List ℕ) → HasPlayed m i plan f g line → IsCutSoFar m i plan f g
-cut-played m i plan f g line played = record {
+pub cut-played : (m : Mode) (i : Input) (manifest : Listed) (f g : Files) (line : List ℕ) → HasPlayed m i manifest f g line → IsCutSoFar m i manifest f g
+cut-played m i manifest f g line played = record {
   history = played.history;
   lines = played.lines;
   told = whole-history m i played.history played.legal;
   traced = λ on. whole-trace i played.history played.lines (played.trace on);
-  cut = λ j low along. (cut_whole plan f g (output_text i played.history played.lines) played.outputs).each j low;
+  cut = λ j low along. (cut_whole manifest f g (output_text i played.history played.lines) played.outputs).each j low;
 }
 
 -- ---- however it ended
-pub ended-so-far : (law : RunsTellSoFar) (m : Mode) (r : Run) (plan : Planned) (now : Files) (o : Result (String Global) Fault) → IsTimely r.input
-    → IfOk o (λ line. HasPlayed m r.input plan r.before now (string_bytes line)) → OnErr o (IsCutOff m r plan now) → AreCutSoFar m r.input plan r.before now
-ended-so-far law m r plan now (Ok line) timely played cut = inr (cut-played m r.input plan r.before now (string_bytes line) played)
-ended-so-far law m r plan now (Err x) timely played cut = inr (cut-so-far law m r plan now timely cut)
+pub ended-so-far : (law : RunsTellSoFar) (m : Mode) (r : Run) (manifest : Listed) (now : Files) (o : Result (String Global) Fault) → IsTimely r.input
+    → IfOk o (λ line. HasPlayed m r.input manifest r.before now (string_bytes line)) → OnErr o (IsCutOff m r manifest now) → AreCutSoFar m r.input manifest r.before now
+ended-so-far law m r manifest now (Ok line) timely played cut = inr (cut-played m r.input manifest r.before now (string_bytes line) played)
+ended-so-far law m r manifest now (Err x) timely played cut = inr (cut-so-far law m r manifest now timely cut)
 
 -- outputs that were made, and of which nothing is written
-pub begun-so-far : (m : Mode) (i : Input) (plan : Planned) (f g : Files) (pieces : List (List ℕ)) → HasTexts plan pieces f g first_text → AreCutSoFar m i plan f g
-begun-so-far m i plan f g pieces held = inl (λ j low along. (cut_now plan f g pieces first_text held).each j low)
+pub begun-so-far : (m : Mode) (i : Input) (manifest : Listed) (f g : Files) (pieces : List (List ℕ)) → HasTexts manifest pieces f g first_text → AreCutSoFar m i manifest f g
+begun-so-far m i manifest f g pieces held = inl (λ j low along. (cut_now manifest f g pieces first_text held).each j low)
 
-pub made-so-far : (m : Mode) (i : Input) (plan : Planned) (f g : Files) → ((text : Output → List ℕ) → AreCut plan f g text) → AreCutSoFar m i plan f g
-made-so-far m i plan f g cut = inl (λ j low along. (cut first_text).each j low)
+pub made-so-far : (m : Mode) (i : Input) (manifest : Listed) (f g : Files) → ((text : Output → List ℕ) → AreCut manifest f g text) → AreCutSoFar m i manifest f g
+made-so-far m i manifest f g cut = inl (λ j low along. (cut first_text).each j low)

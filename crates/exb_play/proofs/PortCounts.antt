@@ -17,7 +17,7 @@ use Rattle.exb_schedule.specs.Playing.{HasPlayed}
 use Rattle.exb_text.specs.Tallies.{counts_of, nothing_counted}
 use Rattle.exb_writers.specs.declared.counted.Counted.{Counted}
 use Rattle.exb_writers.specs.Counts.{CanCount, GoTogether, IsCounted}
-use Rattle.exb_outputs.specs.Plans.{Planned}
+use Rattle.exb_outputs.specs.Manifests.{Listed}
 use Rattle.exb_outputs.specs.Sent.{capture_size}
 use Rattle.exb_play.specs.UnderWay.{CanFollow}
 use Rattle.exb_writers.proofs.Counting.{count_events}
@@ -63,10 +63,10 @@ sizes-fit m i so_far n told passed gone lines law way arrivals p q =
     let bytes = ap (λ (xs : List Leaving). octets_of (left_at q xs)) p.gone in
     omega (arith, at, bytes, short, frames, arrivals)
 
-pub can-count : (m : Mode) (i : Input) (plan : Planned) (so_far : List Segment) (n : Network) (c : Counted) (told more : List Event) (passed said : List Bool) (gone : List Leaving) (xs : List Left) (lines : List TraceLine) →
-    StepsTellPassed → RunsAreFew → CanFollow i so_far → HasPlayed m i so_far n (told ++ more) (passed ++ said) (gone ++ all_left xs) lines → IsCounted plan c told passed gone → GoTogether told passed →
+pub can-count : (m : Mode) (i : Input) (manifest : Listed) (so_far : List Segment) (n : Network) (c : Counted) (told more : List Event) (passed said : List Bool) (gone : List Leaving) (xs : List Left) (lines : List TraceLine) →
+    StepsTellPassed → RunsAreFew → CanFollow i so_far → HasPlayed m i so_far n (told ++ more) (passed ++ said) (gone ++ all_left xs) lines → IsCounted manifest c told passed gone → GoTogether told passed →
     CanCount c more said (length (all_left xs))
-can-count m i plan so_far n c told more passed said gone xs lines steps few follows played are together = record {
+can-count m i manifest so_far n c told more passed said gone xs lines steps few follows played are together = record {
   tally = tally-fits m i so_far n told more (passed ++ said) gone xs lines (counts_of c.tally) few follows played are.tally;
-  ports = ports-can plan c.ports told more passed said are.ports together (ports-fit m i so_far n (told ++ more) (passed ++ said) (gone ++ all_left xs) lines few follows played);
+  ports = ports-can manifest c.ports told more passed said are.ports together (ports-fit m i so_far n (told ++ more) (passed ++ said) (gone ++ all_left xs) lines few follows played);
 }

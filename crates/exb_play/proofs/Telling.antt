@@ -16,7 +16,7 @@ use Rattle.exb_network.specs.declared.log.Left.{Left}
 use Rattle.exb_resting.specs.Rest.Playing.{IsCopyOfAny, RunsAreUnderWay, RunsAreFew, arrivals_in}
 use Rattle.exb_schedule.specs.Playing.{HasPlayed}
 use Rattle.exb_text.specs.Tallies.{FitsTally, nothing_counted}
-use Rattle.exb_outputs.specs.Plans.{Planned}
+use Rattle.exb_outputs.specs.Manifests.{Listed}
 use Rattle.exb_play.specs.Playing.{CanBeKept}
 use Rattle.exb_writers.specs.Counts.{counts_so_far}
 use Rattle.exb_play.specs.UnderWay.{CanFollow}
@@ -122,17 +122,17 @@ kept-at [] k a low is all = absurd (omega (arith, low))
 kept-at (b ∷ came) zero a low is all = let same = ap (λ (x : Arrived). x.moment) is in let own = all.0 in omega (arith, same, own)
 kept-at (b ∷ came) (suc k) a low is all = kept-at came k a (omega (arith, low)) is all.1
 
-pub frames-fit : (m : Mode) (i : Input) (plan : Planned) (so_far : List Segment) (n : Network) (told : List Event) (passed : List Bool) (gone : List Leaving) (xs : List Left) (lines : List TraceLine) → RunsAreUnderWay → plan.tree ≡ tree_of i →
-    IsTree plan.tree → CanBeKept so_far → HasPlayed m i so_far n told passed (gone ++ all_left xs) lines → All (λ (x : Left). CanBeWritten plan x) xs
-frames-fit m i plan so_far n told passed gone xs lines law tree is_tree kept p k d low j e within =
+pub frames-fit : (m : Mode) (i : Input) (manifest : Listed) (so_far : List Segment) (n : Network) (told : List Event) (passed : List Bool) (gone : List Leaving) (xs : List Left) (lines : List TraceLine) → RunsAreUnderWay → manifest.tree ≡ tree_of i →
+    IsTree manifest.tree → CanBeKept so_far → HasPlayed m i so_far n told passed (gone ++ all_left xs) lines → All (λ (x : Left). CanBeWritten manifest x) xs
+frames-fit m i manifest so_far n told passed gone xs lines law tree is_tree kept p k d low j e within =
     let P : List Leaving → Type 0 = All (λ (x : Leaving). IsCopyOfAny i (arrivals_in so_far) x) in
     let all = subst P (sym p.gone) (law m i so_far p.done p.plays).copies in
     let copy = all-mapped (λ (x : Leaving). IsCopyOfAny i (arrivals_in so_far) x) xs (all-right (λ (x : Leaving). IsCopyOfAny i (arrivals_in so_far) x) gone (all_left xs) all) k d low j e within in
     let port : ℕ = (get_or (copies_of (get_or xs k d)) j e).port in
-    let own : is_external plan.tree port ≡ true = ap (λ (t : Shape). is_external t port) tree ∙ copy.port in
+    let own : is_external manifest.tree port ≡ true = ap (λ (t : Shape). is_external t port) tree ∙ copy.port in
     record {
       port = own;
-      low = external_low plan.tree port is_tree own;
+      low = external_low manifest.tree port is_tree own;
       moment =
           (let few = kept-at (arrivals_in so_far) copy.of_it.0 copy.arrival copy.of_it.1 copy.of_it.2 kept in
           let same = copy.moment in

@@ -1,4 +1,4 @@
--- What a run has written of a plan, all of it: the text of each kind over a history that its input allows.
+-- What a run has written of a manifest, all of it: the text of each kind over a history that its input allows.
 use Rattle.std.specs.Prelude.{◌≡◌, ℕ, true, List, All}
 use Rattle.exb_model.specs.EagerHistory.{eager as eager_history}
 use Rattle.exb_model.specs.History.{History}
@@ -13,7 +13,7 @@ use Rattle.exb_legal.specs.Inputs.{RelayFits, frames_in, frames_out}
 use Rattle.exb_legal.specs.Spelled.{HasBytes}
 use Rattle.exb_legal.specs.TextLaws.{IsOfNumbers}
 use Rattle.exb_legal.specs.Entries.{journal_of}
-use Rattle.exb_outputs.specs.Plans.{Planned, kind_at, output_count, output_name}
+use Rattle.exb_outputs.specs.Manifests.{Listed, kind_at, output_count, output_name}
 use Rattle.exb_writers.specs.Texts.{output_text}
 
 -- a legal trace of a history, of the frames of the captures, and of those that the one flat bridge sends
@@ -28,13 +28,13 @@ pub record CanBeReadBack (i : Input) (h : History) : Type 0 where
   pub moments : EachEvent RelayFits h
 
 -- they hold it, and this is the summary
-pub record HasPlayed (m : Mode) (i : Input) (plan : Planned) (old new : Files) (line : List ℕ) : Type 0 where
+pub record HasPlayed (m : Mode) (i : Input) (manifest : Listed) (old new : Files) (line : List ℕ) : Type 0 where
   pub history : History
   pub lines : List TraceLine
   pub legal : Legal m i history
   pub eager : m ≡ Eager → history ≡ eager_history i
   pub back : CanBeReadBack i history
-  pub trace : plan.options.trace ≡ true → IsTraceOf i history lines
+  pub trace : manifest.options.trace ≡ true → IsTraceOf i history lines
   pub bytes : All HasBytes lines
-  pub outputs : Filled old new (output_count plan) (output_name plan) (λ j bytes. bytes ≡ output_text i history lines (kind_at plan j))
+  pub outputs : Filled old new (output_count manifest) (output_name manifest) (λ j bytes. bytes ≡ output_text i history lines (kind_at manifest j))
   pub says : line ≡ summary (tree_of i) (basis_of i) history

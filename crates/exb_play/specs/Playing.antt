@@ -21,7 +21,7 @@ use Rattle.exb_writers.specs.declared.counted.Counted.{Counted}
 use Rattle.exb_outputs.specs.declared.outputs.Outputs.{Outputs}
 use Rattle.exb_play.specs.declared.script.Schedule.{Schedule}
 use Rattle.exb_play.specs.declared.script.Schedule.TheVariants as schedule
-use Rattle.exb_outputs.specs.Plans.{Planned}
+use Rattle.exb_outputs.specs.Manifests.{Listed}
 use Rattle.exb_outputs.specs.Sent.{HasSent, capture_size}
 use Rattle.exb_outputs.specs.Writing.{AreCut, HasTexts, pieces_of}
 use Rattle.exb_writers.specs.Texts.{text_so_far}
@@ -47,29 +47,29 @@ pub record Run : Type 0 where
 
 -- The network has played these segments of the input, what is written and counted are those of what it told, whose numbers have 64 bits
 -- and whose frames are bytes, and nothing is still to be written.
-pub record IsTold (tells : Type 0) (m : Mode) (r : Run) (plan : Planned) (now : Files) (n : Network) (c : Counted) (o : Outputs) (so_far : List Segment) : Type 0 where
-  pub tree : plan.tree ≡ tree_of r.input
+pub record IsTold (tells : Type 0) (m : Mode) (r : Run) (manifest : Listed) (now : Files) (n : Network) (c : Counted) (o : Outputs) (so_far : List Segment) : Type 0 where
+  pub tree : manifest.tree ≡ tree_of r.input
   pub told : List Event
   pub passed : List Bool
   pub gone : List Left
   pub lines : List TraceLine
   pub played : IsPlayedBy m r.input so_far n told passed gone lines
-  pub tracing : n.log.tracing ≡ plan.options.trace
+  pub tracing : n.log.tracing ≡ manifest.options.trace
   pub numbers : All IsOfNumbers told
   pub bytes : All HasBytes lines
-  pub counted : IsCounted plan c told passed gone
-  pub texts : tells → HasTexts plan (pieces_of o) r.before now (text_so_far told gone lines [])
-  pub sent : HasSent plan o (λ q. left_at q gone)
+  pub counted : IsCounted manifest c told passed gone
+  pub texts : tells → HasTexts manifest (pieces_of o) r.before now (text_so_far told gone lines [])
+  pub sent : HasSent manifest o (λ q. left_at q gone)
   pub quiet : IsQuiet n
 
 -- All segments were played, and the bytes of each capture are few enough that all are counted.
-pub record IsAllTold (tells : Type 0) (m : Mode) (r : Run) (plan : Planned) (now : Files) (n : Network) (c : Counted) (o : Outputs) : Type 0 where
-  pub is : IsTold tells m r plan now n c o (segments m r.input)
+pub record IsAllTold (tells : Type 0) (m : Mode) (r : Run) (manifest : Listed) (now : Files) (n : Network) (c : Counted) (o : Outputs) : Type 0 where
+  pub is : IsTold tells m r manifest now n c o (segments m r.input)
   pub room : (q : ℕ) → capture_size (left_at q is.gone) < 2 ^ 64
 
 -- The run ended early, after some of its segments: each output is as it was, or holds a front of its text over what these told.
-pub record IsCutOff (m : Mode) (r : Run) (plan : Planned) (now : Files) : Type 0 where
-  pub tree : plan.tree ≡ tree_of r.input
+pub record IsCutOff (m : Mode) (r : Run) (manifest : Listed) (now : Files) : Type 0 where
+  pub tree : manifest.tree ≡ tree_of r.input
   pub so_far : List Segment
   pub rest : List Segment
   pub segments_are : segments m r.input ≡ so_far ++ rest
@@ -80,8 +80,8 @@ pub record IsCutOff (m : Mode) (r : Run) (plan : Planned) (now : Files) : Type 0
   pub lines : List TraceLine
   pub counts : List ℕ
   pub played : IsPlayedBy m r.input so_far network told passed gone lines
-  pub tracing : network.log.tracing ≡ plan.options.trace
-  pub cut : AreCut plan r.before now (text_so_far told gone lines counts)
+  pub tracing : network.log.tracing ≡ manifest.options.trace
+  pub cut : AreCut manifest r.before now (text_so_far told gone lines counts)
 
 -- ---- what comes
 -- the arrivals of some segments can be written in a capture

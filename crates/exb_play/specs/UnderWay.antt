@@ -24,7 +24,7 @@ use Rattle.exb_shelf.specs.Shelf.{Id}
 use Rattle.exb_writers.specs.declared.counted.Counted.{Counted}
 use Rattle.exb_play.specs.declared.feed.Feed.{Feed}
 use Rattle.exb_outputs.specs.declared.outputs.Outputs.{Outputs}
-use Rattle.exb_outputs.specs.Plans.{Planned}
+use Rattle.exb_outputs.specs.Manifests.{Listed}
 use Rattle.exb_play.specs.Playing.{CanBeKept, IsTold, Run}
 use Rattle.exb_writers.specs.Counts.{IsCounted}
 use Rattle.exb_outputs.specs.Sent.{HasSent}
@@ -75,35 +75,35 @@ pub record LeadsOn (m : Mode) (i : Input) (so_far : List Segment) (last : Option
   pub rest : segments m i ≡ so_far ++ segments_after m last (still_to_come (played_with streams p))
 
 -- The run stands after some segments, and the programme goes on; where the files are told, it leads to all of the input.
-pub record IsPlaying (tells : Type 0) (m : Mode) (r : Run) (plan : Planned) (now : Files) (ids : ℕ → Id) (n : Network) (c : Counted) (o : Outputs) (last : Option ℕ) (p : Programme) : Type 0 where
+pub record IsPlaying (tells : Type 0) (m : Mode) (r : Run) (manifest : Listed) (now : Files) (ids : ℕ → Id) (n : Network) (c : Counted) (o : Outputs) (last : Option ℕ) (p : Programme) : Type 0 where
   pub so_far : List Segment
-  pub is : IsTold tells m r plan now n c o so_far
+  pub is : IsTold tells m r manifest now n c o so_far
   pub next : IsGoingOn r.input so_far last p
-  pub apart : AreApart plan ids (ids_in p.captures)
+  pub apart : AreApart manifest ids (ids_in p.captures)
   pub leads : tells → LeadsOn m r.input so_far last now ids p
 
 -- Before anything was played: the outputs were made and hold nothing but their first texts, the seconds of the commands don't fall, and the
 -- programme has all of an input.
-pub record CanBegin (tells : Type 0) (m : Mode) (r : Run) (s : Setup) (plan : Planned) (now : Files) (ids : ℕ → Id) (o : Outputs) (p : Programme) : Type 0 where
+pub record CanBegin (tells : Type 0) (m : Mode) (r : Run) (s : Setup) (manifest : Listed) (now : Files) (ids : ℕ → Id) (o : Outputs) (p : Programme) : Type 0 where
   pub setup : r.input.setup ≡ s
-  pub texts : tells → HasTexts plan (pieces_of o) r.before now first_text
-  pub sent : HasSent plan o (λ q. [])
+  pub texts : tells → HasTexts manifest (pieces_of o) r.before now first_text
+  pub sent : HasSent manifest o (λ q. [])
   pub timely : IsTimely r.input
   pub next : IsGoingOn r.input [] None p
-  pub apart : AreApart plan ids (ids_in p.captures)
+  pub apart : AreApart manifest ids (ids_in p.captures)
   pub leads : tells → LeadsOn m r.input [] None now ids p
 
 -- The world is opened, and nothing of it is written or counted yet; the programme has all of an input.
-pub record IsOpened (tells : Type 0) (m : Mode) (r : Run) (plan : Planned) (now : Files) (ids : ℕ → Id) (n : Network) (c : Counted) (o : Outputs) (p : Programme) : Type 0 where
-  pub tree : plan.tree ≡ tree_of r.input
+pub record IsOpened (tells : Type 0) (m : Mode) (r : Run) (manifest : Listed) (now : Files) (ids : ℕ → Id) (n : Network) (c : Counted) (o : Outputs) (p : Programme) : Type 0 where
+  pub tree : manifest.tree ≡ tree_of r.input
   pub played : IsPlayedBy m r.input [] n n.log.events n.log.passed (all_left n.log.left) n.log.lines
-  pub tracing : n.log.tracing ≡ plan.options.trace
-  pub counted : IsCounted plan c [] [] []
-  pub texts : tells → HasTexts plan (pieces_of o) r.before now first_text
-  pub sent : HasSent plan o (λ q. [])
+  pub tracing : n.log.tracing ≡ manifest.options.trace
+  pub counted : IsCounted manifest c [] [] []
+  pub texts : tells → HasTexts manifest (pieces_of o) r.before now first_text
+  pub sent : HasSent manifest o (λ q. [])
   pub timely : IsTimely r.input
   pub next : IsGoingOn r.input [] None p
-  pub apart : AreApart plan ids (ids_in p.captures)
+  pub apart : AreApart manifest ids (ids_in p.captures)
   pub leads : tells → LeadsOn m r.input [] None now ids p
 
 -- ---- one segment more
@@ -170,20 +170,20 @@ pub record IsGathered (tells : Type 0) (m : Mode) (file files : Files) (given id
 
 -- A run stands after some segments, and this was gathered behind them: so many commands were taken before it, and so many seconds pass
 -- before it.
-pub record CanGoOn (tells : Type 0) (m : Mode) (r : Run) (plan : Planned) (now : Files) (ids : ℕ → Id) (n : Network) (c : Counted) (o : Outputs) (seconds from second : ℕ) (f : Feed) : Type 0 where
+pub record CanGoOn (tells : Type 0) (m : Mode) (r : Run) (manifest : Listed) (now : Files) (ids : ℕ → Id) (n : Network) (c : Counted) (o : Outputs) (seconds from second : ℕ) (f : Feed) : Type 0 where
   pub last : Option ℕ
   pub old : Programme
   pub given : ℕ → Id
-  pub playing : IsPlaying tells m r plan now given n c o last old
+  pub playing : IsPlaying tells m r manifest now given n c o last old
   pub got : IsGathered tells m now now given ids second old f
-  pub apart : AreApart plan ids (ids_in f.programme.captures)
+  pub apart : AreApart manifest ids (ids_in f.programme.captures)
   pub from_is : from ≡ old.taken
   pub seconds_are : seconds ≡ seconds_after last second
 
 -- the run stands after some segments, and these seconds, commands and arrivals make the next one, which can be played
-pub record CanBePlayed (tells : Type 0) (m : Mode) (r : Run) (plan : Planned) (now : Files) (n : Network) (c : Counted) (o : Outputs) (seconds : ℕ) (cs : List Timed) (frames : List Arrival) : Type 0 where
+pub record CanBePlayed (tells : Type 0) (m : Mode) (r : Run) (manifest : Listed) (now : Files) (n : Network) (c : Counted) (o : Outputs) (seconds : ℕ) (cs : List Timed) (frames : List Arrival) : Type 0 where
   pub so_far : List Segment
-  pub is : IsTold tells m r plan now n c o so_far
+  pub is : IsTold tells m r manifest now n c o so_far
   pub next : Segment
   pub segment : IsSegment r.input next seconds cs frames
   pub can : CanAll n (gives seconds cs frames)

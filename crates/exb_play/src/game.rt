@@ -18,7 +18,7 @@ ghost use Rattle.exb_schedule.specs.Worlds.{network_of, fate_in};
 ghost use Rattle.exb_shelf.specs.Files.{Files, Filled};
 ghost use Rattle.exb_text.specs.declared.output.Output.{Output};
 ghost use Rattle.exb_text.specs.Tallies.{counts_of};
-ghost use Rattle.exb_outputs.specs.Plans.{kind_at, output_count, output_name};
+ghost use Rattle.exb_outputs.specs.Manifests.{kind_at, output_count, output_name};
 ghost use Rattle.exb_writers.specs.Counts.{AreCountsOf, CanCount, CountsOn, IsSummary};
 ghost use Rattle.exb_play.specs.Playing.{CanBeKept, Run, IsAllTold, IsCutOff, IsTold, mode_of};
 ghost use Rattle.exb_play.specs.UnderWay.{CanBegin, CanBePlayed, CanFeed, CanGoOn, IsOpened, IsPlaying};
@@ -41,7 +41,7 @@ use exb_fate::Fate;
 use exb_inputs::Fault;
 use exb_machine::laws::steps_tell_passed;
 use exb_model::setup::Timed;
-use exb_outputs::{Outputs, Plan};
+use exb_outputs::{Manifest, Outputs};
 use exb_resting::laws::rest::{
     runs_are_few, runs_are_under_way, runs_say_passed, runs_write_eagerly, runs_write_fronts,
     runs_write_legally,
@@ -77,28 +77,28 @@ fn seed_of(schedule: Schedule) -> u64 {
 /// Writes what has happened in a world since it was cleared.
 fn write_all<S: Shelf>(
     shelf: &mut S,
-    plan: &Plan,
+    manifest: &Manifest,
     outputs: &mut Outputs,
     room: &mut Room,
     world: &World,
 ) -> Result<(), Fault>
-    requires ready { IsReady plan.now (S.ids shelf.old) outputs.old }
-    requires frames { All (λ x. CanBeWritten plan.now x) (network_of world.now).log.left }
-    ensures ready { IsReady plan.now (S.ids shelf.new) outputs.new }
-    ensures texts { S.tells → OnOk result ((orig : Files) (text : Output → List ℕ) → HasTexts plan.now (pieces_of outputs.old) orig (S.file shelf.old) text
-        → HasTexts plan.now (pieces_of outputs.new) orig (S.file shelf.new)
+    requires ready { IsReady manifest.now (S.ids shelf.old) outputs.old }
+    requires frames { All (λ x. CanBeWritten manifest.now x) (network_of world.now).log.left }
+    ensures ready { IsReady manifest.now (S.ids shelf.new) outputs.new }
+    ensures texts { S.tells → OnOk result ((orig : Files) (text : Output → List ℕ) → HasTexts manifest.now (pieces_of outputs.old) orig (S.file shelf.old) text
+        → HasTexts manifest.now (pieces_of outputs.new) orig (S.file shelf.new)
         (with_told text (network_of world.now).log.events (network_of world.now).log.left (network_of world.now).log.lines)) }
-    ensures cut { S.tells → OnErr result ((orig : Files) (text : Output → List ℕ) → HasTexts plan.now (pieces_of outputs.old) orig (S.file shelf.old) text
-        → AreCut plan.now orig (S.file shelf.new)
+    ensures cut { S.tells → OnErr result ((orig : Files) (text : Output → List ℕ) → HasTexts manifest.now (pieces_of outputs.old) orig (S.file shelf.old) text
+        → AreCut manifest.now orig (S.file shelf.new)
         (with_told text (network_of world.now).log.events (network_of world.now).log.left (network_of world.now).log.lines)) }
-    ensures sent { OnOk result ((sent : ℕ → List Sent) → HasSent plan.now outputs.old sent → HasSent plan.now outputs.new (sent_with sent (network_of world.now).log.left)) }
-    ensures only { OnlyWrites S.tells plan.now (S.file shelf.old) (S.file shelf.new) (S.ids shelf.old) (S.ids shelf.new) }
+    ensures sent { OnOk result ((sent : ℕ → List Sent) → HasSent manifest.now outputs.old sent → HasSent manifest.now outputs.new (sent_with sent (network_of world.now).log.left)) }
+    ensures only { OnlyWrites S.tells manifest.now (S.file shelf.old) (S.file shelf.new) (S.ids shelf.old) (S.ids shelf.new) }
     ensures causes { IfErr result IsOfWriting }
     ensures faults { CountsFaults result (S.faults shelf.old) (S.faults shelf.new) }
 {
     write_told(
         shelf,
-        plan,
+        manifest,
         outputs,
         room,
         world.events(),
@@ -152,30 +152,36 @@ fn seconds_since(last: Option<u64>, second: u64) -> u32
 
 impl Game {
     /// Writes and counts what has happened in the world since it was cleared, and clears it.
-    fn note<S: Shelf>(&mut self, shelf: &mut S, plan: &Plan) -> Result<(), Fault>
-        requires ready { IsReady plan.now (S.ids shelf.old) self.old.outputs }
-        requires frames { All (λ x. CanBeWritten plan.now x) (network_of self.old.world).log.left }
+    fn note<S: Shelf>(&mut self, shelf: &mut S, manifest: &Manifest) -> Result<(), Fault>
+        requires ready { IsReady manifest.now (S.ids shelf.old) self.old.outputs }
+        requires frames { All (λ x. CanBeWritten manifest.now x) (network_of self.old.world).log.left }
         requires can { CanCount self.old.counted (network_of self.old.world).log.events (network_of self.old.world).log.passed (length (all_left (network_of self.old.world).log.left)) }
-        ensures ready { IsReady plan.now (S.ids shelf.new) self.new.outputs }
+        ensures ready { IsReady manifest.now (S.ids shelf.new) self.new.outputs }
         ensures world { OnOk result (world_of (network_of self.new.world) ≡ world_of (network_of self.old.world)) }
         ensures same { OnOk result (IsSame (network_of self.old.world) (network_of self.new.world)) }
         ensures quiet { OnOk result (IsQuiet (network_of self.new.world)) }
-        ensures texts { S.tells → OnOk result ((orig : Files) (text : Output → List ℕ) → HasTexts plan.now (pieces_of self.old.outputs) orig (S.file shelf.old) text
-            → HasTexts plan.now (pieces_of self.new.outputs) orig (S.file shelf.new)
+        ensures texts { S.tells → OnOk result ((orig : Files) (text : Output → List ℕ) → HasTexts manifest.now (pieces_of self.old.outputs) orig (S.file shelf.old) text
+            → HasTexts manifest.now (pieces_of self.new.outputs) orig (S.file shelf.new)
             (with_told text (network_of self.old.world).log.events (network_of self.old.world).log.left (network_of self.old.world).log.lines)) }
-        ensures cut { S.tells → OnErr result ((orig : Files) (text : Output → List ℕ) → HasTexts plan.now (pieces_of self.old.outputs) orig (S.file shelf.old) text
-            → AreCut plan.now orig (S.file shelf.new)
+        ensures cut { S.tells → OnErr result ((orig : Files) (text : Output → List ℕ) → HasTexts manifest.now (pieces_of self.old.outputs) orig (S.file shelf.old) text
+            → AreCut manifest.now orig (S.file shelf.new)
             (with_told text (network_of self.old.world).log.events (network_of self.old.world).log.left (network_of self.old.world).log.lines)) }
-        ensures sent { OnOk result ((sent : ℕ → List Sent) → HasSent plan.now self.old.outputs sent → HasSent plan.now self.new.outputs (sent_with sent (network_of self.old.world).log.left)) }
+        ensures sent { OnOk result ((sent : ℕ → List Sent) → HasSent manifest.now self.old.outputs sent → HasSent manifest.now self.new.outputs (sent_with sent (network_of self.old.world).log.left)) }
         ensures tally { OnOk result (counts_of self.new.counted.tally
             ≡ with_left (length (all_left (network_of self.old.world).log.left)) (fold (λ c e. counted e c) (counts_of self.old.counted.tally) (network_of self.old.world).log.events)) }
         ensures ports { OnOk result (CountsOn self.old.counted.ports self.new.counted.ports (network_of self.old.world).log.events (network_of self.old.world).log.passed) }
         ensures fate { OnOk result (left (fate_in self.new.world) ≡ left (fate_in self.old.world)) }
-        ensures only { OnlyWrites S.tells plan.now (S.file shelf.old) (S.file shelf.new) (S.ids shelf.old) (S.ids shelf.new) }
+        ensures only { OnlyWrites S.tells manifest.now (S.file shelf.old) (S.file shelf.new) (S.ids shelf.old) (S.ids shelf.new) }
         ensures causes { IfErr result IsOfWriting }
         ensures faults { CountsFaults result (S.faults shelf.old) (S.faults shelf.new) }
     {
-        write_all(shelf, plan, &mut self.outputs, &mut self.room, &self.world)?;
+        write_all(
+            shelf,
+            manifest,
+            &mut self.outputs,
+            &mut self.room,
+            &self.world,
+        )?;
         self.counted.note(
             self.world.events(),
             self.world.passed(),
@@ -189,32 +195,32 @@ impl Game {
     fn turn<S: Shelf>(
         &mut self,
         shelf: &mut S,
-        plan: &Plan,
+        manifest: &Manifest,
         schedule: Schedule,
         seconds: u32,
         commands: &[Timed],
         arrivals: &[Arrival],
     ) -> Result<(), Fault>
-        requires ready { IsReady plan.now (S.ids shelf.old) self.old.outputs }
-        requires playable { (run : Run) × CanBePlayed S.tells (mode_of schedule) run plan.now (S.file shelf.old) (network_of self.old.world) self.old.counted self.old.outputs seconds commands.now arrivals.now }
+        requires ready { IsReady manifest.now (S.ids shelf.old) self.old.outputs }
+        requires playable { (run : Run) × CanBePlayed S.tells (mode_of schedule) run manifest.now (S.file shelf.old) (network_of self.old.world) self.old.counted self.old.outputs seconds commands.now arrivals.now }
         requires budget { left (fate_in self.old.world) + letters_in commands.now < 2 ^ 57 }
-        ensures ready { IsReady plan.now (S.ids shelf.new) self.new.outputs }
+        ensures ready { IsReady manifest.now (S.ids shelf.new) self.new.outputs }
         ensures told { OnOk result ((run : Run) (so_far : List Segment) (s : Segment) → IsSegment run.input s seconds commands.now arrivals.now
-            → IsTold S.tells (mode_of schedule) run plan.now (S.file shelf.old) (network_of self.old.world) self.old.counted self.old.outputs so_far
-            → IsTold S.tells (mode_of schedule) run plan.now (S.file shelf.new) (network_of self.new.world) self.new.counted self.new.outputs (so_far ++ s ∷ [])) }
+            → IsTold S.tells (mode_of schedule) run manifest.now (S.file shelf.old) (network_of self.old.world) self.old.counted self.old.outputs so_far
+            → IsTold S.tells (mode_of schedule) run manifest.now (S.file shelf.new) (network_of self.new.world) self.new.counted self.new.outputs (so_far ++ s ∷ [])) }
         ensures cut { S.tells → OnErr result ((run : Run) (so_far rest : List Segment) (s : Segment) → segments (mode_of schedule) run.input ≡ so_far ++ s ∷ rest
             → IsSegment run.input s seconds commands.now arrivals.now
-            → IsTold S.tells (mode_of schedule) run plan.now (S.file shelf.old) (network_of self.old.world) self.old.counted self.old.outputs so_far
-            → IsCutOff (mode_of schedule) run plan.now (S.file shelf.new)) }
+            → IsTold S.tells (mode_of schedule) run manifest.now (S.file shelf.old) (network_of self.old.world) self.old.counted self.old.outputs so_far
+            → IsCutOff (mode_of schedule) run manifest.now (S.file shelf.new)) }
         ensures budget { OnOk result (left (fate_in self.new.world) ≤ left (fate_in self.old.world) + letters_in commands.now) }
-        ensures only { OnlyWrites S.tells plan.now (S.file shelf.old) (S.file shelf.new) (S.ids shelf.old) (S.ids shelf.new) }
+        ensures only { OnlyWrites S.tells manifest.now (S.file shelf.old) (S.file shelf.new) (S.ids shelf.old) (S.ids shelf.new) }
         ensures causes { IfErr result IsOfWriting }
         ensures faults { CountsFaults result (S.faults shelf.old) (S.faults shelf.new) }
     {
         runs_are_under_way();
         runs_are_few();
         steps_tell_passed();
-        plan.is_tree();
+        manifest.is_tree();
         if play_segment(
             schedule,
             &mut self.world,
@@ -228,39 +234,39 @@ impl Game {
             return Err(Fault::Memory);
         }
         told_by_types(&self.world);
-        self.note(shelf, plan)
+        self.note(shelf, manifest)
     }
 
     /// Plays what was gathered, `seconds` after what came before it. So many commands were taken `from` the programme before it.
     fn go_on<S: Shelf>(
         &mut self,
         shelf: &mut S,
-        plan: &Plan,
+        manifest: &Manifest,
         schedule: Schedule,
         seconds: u32,
         from: usize,
         feed: &Feed<'_>,
     ) -> Result<(), Fault>
-        requires ready { IsReady plan.now (S.ids shelf.old) self.old.outputs }
+        requires ready { IsReady manifest.now (S.ids shelf.old) self.old.outputs }
         requires feed { CanFeed (S.ids shelf.old) feed.now }
-        requires playing { (run : Run) × ((second : ℕ) × CanGoOn S.tells (mode_of schedule) run plan.now (S.file shelf.old) (S.ids shelf.old) (network_of self.old.world) self.old.counted self.old.outputs seconds from second feed.now) }
+        requires playing { (run : Run) × ((second : ℕ) × CanGoOn S.tells (mode_of schedule) run manifest.now (S.file shelf.old) (S.ids shelf.old) (network_of self.old.world) self.old.counted self.old.outputs seconds from second feed.now) }
         requires budget { left (fate_in self.old.world) + letters_in (drop from feed.now.programme.commands.now) < 2 ^ 57 }
-        ensures ready { IsReady plan.now (S.ids shelf.new) self.new.outputs }
+        ensures ready { IsReady manifest.now (S.ids shelf.new) self.new.outputs }
         ensures told { OnOk result ((run : Run) (second : ℕ)
-            → CanGoOn S.tells (mode_of schedule) run plan.now (S.file shelf.old) (S.ids shelf.old) (network_of self.old.world) self.old.counted self.old.outputs seconds from second feed.now
-            → IsPlaying S.tells (mode_of schedule) run plan.now (S.file shelf.new) (S.ids shelf.new) (network_of self.new.world) self.new.counted self.new.outputs (Some second) feed.now.programme) }
+            → CanGoOn S.tells (mode_of schedule) run manifest.now (S.file shelf.old) (S.ids shelf.old) (network_of self.old.world) self.old.counted self.old.outputs seconds from second feed.now
+            → IsPlaying S.tells (mode_of schedule) run manifest.now (S.file shelf.new) (S.ids shelf.new) (network_of self.new.world) self.new.counted self.new.outputs (Some second) feed.now.programme) }
         ensures cut { S.tells → OnErr result ((run : Run) (second : ℕ)
-            → CanGoOn S.tells (mode_of schedule) run plan.now (S.file shelf.old) (S.ids shelf.old) (network_of self.old.world) self.old.counted self.old.outputs seconds from second feed.now
-            → IsCutOff (mode_of schedule) run plan.now (S.file shelf.new)) }
+            → CanGoOn S.tells (mode_of schedule) run manifest.now (S.file shelf.old) (S.ids shelf.old) (network_of self.old.world) self.old.counted self.old.outputs seconds from second feed.now
+            → IsCutOff (mode_of schedule) run manifest.now (S.file shelf.new)) }
         ensures budget { OnOk result (left (fate_in self.new.world) + letters_in (drop feed.now.programme.taken feed.now.programme.commands.now) < 2 ^ 57) }
-        ensures only { OnlyWrites S.tells plan.now (S.file shelf.old) (S.file shelf.new) (S.ids shelf.old) (S.ids shelf.new) }
+        ensures only { OnlyWrites S.tells manifest.now (S.file shelf.old) (S.file shelf.new) (S.ids shelf.old) (S.ids shelf.new) }
         ensures causes { IfErr result IsOfWriting }
         ensures faults { CountsFaults result (S.faults shelf.old) (S.faults shelf.new) }
     {
         runs_are_under_way();
         let commands = feed.programme.taken_since(from);
         let arrivals = feed.gathered.as_slice();
-        self.turn(shelf, plan, schedule, seconds, commands, arrivals)
+        self.turn(shelf, manifest, schedule, seconds, commands, arrivals)
     }
 
     /// Plays all that comes, one segment after another.
@@ -268,30 +274,30 @@ impl Game {
         &mut self,
         alloc: Global,
         shelf: &mut S,
-        plan: &Plan,
+        manifest: &Manifest,
         schedule: Schedule,
         feed: &mut Feed<'_>,
     ) -> Result<(), Fault>
-        requires ready { IsReady plan.now (S.ids shelf.old) self.old.outputs }
+        requires ready { IsReady manifest.now (S.ids shelf.old) self.old.outputs }
         requires feed { CanFeed (S.ids shelf.old) feed.old }
-        requires playing { (run : Run) × IsPlaying S.tells (mode_of schedule) run plan.now (S.file shelf.old) (S.ids shelf.old) (network_of self.old.world) self.old.counted self.old.outputs None feed.old.programme }
+        requires playing { (run : Run) × IsPlaying S.tells (mode_of schedule) run manifest.now (S.file shelf.old) (S.ids shelf.old) (network_of self.old.world) self.old.counted self.old.outputs None feed.old.programme }
         requires budget { left (fate_in self.old.world) + letters_in (drop feed.old.programme.taken feed.old.programme.commands.now) < 2 ^ 57 }
-        ensures ready { OnOk result (IsReady plan.now (S.ids shelf.new) self.new.outputs) }
+        ensures ready { OnOk result (IsReady manifest.now (S.ids shelf.new) self.new.outputs) }
         ensures few { OnOk result (self.new.counted.tally.relayed + self.new.counted.tally.ignored < 2 ^ 64) }
-        ensures counted { OnOk result (AreCountsOf plan.now self.new.counted.ports) }
-        ensures sent { OnOk result (AreCountedAt plan.now self.new.outputs) }
+        ensures counted { OnOk result (AreCountsOf manifest.now self.new.counted.ports) }
+        ensures sent { OnOk result (AreCountedAt manifest.now self.new.outputs) }
         ensures told { S.tells → OnOk result ((run : Run)
-            → IsPlaying S.tells (mode_of schedule) run plan.now (S.file shelf.old) (S.ids shelf.old) (network_of self.old.world) self.old.counted self.old.outputs None feed.old.programme
-            → IsAllTold S.tells (mode_of schedule) run plan.now (S.file shelf.new) (network_of self.new.world) self.new.counted self.new.outputs) }
+            → IsPlaying S.tells (mode_of schedule) run manifest.now (S.file shelf.old) (S.ids shelf.old) (network_of self.old.world) self.old.counted self.old.outputs None feed.old.programme
+            → IsAllTold S.tells (mode_of schedule) run manifest.now (S.file shelf.new) (network_of self.new.world) self.new.counted self.new.outputs) }
         ensures kept { S.tells → OnOk result ((run : Run)
-            → IsPlaying S.tells (mode_of schedule) run plan.now (S.file shelf.old) (S.ids shelf.old) (network_of self.old.world) self.old.counted self.old.outputs None feed.old.programme
+            → IsPlaying S.tells (mode_of schedule) run manifest.now (S.file shelf.old) (S.ids shelf.old) (network_of self.old.world) self.old.counted self.old.outputs None feed.old.programme
             → CanBeKept (segments (mode_of schedule) run.input)) }
         ensures cut { S.tells → OnErr result ((run : Run)
-            → IsPlaying S.tells (mode_of schedule) run plan.now (S.file shelf.old) (S.ids shelf.old) (network_of self.old.world) self.old.counted self.old.outputs None feed.old.programme
-            → IsCutOff (mode_of schedule) run plan.now (S.file shelf.new)) }
+            → IsPlaying S.tells (mode_of schedule) run manifest.now (S.file shelf.old) (S.ids shelf.old) (network_of self.old.world) self.old.counted self.old.outputs None feed.old.programme
+            → IsCutOff (mode_of schedule) run manifest.now (S.file shelf.new)) }
         ensures never { S.tells → IfErr result (λ fault. IsChange fault → (run : Run)
-            → IsPlaying S.tells (mode_of schedule) run plan.now (S.file shelf.old) (S.ids shelf.old) (network_of self.old.world) self.old.counted self.old.outputs None feed.old.programme → ⊥) }
-        ensures only { OnlyGoesOn S.tells plan.now (ids_in feed.old.programme.captures) (S.file shelf.old) (S.file shelf.new) (S.ids shelf.old) (S.ids shelf.new) }
+            → IsPlaying S.tells (mode_of schedule) run manifest.now (S.file shelf.old) (S.ids shelf.old) (network_of self.old.world) self.old.counted self.old.outputs None feed.old.programme → ⊥) }
+        ensures only { OnlyGoesOn S.tells manifest.now (ids_in feed.old.programme.captures) (S.file shelf.old) (S.file shelf.new) (S.ids shelf.old) (S.ids shelf.new) }
         ensures port { IfErr result (λ fault. (p at : ℕ) → fault ≡ Fault.Changed p at → HasPort p (standings feed.old.programme.captures)) }
         ensures causes { IfErr result IsOfPlay }
         ensures faults { CountsFaults result (S.faults shelf.old) (S.faults shelf.new) }
@@ -302,7 +308,7 @@ impl Game {
         let mut taken = feed.programme.taken();
         'events: while let Some(second) = feed.gather(alloc, shelf, schedule)? {
             let seconds = seconds_since(last, second);
-            self.go_on(shelf, plan, schedule, seconds, taken, feed)?;
+            self.go_on(shelf, manifest, schedule, seconds, taken, feed)?;
             taken = feed.programme.taken();
             last = Some(second);
         }
@@ -310,28 +316,33 @@ impl Game {
     }
 
     /// Writes what is still to be written, and answers the summary line.
-    fn end<S: Shelf>(&mut self, alloc: Global, shelf: &mut S, plan: &Plan) -> Result<String, Fault>
-        requires ready { IsReady plan.now (S.ids shelf.old) self.old.outputs }
-        requires counted { AreCountsOf plan.now self.old.counted.ports }
-        requires sent { AreCountedAt plan.now self.old.outputs }
+    fn end<S: Shelf>(
+        &mut self,
+        alloc: Global,
+        shelf: &mut S,
+        manifest: &Manifest,
+    ) -> Result<String, Fault>
+        requires ready { IsReady manifest.now (S.ids shelf.old) self.old.outputs }
+        requires counted { AreCountsOf manifest.now self.old.counted.ports }
+        requires sent { AreCountedAt manifest.now self.old.outputs }
         requires few { self.old.counted.tally.relayed + self.old.counted.tally.ignored < 2 ^ 64 }
-        ensures texts { S.tells → OnOk result ((orig : Files) (text : Output → List ℕ) → HasTexts plan.now (pieces_of self.old.outputs) orig (S.file shelf.old) text
-            → Filled orig (S.file shelf.new) (output_count plan.now) (output_name plan.now) (λ j bytes. bytes ≡ with_end text plan.now self.old.counted.ports self.old.outputs (kind_at plan.now j))) }
-        ensures cut { S.tells → OnErr result ((orig : Files) (text : Output → List ℕ) → HasTexts plan.now (pieces_of self.old.outputs) orig (S.file shelf.old) text
-            → AreCut plan.now orig (S.file shelf.new) (with_end text plan.now self.old.counted.ports self.old.outputs)) }
+        ensures texts { S.tells → OnOk result ((orig : Files) (text : Output → List ℕ) → HasTexts manifest.now (pieces_of self.old.outputs) orig (S.file shelf.old) text
+            → Filled orig (S.file shelf.new) (output_count manifest.now) (output_name manifest.now) (λ j bytes. bytes ≡ with_end text manifest.now self.old.counted.ports self.old.outputs (kind_at manifest.now j))) }
+        ensures cut { S.tells → OnErr result ((orig : Files) (text : Output → List ℕ) → HasTexts manifest.now (pieces_of self.old.outputs) orig (S.file shelf.old) text
+            → AreCut manifest.now orig (S.file shelf.new) (with_end text manifest.now self.old.counted.ports self.old.outputs)) }
         ensures line { IfOk result (λ line. string_bytes line ≡ summary_line (counts_of self.old.counted.tally)) }
-        ensures only { OnlyWrites S.tells plan.now (S.file shelf.old) (S.file shelf.new) (S.ids shelf.old) (S.ids shelf.new) }
+        ensures only { OnlyWrites S.tells manifest.now (S.file shelf.old) (S.file shelf.new) (S.ids shelf.old) (S.ids shelf.new) }
         ensures causes { IfErr result IsOfWriting }
         ensures faults { CountsFaults result (S.faults shelf.old) (S.faults shelf.new) }
     {
         write_end(
             shelf,
-            plan,
+            manifest,
             &mut self.outputs,
             &mut self.room,
             &self.counted.ports,
         )?;
-        self.outputs.finish(shelf, plan)?;
+        self.outputs.finish(shelf, manifest)?;
         Ok(self.counted.tally.line(alloc)?)
     }
 
@@ -340,24 +351,24 @@ impl Game {
         &mut self,
         alloc: Global,
         shelf: &mut S,
-        plan: &Plan,
+        manifest: &Manifest,
         schedule: Schedule,
         feed: &mut Feed<'_>,
     ) -> Result<String, Fault>
-        requires ready { IsReady plan.now (S.ids shelf.old) self.old.outputs }
+        requires ready { IsReady manifest.now (S.ids shelf.old) self.old.outputs }
         requires feed { CanFeed (S.ids shelf.old) feed.old }
-        requires playing { (run : Run) × IsPlaying S.tells (mode_of schedule) run plan.now (S.file shelf.old) (S.ids shelf.old) (network_of self.old.world) self.old.counted self.old.outputs None feed.old.programme }
+        requires playing { (run : Run) × IsPlaying S.tells (mode_of schedule) run manifest.now (S.file shelf.old) (S.ids shelf.old) (network_of self.old.world) self.old.counted self.old.outputs None feed.old.programme }
         requires budget { left (fate_in self.old.world) + letters_in (drop feed.old.programme.taken feed.old.programme.commands.now) < 2 ^ 57 }
         ensures done { S.tells → IfOk result (λ line. (run : Run) → IsTimely run.input
-            → IsPlaying S.tells (mode_of schedule) run plan.now (S.file shelf.old) (S.ids shelf.old) (network_of self.old.world) self.old.counted self.old.outputs None feed.old.programme
-            → HasPlayed (mode_of schedule) run.input plan.now run.before (S.file shelf.new) (string_bytes line)) }
+            → IsPlaying S.tells (mode_of schedule) run manifest.now (S.file shelf.old) (S.ids shelf.old) (network_of self.old.world) self.old.counted self.old.outputs None feed.old.programme
+            → HasPlayed (mode_of schedule) run.input manifest.now run.before (S.file shelf.new) (string_bytes line)) }
         ensures says { IfOk result (λ line. IsSummary (string_bytes line)) }
         ensures cut { S.tells → OnErr result ((run : Run)
-            → IsPlaying S.tells (mode_of schedule) run plan.now (S.file shelf.old) (S.ids shelf.old) (network_of self.old.world) self.old.counted self.old.outputs None feed.old.programme
-            → IsCutOff (mode_of schedule) run plan.now (S.file shelf.new)) }
+            → IsPlaying S.tells (mode_of schedule) run manifest.now (S.file shelf.old) (S.ids shelf.old) (network_of self.old.world) self.old.counted self.old.outputs None feed.old.programme
+            → IsCutOff (mode_of schedule) run manifest.now (S.file shelf.new)) }
         ensures never { S.tells → IfErr result (λ fault. IsChange fault → (run : Run)
-            → IsPlaying S.tells (mode_of schedule) run plan.now (S.file shelf.old) (S.ids shelf.old) (network_of self.old.world) self.old.counted self.old.outputs None feed.old.programme → ⊥) }
-        ensures only { OnlyGoesOn S.tells plan.now (ids_in feed.old.programme.captures) (S.file shelf.old) (S.file shelf.new) (S.ids shelf.old) (S.ids shelf.new) }
+            → IsPlaying S.tells (mode_of schedule) run manifest.now (S.file shelf.old) (S.ids shelf.old) (network_of self.old.world) self.old.counted self.old.outputs None feed.old.programme → ⊥) }
+        ensures only { OnlyGoesOn S.tells manifest.now (ids_in feed.old.programme.captures) (S.file shelf.old) (S.file shelf.new) (S.ids shelf.old) (S.ids shelf.new) }
         ensures port { IfErr result (λ fault. (p at : ℕ) → fault ≡ Fault.Changed p at → HasPort p (standings feed.old.programme.captures)) }
         ensures causes { IfErr result IsOfPlay }
         ensures faults { CountsFaults result (S.faults shelf.old) (S.faults shelf.new) }
@@ -368,9 +379,9 @@ impl Game {
         runs_say_passed();
         counts_go_on();
         runs_tell_legally();
-        plan.is_tree();
-        self.play_all(alloc, shelf, plan, schedule, feed)?;
-        self.end(alloc, shelf, plan)
+        manifest.is_tree();
+        self.play_all(alloc, shelf, manifest, schedule, feed)?;
+        self.end(alloc, shelf, manifest)
     }
 
     /// Writes and counts what happened by the opening, plays all that comes, and answers the summary line.
@@ -378,24 +389,24 @@ impl Game {
         &mut self,
         alloc: Global,
         shelf: &mut S,
-        plan: &Plan,
+        manifest: &Manifest,
         schedule: Schedule,
         feed: &mut Feed<'_>,
     ) -> Result<String, Fault>
-        requires ready { IsReady plan.now (S.ids shelf.old) self.old.outputs }
+        requires ready { IsReady manifest.now (S.ids shelf.old) self.old.outputs }
         requires feed { CanFeed (S.ids shelf.old) feed.old }
-        requires opened { (run : Run) × IsOpened S.tells (mode_of schedule) run plan.now (S.file shelf.old) (S.ids shelf.old) (network_of self.old.world) self.old.counted self.old.outputs feed.old.programme }
+        requires opened { (run : Run) × IsOpened S.tells (mode_of schedule) run manifest.now (S.file shelf.old) (S.ids shelf.old) (network_of self.old.world) self.old.counted self.old.outputs feed.old.programme }
         requires budget { left (fate_in self.old.world) + letters_in (drop feed.old.programme.taken feed.old.programme.commands.now) < 2 ^ 57 }
         ensures done { S.tells → IfOk result (λ line. (run : Run)
-            → IsOpened S.tells (mode_of schedule) run plan.now (S.file shelf.old) (S.ids shelf.old) (network_of self.old.world) self.old.counted self.old.outputs feed.old.programme
-            → HasPlayed (mode_of schedule) run.input plan.now run.before (S.file shelf.new) (string_bytes line)) }
+            → IsOpened S.tells (mode_of schedule) run manifest.now (S.file shelf.old) (S.ids shelf.old) (network_of self.old.world) self.old.counted self.old.outputs feed.old.programme
+            → HasPlayed (mode_of schedule) run.input manifest.now run.before (S.file shelf.new) (string_bytes line)) }
         ensures says { IfOk result (λ line. IsSummary (string_bytes line)) }
         ensures cut { S.tells → OnErr result ((run : Run)
-            → IsOpened S.tells (mode_of schedule) run plan.now (S.file shelf.old) (S.ids shelf.old) (network_of self.old.world) self.old.counted self.old.outputs feed.old.programme
-            → IsCutOff (mode_of schedule) run plan.now (S.file shelf.new)) }
+            → IsOpened S.tells (mode_of schedule) run manifest.now (S.file shelf.old) (S.ids shelf.old) (network_of self.old.world) self.old.counted self.old.outputs feed.old.programme
+            → IsCutOff (mode_of schedule) run manifest.now (S.file shelf.new)) }
         ensures never { S.tells → IfErr result (λ fault. IsChange fault → (run : Run)
-            → IsOpened S.tells (mode_of schedule) run plan.now (S.file shelf.old) (S.ids shelf.old) (network_of self.old.world) self.old.counted self.old.outputs feed.old.programme → ⊥) }
-        ensures only { OnlyGoesOn S.tells plan.now (ids_in feed.old.programme.captures) (S.file shelf.old) (S.file shelf.new) (S.ids shelf.old) (S.ids shelf.new) }
+            → IsOpened S.tells (mode_of schedule) run manifest.now (S.file shelf.old) (S.ids shelf.old) (network_of self.old.world) self.old.counted self.old.outputs feed.old.programme → ⊥) }
+        ensures only { OnlyGoesOn S.tells manifest.now (ids_in feed.old.programme.captures) (S.file shelf.old) (S.file shelf.new) (S.ids shelf.old) (S.ids shelf.new) }
         ensures port { IfErr result (λ fault. (p at : ℕ) → fault ≡ Fault.Changed p at → HasPort p (standings feed.old.programme.captures)) }
         ensures causes { IfErr result IsOfPlay }
         ensures faults { CountsFaults result (S.faults shelf.old) (S.faults shelf.new) }
@@ -403,10 +414,10 @@ impl Game {
         runs_are_under_way();
         runs_are_few();
         steps_tell_passed();
-        plan.is_tree();
+        manifest.is_tree();
         told_by_types(&self.world);
-        self.note(shelf, plan)?;
-        self.play_on(alloc, shelf, plan, schedule, feed)
+        self.note(shelf, manifest)?;
+        self.play_on(alloc, shelf, manifest, schedule, feed)
     }
 }
 
@@ -414,27 +425,27 @@ impl Game {
 fn play_world<S: Shelf>(
     alloc: Global,
     shelf: &mut S,
-    plan: &Plan,
+    manifest: &Manifest,
     schedule: Schedule,
     world: World,
     outputs: Outputs,
     counted: Counted,
     feed: &mut Feed<'_>,
 ) -> Result<String, Fault>
-    requires ready { IsReady plan.now (S.ids shelf.old) outputs }
+    requires ready { IsReady manifest.now (S.ids shelf.old) outputs }
     requires feed { CanFeed (S.ids shelf.old) feed.old }
-    requires opened { (run : Run) × IsOpened S.tells (mode_of schedule) run plan.now (S.file shelf.old) (S.ids shelf.old) (network_of world) counted outputs feed.old.programme }
+    requires opened { (run : Run) × IsOpened S.tells (mode_of schedule) run manifest.now (S.file shelf.old) (S.ids shelf.old) (network_of world) counted outputs feed.old.programme }
     requires budget { left (fate_in world) + letters_in (drop feed.old.programme.taken feed.old.programme.commands.now) < 2 ^ 57 }
     ensures done { S.tells → IfOk result (λ line. (run : Run)
-        → IsOpened S.tells (mode_of schedule) run plan.now (S.file shelf.old) (S.ids shelf.old) (network_of world) counted outputs feed.old.programme
-        → HasPlayed (mode_of schedule) run.input plan.now run.before (S.file shelf.new) (string_bytes line)) }
+        → IsOpened S.tells (mode_of schedule) run manifest.now (S.file shelf.old) (S.ids shelf.old) (network_of world) counted outputs feed.old.programme
+        → HasPlayed (mode_of schedule) run.input manifest.now run.before (S.file shelf.new) (string_bytes line)) }
     ensures says { IfOk result (λ line. IsSummary (string_bytes line)) }
     ensures cut { S.tells → OnErr result ((run : Run)
-        → IsOpened S.tells (mode_of schedule) run plan.now (S.file shelf.old) (S.ids shelf.old) (network_of world) counted outputs feed.old.programme
-        → IsCutOff (mode_of schedule) run plan.now (S.file shelf.new)) }
+        → IsOpened S.tells (mode_of schedule) run manifest.now (S.file shelf.old) (S.ids shelf.old) (network_of world) counted outputs feed.old.programme
+        → IsCutOff (mode_of schedule) run manifest.now (S.file shelf.new)) }
     ensures never { S.tells → IfErr result (λ fault. IsChange fault → (run : Run)
-        → IsOpened S.tells (mode_of schedule) run plan.now (S.file shelf.old) (S.ids shelf.old) (network_of world) counted outputs feed.old.programme → ⊥) }
-    ensures only { OnlyGoesOn S.tells plan.now (ids_in feed.old.programme.captures) (S.file shelf.old) (S.file shelf.new) (S.ids shelf.old) (S.ids shelf.new) }
+        → IsOpened S.tells (mode_of schedule) run manifest.now (S.file shelf.old) (S.ids shelf.old) (network_of world) counted outputs feed.old.programme → ⊥) }
+    ensures only { OnlyGoesOn S.tells manifest.now (ids_in feed.old.programme.captures) (S.file shelf.old) (S.file shelf.new) (S.ids shelf.old) (S.ids shelf.new) }
     ensures port { IfErr result (λ fault. (p at : ℕ) → fault ≡ Fault.Changed p at → HasPort p (standings feed.old.programme.captures)) }
     ensures causes { IfErr result IsOfPlay }
     ensures faults { CountsFaults result (S.faults shelf.old) (S.faults shelf.new) }
@@ -446,7 +457,7 @@ fn play_world<S: Shelf>(
         rng: Lcg64Xsh32::seed_from_u64(seed_of(schedule)),
         room: Room::new(alloc),
     };
-    let played = game.play_opened(alloc, shelf, plan, schedule, feed);
+    let played = game.play_opened(alloc, shelf, manifest, schedule, feed);
     // By a call, since a block's end is far longer to prove where it lets a world go.
     drop(game);
     played
@@ -456,7 +467,7 @@ fn play_world<S: Shelf>(
 pub(crate) fn play_feed<S: Shelf>(
     alloc: Global,
     shelf: &mut S,
-    plan: &Plan,
+    manifest: &Manifest,
     script: &Script<'_>,
     schedule: Schedule,
     fate: Box<dyn Fate>,
@@ -464,35 +475,43 @@ pub(crate) fn play_feed<S: Shelf>(
     feed: &mut Feed<'_>,
 ) -> Result<String, Fault>
     requires valid { IsValid script.now.setup.now }
-    requires tree { plan.now.tree ≡ shape_of script.now.setup.now }
-    requires ready { IsReady plan.now (S.ids shelf.old) outputs }
+    requires tree { manifest.now.tree ≡ shape_of script.now.setup.now }
+    requires ready { IsReady manifest.now (S.ids shelf.old) outputs }
     requires feed { CanFeed (S.ids shelf.old) feed.old }
-    requires begins { (run : Run) × CanBegin S.tells (mode_of schedule) run script.now.setup.now plan.now (S.file shelf.old) (S.ids shelf.old) outputs feed.old.programme }
+    requires begins { (run : Run) × CanBegin S.tells (mode_of schedule) run script.now.setup.now manifest.now (S.file shelf.old) (S.ids shelf.old) outputs feed.old.programme }
     requires budget { left fate + length script.now.fate.now + letters_in (drop feed.old.programme.taken feed.old.programme.commands.now) < 2 ^ 57 }
     ensures done { S.tells → IfOk result (λ line. (run : Run)
-        → CanBegin S.tells (mode_of schedule) run script.now.setup.now plan.now (S.file shelf.old) (S.ids shelf.old) outputs feed.old.programme
-        → HasPlayed (mode_of schedule) run.input plan.now run.before (S.file shelf.new) (string_bytes line)) }
+        → CanBegin S.tells (mode_of schedule) run script.now.setup.now manifest.now (S.file shelf.old) (S.ids shelf.old) outputs feed.old.programme
+        → HasPlayed (mode_of schedule) run.input manifest.now run.before (S.file shelf.new) (string_bytes line)) }
     ensures says { IfOk result (λ line. IsSummary (string_bytes line)) }
     ensures fronts { S.tells → mode_of schedule ≡ Eager → (run : Run)
-        → CanBegin S.tells (mode_of schedule) run script.now.setup.now plan.now (S.file shelf.old) (S.ids shelf.old) outputs feed.old.programme
-        → AreCutEagerly run.input plan.now run.before (S.file shelf.new) }
+        → CanBegin S.tells (mode_of schedule) run script.now.setup.now manifest.now (S.file shelf.old) (S.ids shelf.old) outputs feed.old.programme
+        → AreCutEagerly run.input manifest.now run.before (S.file shelf.new) }
     ensures so_far { S.tells → (run : Run)
-        → CanBegin S.tells (mode_of schedule) run script.now.setup.now plan.now (S.file shelf.old) (S.ids shelf.old) outputs feed.old.programme
-        → AreCutSoFar (mode_of schedule) run.input plan.now run.before (S.file shelf.new) }
+        → CanBegin S.tells (mode_of schedule) run script.now.setup.now manifest.now (S.file shelf.old) (S.ids shelf.old) outputs feed.old.programme
+        → AreCutSoFar (mode_of schedule) run.input manifest.now run.before (S.file shelf.new) }
     ensures never { S.tells → IfErr result (λ fault. IsChange fault → (run : Run)
-        → CanBegin S.tells (mode_of schedule) run script.now.setup.now plan.now (S.file shelf.old) (S.ids shelf.old) outputs feed.old.programme → ⊥) }
-    ensures only { OnlyGoesOn S.tells plan.now (ids_in feed.old.programme.captures) (S.file shelf.old) (S.file shelf.new) (S.ids shelf.old) (S.ids shelf.new) }
+        → CanBegin S.tells (mode_of schedule) run script.now.setup.now manifest.now (S.file shelf.old) (S.ids shelf.old) outputs feed.old.programme → ⊥) }
+    ensures only { OnlyGoesOn S.tells manifest.now (ids_in feed.old.programme.captures) (S.file shelf.old) (S.file shelf.new) (S.ids shelf.old) (S.ids shelf.new) }
     ensures port { IfErr result (λ fault. (p at : ℕ) → fault ≡ Fault.Changed p at → HasPort p (standings feed.old.programme.captures)) }
     ensures causes { IfErr result IsOfPlay }
     ensures faults { CountsFaults result (S.faults shelf.old) (S.faults shelf.new) }
 {
     runs_write_fronts();
     runs_tell_so_far();
-    let Ok(counted) = Counted::new(alloc, script.setup, plan) else {
+    let Ok(counted) = Counted::new(alloc, script.setup, manifest) else {
         return Err(Fault::Memory);
     };
-    let Ok(world) = open(alloc, script.setup, fate, script.fate, plan.options().trace) else {
+    let Ok(world) = open(
+        alloc,
+        script.setup,
+        fate,
+        script.fate,
+        manifest.options().trace,
+    ) else {
         return Err(Fault::Memory);
     };
-    play_world(alloc, shelf, plan, schedule, world, outputs, counted, feed)
+    play_world(
+        alloc, shelf, manifest, schedule, world, outputs, counted, feed,
+    )
 }

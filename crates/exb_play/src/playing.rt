@@ -9,7 +9,7 @@ ghost use Rattle.exb_outputs.specs.Order.{MakesInOrder};
 ghost use Rattle.exb_play.specs.Parts.{AreCutSoFar};
 ghost use Rattle.exb_writers.specs.Texts.{AreCutEagerly};
 ghost use Rattle.exb_play.specs.Outputs.{HasPlayed};
-ghost use Rattle.exb_outputs.specs.Plans.{OnlyPlanned};
+ghost use Rattle.exb_outputs.specs.Manifests.{OnlyListed};
 ghost use Rattle.exb_play.specs.Playing.{IsScript, mode_of};
 ghost use Rattle.exb_writers.specs.Counts.{IsSummary};
 ghost use Rattle.exb_inputs.specs.Reading.{IsChange, IsOfPlay};
@@ -26,7 +26,7 @@ use exb_fate::Fate;
 use exb_inputs::{Checked, Fault, open_all, start_of};
 use exb_merge::Programme;
 use exb_merge::laws::{merge_of_all, start_is_least};
-use exb_outputs::{Outputs, Plan, create_all};
+use exb_outputs::{Manifest, Outputs, create_all};
 use exb_shelf::Shelf;
 use exb_tables::Named;
 use std::alloc::Global;
@@ -35,7 +35,7 @@ use std::alloc::Global;
 fn play_into<S: Shelf>(
     alloc: Global,
     shelf: &mut S,
-    plan: &Plan,
+    manifest: &Manifest,
     script: &Script<'_>,
     names: &[Named],
     checked: &[Checked],
@@ -44,22 +44,22 @@ fn play_into<S: Shelf>(
     outputs: Outputs,
 ) -> Result<String, Fault>
     requires valid { IsValid script.now.setup.now }
-    requires tree { plan.now.tree ≡ shape_of script.now.setup.now }
+    requires tree { manifest.now.tree ≡ shape_of script.now.setup.now }
     requires script { IsScript (shape_of script.now.setup.now) script.now.commands.now script.now.fate.now }
-    requires captures { CanBeRead S.tells plan.now names.now (S.file shelf.old) checked.now }
+    requires captures { CanBeRead S.tells manifest.now names.now (S.file shelf.old) checked.now }
     requires fate { left fate < 2 ^ 56 }
-    requires ready { IsReady plan.now (S.ids shelf.old) outputs }
-    requires texts { (before : Files) × (S.tells → HasTexts plan.now (pieces_of outputs) before (S.file shelf.old) first_text) }
-    requires sent { HasSent plan.now outputs (λ q. []) }
-    ensures done { S.tells → IfOk result (λ line. (before : Files) → HasTexts plan.now (pieces_of outputs) before (S.file shelf.old) first_text
-        → HasPlayed (mode_of schedule) (input_from script.now.setup.now script.now.commands.now names.now (S.file shelf.old)) plan.now before (S.file shelf.new) (string_bytes line)) }
+    requires ready { IsReady manifest.now (S.ids shelf.old) outputs }
+    requires texts { (before : Files) × (S.tells → HasTexts manifest.now (pieces_of outputs) before (S.file shelf.old) first_text) }
+    requires sent { HasSent manifest.now outputs (λ q. []) }
+    ensures done { S.tells → IfOk result (λ line. (before : Files) → HasTexts manifest.now (pieces_of outputs) before (S.file shelf.old) first_text
+        → HasPlayed (mode_of schedule) (input_from script.now.setup.now script.now.commands.now names.now (S.file shelf.old)) manifest.now before (S.file shelf.new) (string_bytes line)) }
     ensures says { IfOk result (λ line. IsSummary (string_bytes line)) }
-    ensures fronts { S.tells → mode_of schedule ≡ Eager → (before : Files) → HasTexts plan.now (pieces_of outputs) before (S.file shelf.old) first_text
-        → AreCutEagerly (input_from script.now.setup.now script.now.commands.now names.now (S.file shelf.old)) plan.now before (S.file shelf.new) }
-    ensures so_far { S.tells → (before : Files) → HasTexts plan.now (pieces_of outputs) before (S.file shelf.old) first_text
-        → AreCutSoFar (mode_of schedule) (input_from script.now.setup.now script.now.commands.now names.now (S.file shelf.old)) plan.now before (S.file shelf.new) }
+    ensures fronts { S.tells → mode_of schedule ≡ Eager → (before : Files) → HasTexts manifest.now (pieces_of outputs) before (S.file shelf.old) first_text
+        → AreCutEagerly (input_from script.now.setup.now script.now.commands.now names.now (S.file shelf.old)) manifest.now before (S.file shelf.new) }
+    ensures so_far { S.tells → (before : Files) → HasTexts manifest.now (pieces_of outputs) before (S.file shelf.old) first_text
+        → AreCutSoFar (mode_of schedule) (input_from script.now.setup.now script.now.commands.now names.now (S.file shelf.old)) manifest.now before (S.file shelf.new) }
     ensures never { S.tells → IfErr result (λ fault. IsChange fault → ⊥) }
-    ensures others { S.tells → OnlyPlanned plan.now (S.file shelf.old) (S.file shelf.new) }
+    ensures others { S.tells → OnlyListed manifest.now (S.file shelf.old) (S.file shelf.new) }
     ensures opens { Opens (ReadsCapture names.now) (S.ids shelf.old) (S.ids shelf.new) }
     ensures port { IfErr result (λ fault. (p at : ℕ) → fault ≡ Fault.Changed p at → is_named names.now p ≡ true) }
     ensures causes { IfErr result IsOfPlay }
@@ -76,7 +76,7 @@ fn play_into<S: Shelf>(
         played: Vec::new(alloc),
     };
     play_feed(
-        alloc, shelf, plan, script, schedule, fate, outputs, &mut feed,
+        alloc, shelf, manifest, script, schedule, fate, outputs, &mut feed,
     )
 }
 
@@ -85,7 +85,7 @@ fn play_into<S: Shelf>(
 pub fn play<S: Shelf>(
     alloc: Global,
     shelf: &mut S,
-    plan: &Plan,
+    manifest: &Manifest,
     script: &Script<'_>,
     names: &[Named],
     checked: &[Checked],
@@ -93,23 +93,23 @@ pub fn play<S: Shelf>(
     fate: Box<dyn Fate>,
 ) -> Result<String, Fault>
     requires valid { IsValid script.now.setup.now }
-    requires tree { plan.now.tree ≡ shape_of script.now.setup.now }
+    requires tree { manifest.now.tree ≡ shape_of script.now.setup.now }
     requires script { IsScript (shape_of script.now.setup.now) script.now.commands.now script.now.fate.now }
-    requires captures { CanBeRead S.tells plan.now names.now (S.file shelf.old) checked.now }
+    requires captures { CanBeRead S.tells manifest.now names.now (S.file shelf.old) checked.now }
     requires fate { left fate < 2 ^ 56 }
-    ensures done { S.tells → IfOk result (λ line. HasPlayed (mode_of schedule) (input_from script.now.setup.now script.now.commands.now names.now (S.file shelf.old)) plan.now (S.file shelf.old) (S.file shelf.new) (string_bytes line)) }
+    ensures done { S.tells → IfOk result (λ line. HasPlayed (mode_of schedule) (input_from script.now.setup.now script.now.commands.now names.now (S.file shelf.old)) manifest.now (S.file shelf.old) (S.file shelf.new) (string_bytes line)) }
     ensures says { IfOk result (λ line. IsSummary (string_bytes line)) }
-    ensures fronts { S.tells → mode_of schedule ≡ Eager → AreCutEagerly (input_from script.now.setup.now script.now.commands.now names.now (S.file shelf.old)) plan.now (S.file shelf.old) (S.file shelf.new) }
-    ensures so_far { S.tells → AreCutSoFar (mode_of schedule) (input_from script.now.setup.now script.now.commands.now names.now (S.file shelf.old)) plan.now (S.file shelf.old) (S.file shelf.new) }
+    ensures fronts { S.tells → mode_of schedule ≡ Eager → AreCutEagerly (input_from script.now.setup.now script.now.commands.now names.now (S.file shelf.old)) manifest.now (S.file shelf.old) (S.file shelf.new) }
+    ensures so_far { S.tells → AreCutSoFar (mode_of schedule) (input_from script.now.setup.now script.now.commands.now names.now (S.file shelf.old)) manifest.now (S.file shelf.old) (S.file shelf.new) }
     ensures never { S.tells → IfErr result (λ fault. IsChange fault → ⊥) }
-    ensures only { OnlyPlays S.tells names.now plan.now (S.file shelf.old) (S.file shelf.new) (S.ids shelf.old) (S.ids shelf.new) }
-    ensures made { MakesInOrder plan.now result (S.ids shelf.old) (S.ids shelf.new) }
+    ensures only { OnlyPlays S.tells names.now manifest.now (S.file shelf.old) (S.file shelf.new) (S.ids shelf.old) (S.ids shelf.new) }
+    ensures made { MakesInOrder manifest.now result (S.ids shelf.old) (S.ids shelf.new) }
     ensures port { IfErr result (λ fault. (p at : ℕ) → fault ≡ Fault.Changed p at → is_named names.now p ≡ true) }
     ensures causes { IfErr result IsOfPlay }
     ensures faults { CountsFaults result (S.faults shelf.old) (S.faults shelf.new) }
 {
-    let outputs = create_all(alloc, shelf, plan)?;
+    let outputs = create_all(alloc, shelf, manifest)?;
     play_into(
-        alloc, shelf, plan, script, names, checked, schedule, fate, outputs,
+        alloc, shelf, manifest, script, names, checked, schedule, fate, outputs,
     )
 }

@@ -28,7 +28,7 @@ use Rattle.exb_auditing.specs.Scopes.{scope_of}
 use Rattle.exb_auditing.specs.Written.{AreWithin, FindsLegal, IsWritten, RunsAreFoundLegal}
 use Rattle.exb_run.specs.AfterRuns.{AuditsFollowRuns, AuditsWell, EndsBy}
 use Rattle.exb_run.specs.Answers.{IsOfInput, Stops, mode_for}
-use Rattle.exb_run.specs.Opening.{plan_for}
+use Rattle.exb_run.specs.Opening.{manifest_for}
 use Rattle.exb_run.specs.Outputs.{IsPlayed, IsTraced}
 use Rattle.exb_outputs.proofs.ByKind.{made_of_port}
 use Rattle.exb_outputs.proofs.Names.{of_kind}
@@ -41,7 +41,7 @@ module _ (t : Topology) (options : Options) (old new : Files) (line : List ℕ) 
   capture_kept : (q : ℕ) (name : List ℕ) → name_of t.captures q ≡ Some name → new name ≡ old name
   capture_kept q name e =
       let apart : IsApart (shape_of t.setup) t.prefix name = name_by (IsApart (shape_of t.setup) t.prefix) t.captures q name sound.apart e in
-      p.others name (λ o made. of_kind (plan_for t options) (λ k. name ≢ file_name t.prefix k) apart o made (made_of_port options (shape_of t.setup) o p.back.valid.tree made))
+      p.others name (λ o made. of_kind (manifest_for t options) (λ k. name ≢ file_name t.prefix k) apart o made (made_of_port options (shape_of t.setup) o p.back.valid.tree made))
 
   -- so the captures are as good, and give the same input
   good_by : (q : ℕ) (o : Option (List ℕ)) → name_of t.captures q ≡ o → IsGoodNamed o old → IsGoodNamed o new

@@ -17,7 +17,7 @@ use Rattle.exb_topology.specs.Sound.{IsApart, IsSound}
 use Rattle.exb_inputs.specs.declared.checked.Checked.{Checked}
 use Rattle.exb_inputs.specs.Checks.{AreChecked}
 use Rattle.exb_outputs.specs.Apart.{CanBeRead}
-use Rattle.exb_outputs.specs.Plans.{output_name, Planned, kind_at, output_count}
+use Rattle.exb_outputs.specs.Manifests.{output_name, Listed, kind_at, output_count}
 use Rattle.exb_play.specs.Playing.{IsScript}
 use Rattle.exb_outputs.proofs.ByKind.{kind_is}
 use Rattle.exb_outputs.proofs.Names.{of_kind}
@@ -25,19 +25,19 @@ use Rattle.exb_inputs.proofs.FaultLemmas.{name_by, named_by}
 
 -- ---- a topology
 -- no output has a name that is apart
-apart_from : (plan : Planned) (name : List ℕ) → IsApart plan.tree plan.prefix name → (j : ℕ) → j < output_count plan → name ≢ output_name plan j
-apart_from plan name apart j low =
-    let kind = kind_is plan j low in
-    of_kind plan (λ o. name ≢ file_name plan.prefix o) apart (kind_at plan j) kind.made kind.of_port
+apart_from : (manifest : Listed) (name : List ℕ) → IsApart manifest.tree manifest.prefix name → (j : ℕ) → j < output_count manifest → name ≢ output_name manifest j
+apart_from manifest name apart j low =
+    let kind = kind_is manifest j low in
+    of_kind manifest (λ o. name ≢ file_name manifest.prefix o) apart (kind_at manifest j) kind.made kind.of_port
 
-pub sound_captures : (tells : Type 0) (t : Topology) (plan : Planned) (file : Files) (captures : List Checked) → plan.tree ≡ shape_of t.setup → plan.prefix ≡ t.prefix → IsSound t
-    → AreChecked tells t.captures file captures → CanBeRead tells plan t.captures file captures
-sound_captures tells t plan file captures tree prefix sound checked = record {
+pub sound_captures : (tells : Type 0) (t : Topology) (manifest : Listed) (file : Files) (captures : List Checked) → manifest.tree ≡ shape_of t.setup → manifest.prefix ≡ t.prefix → IsSound t
+    → AreChecked tells t.captures file captures → CanBeRead tells manifest t.captures file captures
+sound_captures tells t manifest file captures tree prefix sound checked = record {
   checked = checked;
   external = λ q is. ap (λ (s : Shape). is_external s q) tree ∙ named_by (is_external (shape_of t.setup)) t.captures q sound.captures is;
   apart = λ q name named j low.
       let own : IsApart (shape_of t.setup) t.prefix name = name_by (IsApart (shape_of t.setup) t.prefix) t.captures q name sound.apart named in
-      apart_from plan name (subst (λ (s : Shape). IsApart s plan.prefix name) (sym tree) (subst (λ (p : List ℕ). IsApart (shape_of t.setup) p name) (sym prefix) own)) j low;
+      apart_from manifest name (subst (λ (s : Shape). IsApart s manifest.prefix name) (sym tree) (subst (λ (p : List ℕ). IsApart (shape_of t.setup) p name) (sym prefix) own)) j low;
 }
 
 pub sound_script : (t : Topology) → IsSound t → IsScript (shape_of t.setup) t.commands t.fate

@@ -11,11 +11,11 @@ use Rattle.exb_words.specs.Words.{Ask, Run, Check, Audit}
 use Rattle.exb_inputs.specs.declared.fault.Fault.{Fault}
 use Rattle.exb_inputs.specs.declared.fault.Fault.TheVariants.{Usage, Missing, Topology as BadTopology, Capture, Changed, Net as BadNet, Member as BadMember, MemberCapture, MemberChanged, Output, TooLarge, BadLine, Illegal, Read, Write, Memory}
 use Rattle.exb_words.specs.declared.asked.Options.{Options}
-use Rattle.exb_outputs.specs.Plans.{Planned, kind_at, output_count, output_name}
+use Rattle.exb_outputs.specs.Manifests.{Listed, kind_at, output_count, output_name}
 use Rattle.exb_inputs.specs.Checks.{AreAllGood}
 use Rattle.exb_inputs.specs.Reading.{IsOfPlay, IsOfAudit, IsOfCapture, IsOfPlaying}
 use Rattle.exb_play.specs.Shelving.{IsOfRun}
-use Rattle.exb_outputs.specs.Shelving.{WritesPlanned}
+use Rattle.exb_outputs.specs.Shelving.{WritesListed}
 use Rattle.exb_inputs.specs.Answers.{HoldsTopology, status_of}
 use Rattle.exb_auditing.specs.Reads.{ReadsEvidence}
 use Rattle.exb_auditing.specs.Scopes.{scope_of}
@@ -108,30 +108,30 @@ audit_three (Err Write) is = absurd is
 audit_three (Err Memory) is = λ e. omega arith
 
 -- ---- outputs
-output_is : (plan : Planned) (j : ℕ) → j < output_count plan → IsOutput plan.options plan.tree plan.prefix (output_name plan j)
-output_is plan j low = (kind_at plan j, (kind_is plan j low).made, refl)
+output_is : (manifest : Listed) (j : ℕ) → j < output_count manifest → IsOutput manifest.options manifest.tree manifest.prefix (output_name manifest j)
+output_is manifest j low = (kind_at manifest j, (kind_is manifest j low).made, refl)
 
--- an output of a plan is one of its topology
-pub planned_is_output : (plan : Planned) (options : Options) (t : Topology) → plan.options ≡ options → plan.prefix ≡ t.prefix → plan.tree ≡ shape_of t.setup → (i : Id)
-    → WritesPlanned plan i → WritesOutput options t i
-planned_is_output plan options t same prefix tree i w = record {
-  name = output_name plan w.at;
+-- an output of a manifest is one of its topology
+pub listed_is_output : (manifest : Listed) (options : Options) (t : Topology) → manifest.options ≡ options → manifest.prefix ≡ t.prefix → manifest.tree ≡ shape_of t.setup → (i : Id)
+    → WritesListed manifest i → WritesOutput options t i
+listed_is_output manifest options t same prefix tree i w = record {
+  name = output_name manifest w.at;
   output =
-      subst (λ (b : Options). IsOutput b (shape_of t.setup) t.prefix (output_name plan w.at)) same
-      (subst (λ (p : List ℕ). IsOutput plan.options (shape_of t.setup) p (output_name plan w.at)) prefix
-      (subst (λ (s : Shape). IsOutput plan.options s plan.prefix (output_name plan w.at)) tree (output_is plan w.at w.within)));
+      subst (λ (b : Options). IsOutput b (shape_of t.setup) t.prefix (output_name manifest w.at)) same
+      (subst (λ (p : List ℕ). IsOutput manifest.options (shape_of t.setup) p (output_name manifest w.at)) prefix
+      (subst (λ (s : Shape). IsOutput manifest.options s manifest.prefix (output_name manifest w.at)) tree (output_is manifest w.at w.within)));
   writes = w.writes;
 }
 
 -- captures are opened, and then these again and outputs
-pub opened_for : (plan : Planned) (options : Options) (t : Topology) (f : Files) (a b c : ℕ → Id) → plan.options ≡ options → plan.prefix ≡ t.prefix → plan.tree ≡ shape_of t.setup
-    → AreAllGood t.captures f → Opens (ReadsCapture t.captures) a b → Opens (IsOfRun t.captures plan) b c → Opens (IsOpenedFor options t f) a c
-opened_for plan options t f a b c same prefix tree good read played =
+pub opened_for : (manifest : Listed) (options : Options) (t : Topology) (f : Files) (a b c : ℕ → Id) → manifest.options ≡ options → manifest.prefix ≡ t.prefix → manifest.tree ≡ shape_of t.setup
+    → AreAllGood t.captures f → Opens (ReadsCapture t.captures) a b → Opens (IsOfRun t.captures manifest) b c → Opens (IsOpenedFor options t f) a c
+opened_for manifest options t f a b c same prefix tree good read played =
     opens_then (IsOpenedFor options t f) a b c
     (opens_weaker (ReadsCapture t.captures) (IsOpenedFor options t f) a b (λ i reads. inl reads) read)
-    (opens_weaker (IsOfRun t.captures plan) (IsOpenedFor options t f) b c (λ i opened. elim opened [
+    (opens_weaker (IsOfRun t.captures manifest) (IsOpenedFor options t f) b c (λ i opened. elim opened [
       | inl reads ↦ inl reads
-      | inr writes ↦ inr (good, planned_is_output plan options t same prefix tree i writes)
+      | inr writes ↦ inr (good, listed_is_output manifest options t same prefix tree i writes)
     ]) played)
 
 -- ---- by the status

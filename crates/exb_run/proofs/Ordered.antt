@@ -21,29 +21,29 @@ use Rattle.exb_inputs.specs.Shelving.{EndsAt, OpensEach, ReadsBelow, ReadsCaptur
 use Rattle.exb_inputs.proofs.EndingAt.{opened_higher}
 use Rattle.exb_inputs.proofs.FaultLemmas.{named_not}
 use Rattle.exb_outputs.specs.Order.{IsLate, MakesInOrder}
-use Rattle.exb_run.specs.Opening.{IsFileOf, IsRefusedEarly, MadeBehind, OpenedInOrder, ReadsUpTo, RunOpened, RunOpens, plan_for}
-use Rattle.exb_outputs.specs.Plans.{Planned}
+use Rattle.exb_run.specs.Opening.{IsFileOf, IsRefusedEarly, MadeBehind, OpenedInOrder, ReadsUpTo, RunOpened, RunOpens, manifest_for}
+use Rattle.exb_outputs.specs.Manifests.{Listed}
 use Rattle.exb_play.specs.Shelving.{IsOfRun}
 use Rattle.exb_outputs.proofs.Orders.{read_then_makes}
-use Rattle.exb_run.proofs.OpenLemmas.{planned_is_output}
+use Rattle.exb_run.proofs.OpenLemmas.{listed_is_output}
 use Rattle.exb_inputs.proofs.Outcomes.{Outcome}
 
 -- ---- one topology
-pub plan_is : (plan : Planned) (options : Options) (t : Topology) → plan.options ≡ options → plan.prefix ≡ t.prefix → plan.tree ≡ shape_of t.setup → plan ≡ plan_for t options
-plan_is plan options t same prefix tree =
-    ap (λ (o : Options). record { tree = plan.tree; prefix = plan.prefix; options = o }) same
-    ∙ ap (λ (p : List ℕ). record { tree = plan.tree; prefix = p; options = options }) prefix
+pub manifest_is : (manifest : Listed) (options : Options) (t : Topology) → manifest.options ≡ options → manifest.prefix ≡ t.prefix → manifest.tree ≡ shape_of t.setup → manifest ≡ manifest_for t options
+manifest_is manifest options t same prefix tree =
+    ap (λ (o : Options). record { tree = manifest.tree; prefix = manifest.prefix; options = o }) same
+    ∙ ap (λ (p : List ℕ). record { tree = manifest.tree; prefix = p; options = options }) prefix
     ∙ ap (λ (s : Shape). record { tree = s; prefix = t.prefix; options = options }) tree
 
 -- captures are opened, and then these again and outputs
-pub files_for : (plan : Planned) (options : Options) (t : Topology) (a b c : ℕ → Id) → plan.options ≡ options → plan.prefix ≡ t.prefix → plan.tree ≡ shape_of t.setup
-    → Opens (ReadsCapture t.captures) a b → Opens (IsOfRun t.captures plan) b c → Opens (IsFileOf options t) a c
-files_for plan options t a b c same prefix tree read played =
+pub files_for : (manifest : Listed) (options : Options) (t : Topology) (a b c : ℕ → Id) → manifest.options ≡ options → manifest.prefix ≡ t.prefix → manifest.tree ≡ shape_of t.setup
+    → Opens (ReadsCapture t.captures) a b → Opens (IsOfRun t.captures manifest) b c → Opens (IsFileOf options t) a c
+files_for manifest options t a b c same prefix tree read played =
     opens_then (IsFileOf options t) a b c
     (opens_weaker (ReadsCapture t.captures) (IsFileOf options t) a b (λ i reads. inl reads) read)
-    (opens_weaker (IsOfRun t.captures plan) (IsFileOf options t) b c (λ i opened. elim opened [
+    (opens_weaker (IsOfRun t.captures manifest) (IsFileOf options t) b c (λ i opened. elim opened [
       | inl reads ↦ inl reads
-      | inr writes ↦ inr (planned_is_output plan options t same prefix tree i writes)
+      | inr writes ↦ inr (listed_is_output manifest options t same prefix tree i writes)
     ]) played)
 
 pub captures_are_files : (options : Options) (t : Topology) (a b : ℕ → Id) → Opens (ReadsCapture t.captures) a b → Opens (IsFileOf options t) a b
@@ -105,7 +105,7 @@ module _ (tells : Type 0) (name : List ℕ) (options : Options) (o : Outcome) (t
       opens_then (ReadsUpTo name t p) a b c (opens_weaker (IsReadingOf name) (ReadsUpTo name t p) a b (λ i reads. inl reads) read)
       (opens_weaker (ReadsBelow t.captures (p + 1)) (ReadsUpTo name t p) b c (λ i reads. inr reads) opens)
 
-  pub run_opens : (tells → HoldsTopology name file t) → Opens (IsFileOf options t) b c → MakesInOrder (plan_for t options) o b c → MadeBehind t.captures b c
+  pub run_opens : (tells → HoldsTopology name file t) → Opens (IsFileOf options t) b c → MakesInOrder (manifest_for t options) o b c → MadeBehind t.captures b c
       → IfErr o (λ x. (p at : ℕ) → x ≡ Changed p at → is_named t.captures p ≡ true) → ((p : ℕ) (flaw : Flaw) → IsErrOf o (Capture p flaw) → (is_named t.captures p ≡ true) × Opens (ReadsBelow t.captures (p + 1)) b c)
       → (tells → (p : ℕ) (fault : Fault) → FirstFault t.captures file p fault → Opens (ReadsBelow t.captures (p + 1)) b c)
       → RunOpens tells name options o file a c
@@ -115,7 +115,7 @@ module _ (tells : Type 0) (name : List ℕ) (options : Options) (o : Outcome) (t
     opened =
         opens_then (λ i. IsReadingOf name i ⊎ IsFileOf options t i) a b c (opens_weaker (IsReadingOf name) (λ i. IsReadingOf name i ⊎ IsFileOf options t i) a b (λ i reads. inl reads) read)
         (opens_weaker (IsFileOf options t) (λ i. IsReadingOf name i ⊎ IsFileOf options t i) b c (λ i is. inr is) opened);
-    made = read_then_makes (IsReadingOf name) (plan_for t options) o a b c (λ i r. r.reads) read opened.kept made;
+    made = read_then_makes (IsReadingOf name) (manifest_for t options) o a b c (λ i r. r.reads) read opened.kept made;
     behind = behind_later (IsFileOf options t) name t.captures a b c read opened behind;
     changed = λ p at is. (subst (λ (q : Outcome). IfErr q (λ x. (p at : ℕ) → x ≡ Changed p at → is_named t.captures p ≡ true)) is port) p at refl;
     own = λ p flaw is. let found = own p flaw is in (found.0, upto p found.1);

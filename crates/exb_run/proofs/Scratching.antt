@@ -35,7 +35,7 @@ use Rattle.exb_inputs.specs.Checks.{AreAllGood, AreChecked, FirstFault, IsGood, 
 use Rattle.exb_outputs.specs.Apart.{CanBeRead}
 use Rattle.exb_inputs.specs.Inputs.{bytes_named, input_from, is_named, name_of, records_at}
 use Rattle.exb_play.specs.Outputs.{HasPlayed}
-use Rattle.exb_outputs.specs.Plans.{output_name, Planned, kind_at}
+use Rattle.exb_outputs.specs.Manifests.{output_name, Listed, kind_at}
 use Rattle.exb_run.specs.Scratch.{AreKept, IsKept, IsReadAs, KeepsFirst, KeepsMore, name_made}
 use Rattle.exb_inputs.specs.Shelving.{CountsFaults}
 use Rattle.exb_inputs.specs.Reading.{IsChange, IsOfPlay}
@@ -247,26 +247,26 @@ module _ (number : ℕ) (setup : Setup) (cs : List Capture) (names : List Named)
   first_byte : (o : Output) → get_or (file_name (codes "out/") o) 0 0 ≡ 111
   first_byte o = ap (λ (bs : List ℕ). get_or bs 0 0) (name_begins (codes "out/") o).1
 
-  apart_from : (plan : Planned) (q : ℕ) (name : List ℕ) → plan.prefix ≡ codes "out/" → name ≡ name_made q → (j : ℕ) → name ≢ output_name plan j
-  apart_from plan q name prefix own j e =
-      let same : name_made q ≡ file_name (codes "out/") (kind_at plan j) = sym own ∙ e ∙ ap (λ (p : List ℕ). file_name p (kind_at plan j)) prefix in
-      let byte : 105 ≡ 111 = ap (λ (bs : List ℕ). get_or bs 0 0) same ∙ first_byte (kind_at plan j) in
+  apart_from : (manifest : Listed) (q : ℕ) (name : List ℕ) → manifest.prefix ≡ codes "out/" → name ≡ name_made q → (j : ℕ) → name ≢ output_name manifest j
+  apart_from manifest q name prefix own j e =
+      let same : name_made q ≡ file_name (codes "out/") (kind_at manifest j) = sym own ∙ e ∙ ap (λ (p : List ℕ). file_name p (kind_at manifest j)) prefix in
+      let byte : 105 ≡ 111 = ap (λ (bs : List ℕ). get_or bs 0 0) same ∙ first_byte (kind_at manifest j) in
       omega (arith, byte)
 
-  pub made_captures : (plan : Planned) (captures : List Checked) → plan.tree ≡ shape_of setup → plan.prefix ≡ codes "out/" → AreChecked ⊤ names file captures → CanBeRead ⊤ plan names file captures
-  made_captures plan captures tree prefix checked = record {
+  pub made_captures : (manifest : Listed) (captures : List Checked) → manifest.tree ≡ shape_of setup → manifest.prefix ≡ codes "out/" → AreChecked ⊤ names file captures → CanBeRead ⊤ manifest names file captures
+  made_captures manifest captures tree prefix checked = record {
     checked = checked;
     external = λ q named. ap (λ (s : Shape). is_external s q) (tree ∙ ap shape_of is) ∙ external q named;
-    apart = λ q name named j low. apart_from plan q name prefix (kept q name named).own j;
+    apart = λ q name named j low. apart_from manifest q name prefix (kept q name named).own j;
   }
 
 -- ---- how the run of what was made ends
 -- its line is the summary of the eager run
-pub eager_says : (o : Outcome) (i j : Input) (plan : Planned) (old new : Files) → i ≡ j → IfOk o (λ line. HasPlayed Eager i plan old new (string_bytes line))
+pub eager_says : (o : Outcome) (i j : Input) (manifest : Listed) (old new : Files) → i ≡ j → IfOk o (λ line. HasPlayed Eager i manifest old new (string_bytes line))
     → IfOk o (λ line. string_bytes line ≡ eager_summary j)
-eager_says (Ok line) i j plan old new is played =
+eager_says (Ok line) i j manifest old new is played =
     played.says ∙ ap (λ (h : History). summary (tree_of i) (basis_of i) h) (played.eager refl) ∙ ap eager_summary is
-eager_says (Err x) i j plan old new is played = tt
+eager_says (Err x) i j manifest old new is played = tt
 
 -- a shelf that never fails counts no failure
 module _ {X : Type 0} (x : Fault) (m n : ℕ) (counts : CountsFaults {X = X} (Err x) (record { missing = m; reads = 0; writes = 0 }) (record { missing = n; reads = 0; writes = 0 })) where

@@ -11,7 +11,7 @@ use Rattle.exb_words.specs.Words.{Ask, Run, Check, Make, Audit, Net}
 use Rattle.exb_auditing.specs.Reads.{ReadsEvidence}
 use Rattle.exb_auditing.specs.Scopes.{scope_of}
 use Rattle.exb_outputs.specs.Order.{MadeInOrder, MakesInOrder}
-use Rattle.exb_outputs.specs.Plans.{Planned, output_count}
+use Rattle.exb_outputs.specs.Manifests.{Listed, output_count}
 use Rattle.exb_inputs.specs.declared.fault.Fault.{Fault}
 use Rattle.exb_inputs.specs.declared.fault.Fault.TheVariants.{Capture, Changed}
 use Rattle.exb_inputs.specs.declared.fault.Flaw.{Flaw}
@@ -99,8 +99,8 @@ pub record OpensBy (tells : Type 0) (status : ℕ) (a : Option Ask) (file : File
 
 -- ---- in order, over every shelf
 -- what a run of a topology writes
-abbrev pub plan_for : Topology → Options → Planned
-plan_for t options = record { tree = shape_of t.setup; prefix = t.prefix; options = options }
+abbrev pub manifest_for : Topology → Options → Listed
+manifest_for t options = record { tree = shape_of t.setup; prefix = t.prefix; options = options }
 
 -- an id to read a capture of a topology, or to write one of its outputs
 abbrev pub IsFileOf : Options → Topology → Id → Type 0
@@ -126,7 +126,7 @@ pub record RunOpens (tells : Type 0) (name : List ℕ) (options : Options) (o : 
   pub topology : Topology
   pub holds : tells → HoldsTopology name file topology
   pub opened : Opens (λ i. IsReadingOf name i ⊎ IsFileOf options topology i) given ids
-  pub made : MakesInOrder (plan_for topology options) o given ids
+  pub made : MakesInOrder (manifest_for topology options) o given ids
   pub behind : MadeBehind topology.captures given ids
   pub changed : (p at : ℕ) → IsErrOf o (Changed p at) → is_named topology.captures p ≡ true
   pub own : (p : ℕ) (flaw : Flaw) → IsErrOf o (Capture p flaw) → (is_named topology.captures p ≡ true) × Opens (ReadsUpTo name topology p) given ids
@@ -150,9 +150,9 @@ pub record RunOpened (tells printing : Type 0) (name : List ℕ) (options : Opti
   pub holds : tells → HoldsTopology name file topology
   pub opened : Opens (λ i. IsReadingOf name i ⊎ IsFileOf options topology i) given ids
   pub count : ℕ
-  pub made : MadeInOrder (plan_for topology options) count given ids
+  pub made : MadeInOrder (manifest_for topology options) count given ids
   pub behind : MadeBehind topology.captures given ids
-  pub all : (status ≡ 0) ⊎ (status ≡ 10) → count ≡ output_count (plan_for topology options)
+  pub all : (status ≡ 0) ⊎ (status ≡ 10) → count ≡ output_count (manifest_for topology options)
   pub four : status ≡ 4 → (p : ℕ) × (flaw : Flaw) × (is_named topology.captures p ≡ true) × Opens (ReadsUpTo name topology p) given ids × (printing → after ≡ before ++ fault_line (Capture p flaw))
   pub ten : status ≡ 10 → (p : ℕ) × (byte : ℕ) × (p < 4160) × (is_named topology.captures p ≡ true) × (printing → after ≡ before ++ fault_line (Changed p byte))
   pub first : tells → (p : ℕ) (fault : Fault) → FirstFault topology.captures file p fault → Opens (ReadsUpTo name topology p) given ids

@@ -6,7 +6,7 @@ use Rattle.exb_model.specs.Traces.{TraceLine}
 use Rattle.exb_model.specs.Tree.{Shape}
 use Rattle.exb_inputs.specs.Answers.{HoldsTopology}
 use Rattle.exb_inputs.specs.Inputs.{input_of}
-use Rattle.exb_outputs.specs.Plans.{IsMade}
+use Rattle.exb_outputs.specs.Manifests.{IsMade}
 use Rattle.exb_outputs.specs.Writing.{first_text}
 use Rattle.exb_shelf.specs.Files.{Files, SameFiles}
 use Rattle.exb_text.specs.declared.output.Output.{Output}

@@ -11,7 +11,7 @@ use exb_made::laws::arrives_at_externals;
 use exb_made::{Capture, make};
 use exb_model::memory::NoMemory;
 use exb_model::text::Text;
-use exb_outputs::Plan;
+use exb_outputs::Manifest;
 use exb_play::{Schedule, Script, play};
 use exb_shelf::ScratchShelf;
 use exb_tables::Named;
@@ -65,7 +65,7 @@ pub(crate) fn make_input(alloc: Global, number: u64, fate: Box<dyn Fate>) -> Res
     let mut shelf = ScratchShelf::new(alloc);
     let names = put_all(alloc, &mut shelf, input.captures.as_slice())?;
     let checked = check_captures(alloc, &mut shelf, names.as_slice())?;
-    let plan = Plan::new(alloc, &input.setup, PREFIX, Options::eager(false))?;
+    let manifest = Manifest::new(alloc, &input.setup, PREFIX, Options::eager(false))?;
     let script = Script {
         setup: &input.setup,
         commands: input.commands.as_slice(),
@@ -74,7 +74,7 @@ pub(crate) fn make_input(alloc: Global, number: u64, fate: Box<dyn Fate>) -> Res
     play(
         alloc,
         &mut shelf,
-        &plan,
+        &manifest,
         &script,
         names.as_slice(),
         checked.as_slice(),

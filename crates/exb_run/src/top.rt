@@ -16,7 +16,7 @@ ghost use Rattle.exb_outputs.specs.Names.{OnlyOutputs};
 ghost use Rattle.exb_inputs.specs.Checks.{AreAllGood, FirstFault};
 ghost use Rattle.exb_inputs.specs.Shelving.{ReadsBelow, ReadsCapture, CountsFaults};
 ghost use Rattle.exb_outputs.specs.Order.{MakesInOrder};
-ghost use Rattle.exb_run.specs.Opening.{IsFileOf, IsOpenedFor, MadeBehind, OpenedInOrder, OpensBy, OpensInOrder, plan_for};
+ghost use Rattle.exb_run.specs.Opening.{IsFileOf, IsOpenedFor, MadeBehind, OpenedInOrder, OpensBy, OpensInOrder, manifest_for};
 ghost use Rattle.exb_inputs.specs.Reading.{IsOfPlay, IsOfPlaying};
 ghost use Rattle.exb_run.specs.Answers.{asked, mode_for, AreFronts, eager_summary, IsDone, IsRun, CanBeDone, OnlyAsked, Stops, StopsWith, IsText, IsOfInput, RoseBy, IsStatus};
 ghost use Rattle.exb_inputs.specs.Answers.{fault_status, status_of, fault_line, SaysBy};
@@ -36,7 +36,7 @@ use crate::making::make_input;
 use crate::net::run_net;
 use exb_fate::Fate;
 use exb_inputs::{Fault, check_captures, read_topology, report};
-use exb_outputs::Plan;
+use exb_outputs::Manifest;
 use exb_play::{Schedule, Script, play};
 use exb_shelf::{Shelf, Sink};
 use exb_topology::Topology;
@@ -88,7 +88,7 @@ fn play_topology<S: Shelf>(
     ensures opened { IfErr result (λ fault. IsOfPlay fault ⊎ Opens (ReadsCapture topology.now.captures) (S.ids shelf.old) (S.ids shelf.new)) }
     ensures played { S.tells → Opens (IsOpenedFor options topology.now (S.file shelf.old)) (S.ids shelf.old) (S.ids shelf.new) }
     ensures files { Opens (IsFileOf options topology.now) (S.ids shelf.old) (S.ids shelf.new) }
-    ensures made { MakesInOrder (plan_for topology.now options) result (S.ids shelf.old) (S.ids shelf.new) }
+    ensures made { MakesInOrder (manifest_for topology.now options) result (S.ids shelf.old) (S.ids shelf.new) }
     ensures behind { MadeBehind topology.now.captures (S.ids shelf.old) (S.ids shelf.new) }
     ensures port { IfErr result (λ fault. (p at : ℕ) → fault ≡ Fault.Changed p at → is_named topology.now.captures p ≡ true) }
     ensures own { (p : ℕ) (flaw : Flaw) → IsErrOf result (Fault.Capture p flaw) → (is_named topology.now.captures p ≡ true)
@@ -98,7 +98,7 @@ fn play_topology<S: Shelf>(
     ensures faults { CountsFaults result (S.faults shelf.old) (S.faults shelf.new) }
 {
     let checked = check_captures(alloc, shelf, topology.captures.as_slice())?;
-    let plan = Plan::new(alloc, &topology.setup, topology.prefix.as_str(), options)?;
+    let manifest = Manifest::new(alloc, &topology.setup, topology.prefix.as_str(), options)?;
     let script = Script {
         setup: &topology.setup,
         commands: topology.commands.as_slice(),
@@ -108,7 +108,7 @@ fn play_topology<S: Shelf>(
     play(
         alloc,
         shelf,
-        &plan,
+        &manifest,
         &script,
         topology.captures.as_slice(),
         checked.as_slice(),

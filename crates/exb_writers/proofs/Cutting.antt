@@ -12,7 +12,7 @@ use Rattle.exb_text.specs.declared.output.Output.TheVariants as output
 use Rattle.exb_counters.specs.Counters.{count_text}
 use Rattle.exb_writers.specs.Texts.{AreCutEagerly, GrowsEagerly, output_text, IsWrittenAlong, text_so_far}
 use Rattle.exb_outputs.specs.Names.{IsCut}
-use Rattle.exb_outputs.specs.Plans.{output_name, Planned, kind_at, IsMade}
+use Rattle.exb_outputs.specs.Manifests.{output_name, Listed, kind_at, IsMade}
 use Rattle.exb_outputs.specs.Writing.{AreCut, HasTexts, first_text}
 use Rattle.exb_outputs.proofs.Cutting.{GoesOnAs, cut_longer, cut_now}
 use Rattle.exb_outputs.proofs.Texts.{capture_text-append, capture_text-nil}
@@ -29,13 +29,13 @@ any_lines i h lines output.Journal grows = refl
 any_lines i h lines output.Trace grows = absurd grows
 any_lines i h lines output.Counters grows = absurd grows
 
-pub but_the_trace : (i : Input) (plan : Planned) (lines : List TraceLine) (f g : Files) → AreCut plan f g (output_text i (eager i) lines) → AreCutEagerly i plan f g
-but_the_trace i plan lines f g p j low grows =
-    subst (λ (text : List ℕ). IsCut (f (output_name plan j)) (g (output_name plan j)) text) (any_lines i (eager i) lines (kind_at plan j) grows) (p.each j low)
+pub but_the_trace : (i : Input) (manifest : Listed) (lines : List TraceLine) (f g : Files) → AreCut manifest f g (output_text i (eager i) lines) → AreCutEagerly i manifest f g
+but_the_trace i manifest lines f g p j low grows =
+    subst (λ (text : List ℕ). IsCut (f (output_name manifest j)) (g (output_name manifest j)) text) (any_lines i (eager i) lines (kind_at manifest j) grows) (p.each j low)
 
 -- of one that made its outputs alone
-pub made_eagerly : (i : Input) (plan : Planned) (f g : Files) → ((text : Output → List ℕ) → AreCut plan f g text) → AreCutEagerly i plan f g
-made_eagerly i plan f g cut = but_the_trace i plan [] f g (cut (output_text i (eager i) []))
+pub made_eagerly : (i : Input) (manifest : Listed) (f g : Files) → ((text : Output → List ℕ) → AreCut manifest f g text) → AreCutEagerly i manifest f g
+made_eagerly i manifest f g cut = but_the_trace i manifest [] f g (cut (output_text i (eager i) []))
 
 first_goes : (i : Input) (o : Output) → GoesOnAs first_text (output_text i (eager i) []) o
 first_goes i (output.Capture q) =
@@ -45,9 +45,9 @@ first_goes i output.Journal = (journal_text (eager i), refl)
 first_goes i output.Trace = (trace_text [], refl)
 first_goes i output.Counters = (count_text (tree_of i) (basis_of i) (eager i), refl)
 
-pub begun_eagerly : (i : Input) (plan : Planned) (f g : Files) (pieces : List (List ℕ)) → HasTexts plan pieces f g first_text → AreCutEagerly i plan f g
-begun_eagerly i plan f g pieces held =
-    but_the_trace i plan [] f g (cut_longer plan f g first_text (output_text i (eager i) []) (λ j l. first_goes i (kind_at plan j)) (cut_now plan f g pieces first_text held))
+pub begun_eagerly : (i : Input) (manifest : Listed) (f g : Files) (pieces : List (List ℕ)) → HasTexts manifest pieces f g first_text → AreCutEagerly i manifest f g
+begun_eagerly i manifest f g pieces held =
+    but_the_trace i manifest [] f g (cut_longer manifest f g first_text (output_text i (eager i) []) (λ j l. first_goes i (kind_at manifest j)) (cut_now manifest f g pieces first_text held))
 
 -- ---- texts so far and over a history
 -- where what has left goes on, and so does the journal, the texts that grow do

@@ -12,7 +12,7 @@ use Rattle.exb_resting.specs.Flight.Showing.{left_at}
 use Rattle.exb_shelf.specs.Files.{Files}
 use Rattle.exb_text.specs.declared.output.Output.{Output}
 use Rattle.exb_text.specs.declared.output.Output.TheVariants as output
-use Rattle.exb_outputs.specs.Plans.{Planned, kind_at}
+use Rattle.exb_outputs.specs.Manifests.{Listed, kind_at}
 use Rattle.exb_outputs.specs.declared.outputs.Outputs.{Outputs}
 use Rattle.exb_outputs.specs.Sent.{HasSent, sent_more}
 use Rattle.exb_outputs.specs.Writing.{AreCut, CanBeRecorded, HasTexts, with_more}
@@ -29,8 +29,8 @@ copies_none text output.Journal = refl
 copies_none text output.Trace = refl
 copies_none text output.Counters = refl
 
-pub no_copies : (plan : Planned) (f g : Files) (pieces : List (List ℕ)) (text : Output → List ℕ) → HasTexts plan pieces f g text → HasTexts plan pieces f g (with_copies text [])
-no_copies plan f g pieces text = kinds_same plan f g pieces text (with_copies text []) (λ o. sym (copies_none text o))
+pub no_copies : (manifest : Listed) (f g : Files) (pieces : List (List ℕ)) (text : Output → List ℕ) → HasTexts manifest pieces f g text → HasTexts manifest pieces f g (with_copies text [])
+no_copies manifest f g pieces text = kinds_same manifest f g pieces text (with_copies text []) (λ o. sym (copies_none text o))
 
 -- in two parts
 pub copies_more : (text : Output → List ℕ) (xs ys : List Leaving) (o : Output) → with_copies (with_copies text xs) ys o ≡ with_copies text (xs ++ ys) o
@@ -71,8 +71,8 @@ goes_copies text gone output.Counters = goes_same text (with_copies text gone) o
 goes_more_copies : (text : Output → List ℕ) (xs ys : List Leaving) (o : Output) → GoesOnAs (with_copies text xs) (with_copies text (xs ++ ys)) o
 goes_more_copies text xs ys o = let on = goes_copies (with_copies text xs) ys o in (on.0, sym (copies_more text xs ys o) ∙ on.1)
 
-pub cut_frames : (plan : Planned) (f g : Files) (text : Output → List ℕ) (left : List Left) → AreCut plan f g text → AreCut plan f g (with_left_frames text left)
-cut_frames plan f g text left = cut_longer plan f g text (with_left_frames text left) (λ k l. goes_copies text (all_left left) (kind_at plan k))
+pub cut_frames : (manifest : Listed) (f g : Files) (text : Output → List ℕ) (left : List Left) → AreCut manifest f g text → AreCut manifest f g (with_left_frames text left)
+cut_frames manifest f g text left = cut_longer manifest f g text (with_left_frames text left) (λ k l. goes_copies text (all_left left) (kind_at manifest k))
 
 -- ---- the ports of one row
 module _ (x : Left) (port : ℕ) (ports rest : List ℕ) (is : ports ≡ port ∷ rest) where
@@ -82,34 +82,34 @@ module _ (x : Left) (port : ℕ) (ports rest : List ℕ) (is : ports ≡ port �
   next_copy : copies_at x.moment x.bytes ports ≡ copy ∷ copies_at x.moment x.bytes rest
   next_copy = ap (copies_at x.moment x.bytes) is
 
-  module _ (plan : Planned) where
-    pub copy_can : All (λ (y : Leaving). CanBeRecorded plan y.port y.moment y.bytes) (copies_at x.moment x.bytes ports) → CanBeRecorded plan port x.moment x.bytes
+  module _ (manifest : Listed) where
+    pub copy_can : All (λ (y : Leaving). CanBeRecorded manifest y.port y.moment y.bytes) (copies_at x.moment x.bytes ports) → CanBeRecorded manifest port x.moment x.bytes
     copy_can all =
-        let P : Leaving → Type 0 = λ (y : Leaving). CanBeRecorded plan y.port y.moment y.bytes in
+        let P : Leaving → Type 0 = λ (y : Leaving). CanBeRecorded manifest y.port y.moment y.bytes in
         (subst (All P) next_copy all) 0 copy (omega arith)
 
-    pub rest_can : All (λ (y : Leaving). CanBeRecorded plan y.port y.moment y.bytes) (copies_at x.moment x.bytes ports) → All (λ (y : Leaving). CanBeRecorded plan y.port y.moment y.bytes) (copies_at x.moment x.bytes rest)
+    pub rest_can : All (λ (y : Leaving). CanBeRecorded manifest y.port y.moment y.bytes) (copies_at x.moment x.bytes ports) → All (λ (y : Leaving). CanBeRecorded manifest y.port y.moment y.bytes) (copies_at x.moment x.bytes rest)
     rest_can all k d low =
-        let P : Leaving → Type 0 = λ (y : Leaving). CanBeRecorded plan y.port y.moment y.bytes in
+        let P : Leaving → Type 0 = λ (y : Leaving). CanBeRecorded manifest y.port y.moment y.bytes in
         (subst (All P) next_copy all) (suc k) d (omega (arith, low))
 
   -- what was done, and one more, and then the rest, are all
   pub copies_on : (done : List Leaving) → done ++ copies_at x.moment x.bytes ports ≡ copies_of x → (done ++ copy ∷ []) ++ copies_at x.moment x.bytes rest ≡ copies_of x
   copies_on done all = append_assoc done (copy ∷ []) (copies_at x.moment x.bytes rest) ∙ ap (λ (ys : List Leaving). done ++ ys) (sym next_copy) ∙ all
 
-  pub texts_on : (plan : Planned) (f g : Files) (pieces : List (List ℕ)) (text : Output → List ℕ) (done : List Leaving) (written : List ℕ) → record_text (x.moment, x.bytes) ≡ written
-      → HasTexts plan pieces f g (with_more (with_copies text done) (output.Capture port) written) → HasTexts plan pieces f g (with_copies text (done ++ copy ∷ []))
-  texts_on plan f g pieces text done written same =
-      kinds_same plan f g pieces (with_more (with_copies text done) (output.Capture port) written) (with_copies text (done ++ copy ∷ []))
+  pub texts_on : (manifest : Listed) (f g : Files) (pieces : List (List ℕ)) (text : Output → List ℕ) (done : List Leaving) (written : List ℕ) → record_text (x.moment, x.bytes) ≡ written
+      → HasTexts manifest pieces f g (with_more (with_copies text done) (output.Capture port) written) → HasTexts manifest pieces f g (with_copies text (done ++ copy ∷ []))
+  texts_on manifest f g pieces text done written same =
+      kinds_same manifest f g pieces (with_more (with_copies text done) (output.Capture port) written) (with_copies text (done ++ copy ∷ []))
       (λ o. ap (λ (r : List ℕ). with_more (with_copies text done) (output.Capture port) r o) (sym same) ∙ copy_more text done copy o)
 
-  pub cut_on : (plan : Planned) (f g : Files) (text : Output → List ℕ) (done : List Leaving) (written : List ℕ) → record_text (x.moment, x.bytes) ≡ written
+  pub cut_on : (manifest : Listed) (f g : Files) (text : Output → List ℕ) (done : List Leaving) (written : List ℕ) → record_text (x.moment, x.bytes) ≡ written
       → done ++ copies_at x.moment x.bytes ports ≡ copies_of x
-      → AreCut plan f g (with_more (with_copies text done) (output.Capture port) written) → AreCut plan f g (with_copies text (copies_of x))
-  cut_on plan f g text done written same all =
-      cut_longer plan f g (with_more (with_copies text done) (output.Capture port) written) (with_copies text (copies_of x))
+      → AreCut manifest f g (with_more (with_copies text done) (output.Capture port) written) → AreCut manifest f g (with_copies text (copies_of x))
+  cut_on manifest f g text done written same all =
+      cut_longer manifest f g (with_more (with_copies text done) (output.Capture port) written) (with_copies text (copies_of x))
       (λ k l.
-      let o : Output = kind_at plan k in
+      let o : Output = kind_at manifest k in
       let on = goes_more_copies text (done ++ copy ∷ []) (copies_at x.moment x.bytes rest) o in
       let was : with_more (with_copies text done) (output.Capture port) written o ≡ with_copies text (done ++ copy ∷ []) o =
       ap (λ (r : List ℕ). with_more (with_copies text done) (output.Capture port) r o) (sym same) ∙ copy_more text done copy o in (
@@ -117,10 +117,10 @@ module _ (x : Left) (port : ℕ) (ports rest : List ℕ) (is : ports ≡ port �
         ap (λ (ys : List Leaving). with_copies text ys o) (sym (copies_on done all)) ∙ on.1 ∙ ap (λ (xs : List ℕ). xs ++ on.0) (sym was),
       ))
 
-  pub sent_on : (plan : Planned) (o : Outputs) (sent : ℕ → List Sent) (done : List Leaving)
-      → HasSent plan o (sent_more (sent_with_copies sent done) port (x.moment, x.bytes)) → HasSent plan o (sent_with_copies sent (done ++ copy ∷ []))
-  sent_on plan o sent done =
-      sent_as plan o (sent_more (sent_with_copies sent done) port (x.moment, x.bytes)) (sent_with_copies sent (done ++ copy ∷ []))
+  pub sent_on : (manifest : Listed) (o : Outputs) (sent : ℕ → List Sent) (done : List Leaving)
+      → HasSent manifest o (sent_more (sent_with_copies sent done) port (x.moment, x.bytes)) → HasSent manifest o (sent_with_copies sent (done ++ copy ∷ []))
+  sent_on manifest o sent done =
+      sent_as manifest o (sent_more (sent_with_copies sent done) port (x.moment, x.bytes)) (sent_with_copies sent (done ++ copy ∷ []))
       (λ q. by_port q (port == q) ∙ ap (λ (xs : List Sent). sent q ++ xs) (sym (left_at-append q done (copy ∷ []))))
     where
       by_port : (q : ℕ) (b : Bool) → (if b then (sent q ++ left_at q done) ++ (x.moment, x.bytes) ∷ [] else sent q ++ left_at q done) ≡ sent q ++ (left_at q done ++ (if b then (x.moment, x.bytes) ∷ [] else []))
@@ -142,22 +142,22 @@ next_row left i x inside is =
     ∙ ap (λ (y : Left). all_left (take i left ++ y ∷ [])) is
     ∙ ap all_left (sym (take_more left i x inside))
 
-pub more_frames : (plan : Planned) (f g : Files) (pieces : List (List ℕ)) (text : Output → List ℕ) (left : List Left) (i : ℕ) (x : Left)
+pub more_frames : (manifest : Listed) (f g : Files) (pieces : List (List ℕ)) (text : Output → List ℕ) (left : List Left) (i : ℕ) (x : Left)
     → i < length left → x ≡ get_or left i x
-    → HasTexts plan pieces f g (with_copies (with_left_frames text (take i left)) (copies_of x))
-    → HasTexts plan pieces f g (with_left_frames text (take (i + 1) left))
-more_frames plan f g pieces text left i x inside is =
-    kinds_same plan f g pieces (with_copies (with_left_frames text (take i left)) (copies_of x)) (with_left_frames text (take (i + 1) left))
+    → HasTexts manifest pieces f g (with_copies (with_left_frames text (take i left)) (copies_of x))
+    → HasTexts manifest pieces f g (with_left_frames text (take (i + 1) left))
+more_frames manifest f g pieces text left i x inside is =
+    kinds_same manifest f g pieces (with_copies (with_left_frames text (take i left)) (copies_of x)) (with_left_frames text (take (i + 1) left))
     (λ o. copies_more text (all_left (take i left)) (copies_of x) o ∙ ap (λ (ys : List Leaving). with_copies text ys o) (next_row left i x inside is))
 
-pub cut_left : (plan : Planned) (f g : Files) (text : Output → List ℕ) (left : List Left) (i : ℕ) (x : Left) → i < length left → x ≡ get_or left i x
-    → AreCut plan f g (with_copies (with_left_frames text (take i left)) (copies_of x))
-    → AreCut plan f g (with_left_frames text left)
-cut_left plan f g text left i x inside is =
+pub cut_left : (manifest : Listed) (f g : Files) (text : Output → List ℕ) (left : List Left) (i : ℕ) (x : Left) → i < length left → x ≡ get_or left i x
+    → AreCut manifest f g (with_copies (with_left_frames text (take i left)) (copies_of x))
+    → AreCut manifest f g (with_left_frames text left)
+cut_left manifest f g text left i x inside is =
     let was : Output → List ℕ = with_copies (with_left_frames text (take i left)) (copies_of x) in
-    cut_longer plan f g was (with_left_frames text left)
+    cut_longer manifest f g was (with_left_frames text left)
     (λ k l.
-    let o : Output = kind_at plan k in
+    let o : Output = kind_at manifest k in
     let now = take (i + 1) left in
     let later = drop (i + 1) left in
     let on = goes_more_copies text (all_left now) (all_left later) o in
@@ -171,10 +171,10 @@ cut_left plan f g text left i x inside is =
 pub sent_none : (sent : ℕ → List Sent) (q : ℕ) → sent q ≡ sent_with_copies sent [] q
 sent_none sent q = sym (append-nil (sent q))
 
-pub frames_sent : (plan : Planned) (o : Outputs) (sent : ℕ → List Sent) (left : List Left) (i : ℕ) (x : Left) → i < length left → x ≡ get_or left i x
-    → HasSent plan o (sent_with_copies (sent_with sent (take i left)) (copies_of x)) → HasSent plan o (sent_with sent (take (i + 1) left))
-frames_sent plan o sent left i x inside is =
-    sent_as plan o (sent_with_copies (sent_with sent (take i left)) (copies_of x)) (sent_with sent (take (i + 1) left))
+pub frames_sent : (manifest : Listed) (o : Outputs) (sent : ℕ → List Sent) (left : List Left) (i : ℕ) (x : Left) → i < length left → x ≡ get_or left i x
+    → HasSent manifest o (sent_with_copies (sent_with sent (take i left)) (copies_of x)) → HasSent manifest o (sent_with sent (take (i + 1) left))
+frames_sent manifest o sent left i x inside is =
+    sent_as manifest o (sent_with_copies (sent_with sent (take i left)) (copies_of x)) (sent_with sent (take (i + 1) left))
     (λ q. append_assoc (sent q) (left_at q (all_left (take i left))) (left_at q (copies_of x))
     ∙ ap (λ (xs : List Sent). sent q ++ xs) (sym (left_at-append q (all_left (take i left)) (copies_of x)))
     ∙ ap (λ (ys : List Leaving). sent q ++ left_at q ys) (next_row left i x inside is))

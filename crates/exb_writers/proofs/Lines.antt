@@ -8,18 +8,18 @@ use Rattle.exb_text.specs.declared.output.Output.{Output}
 use Rattle.exb_text.specs.declared.output.Output.TheVariants as output
 use Rattle.exb_counters.specs.declared.counters.Counts5.{Counts5}
 use Rattle.exb_counters.specs.Counters.{count_line, count_lines}
-use Rattle.exb_outputs.specs.Plans.{Planned}
+use Rattle.exb_outputs.specs.Manifests.{Listed}
 use Rattle.exb_outputs.specs.Writing.{HasTexts, with_more, lines_of, AreCut}
 use Rattle.exb_outputs.proofs.OutputLemmas.{more_behind, texts_more}
 use Rattle.exb_outputs.proofs.Cutting.{cut_behind, texts_in_parts}
 
 -- the line of one event more
-pub more_lines : (plan : Planned) (f g : Files) (pieces : List (List ℕ)) (text : Output → List ℕ) (events : List Event) (i : ℕ) (e : Event)
+pub more_lines : (manifest : Listed) (f g : Files) (pieces : List (List ℕ)) (text : Output → List ℕ) (events : List Event) (i : ℕ) (e : Event)
     → i < length events → e ≡ get_or events i e
-    → HasTexts plan pieces f g (with_more (with_more text output.Journal (lines_of (take i events))) output.Journal (line_of e ++ 10 ∷ []))
-    → HasTexts plan pieces f g (with_more text output.Journal (lines_of (take (i + 1) events)))
-more_lines plan f g pieces text events i e inside is =
-    more_behind plan f g pieces text output.Journal (lines_of (take i events)) (line_of e ++ 10 ∷ []) (lines_of (take (i + 1) events))
+    → HasTexts manifest pieces f g (with_more (with_more text output.Journal (lines_of (take i events))) output.Journal (line_of e ++ 10 ∷ []))
+    → HasTexts manifest pieces f g (with_more text output.Journal (lines_of (take (i + 1) events)))
+more_lines manifest f g pieces text events i e inside is =
+    more_behind manifest f g pieces text output.Journal (lines_of (take i events)) (line_of e ++ 10 ∷ []) (lines_of (take (i + 1) events))
     (texts_more (λ (x : Event). line_of x ++ 10 ∷ []) events i e inside is)
 
 -- one line of the trace more
@@ -32,28 +32,28 @@ pub trace_more : (lines : List TraceLine) (i : ℕ) (one : TraceLine) → i < le
 unfolding trace_text
 trace_more lines i one inside is = texts_more (λ (x : TraceLine). trace_line x ++ 10 ∷ []) lines i one inside is
 
-pub more_trace : (plan : Planned) (f g : Files) (pieces : List (List ℕ)) (text : Output → List ℕ) (lines : List TraceLine) (i : ℕ) (one : TraceLine)
+pub more_trace : (manifest : Listed) (f g : Files) (pieces : List (List ℕ)) (text : Output → List ℕ) (lines : List TraceLine) (i : ℕ) (one : TraceLine)
     → i < length lines → one ≡ get_or lines i one
-    → HasTexts plan pieces f g (with_more (with_more text output.Trace (trace_text (take i lines))) output.Trace (trace_line one ++ 10 ∷ []))
-    → HasTexts plan pieces f g (with_more text output.Trace (trace_text (take (i + 1) lines)))
-more_trace plan f g pieces text lines i one inside is =
-    more_behind plan f g pieces text output.Trace (trace_text (take i lines)) (trace_line one ++ 10 ∷ []) (trace_text (take (i + 1) lines))
+    → HasTexts manifest pieces f g (with_more (with_more text output.Trace (trace_text (take i lines))) output.Trace (trace_line one ++ 10 ∷ []))
+    → HasTexts manifest pieces f g (with_more text output.Trace (trace_text (take (i + 1) lines)))
+more_trace manifest f g pieces text lines i one inside is =
+    more_behind manifest f g pieces text output.Trace (trace_text (take i lines)) (trace_line one ++ 10 ∷ []) (trace_text (take (i + 1) lines))
     (trace_more lines i one inside is)
 
 -- and one line of the counters
-pub more_counts : (plan : Planned) (f g : Files) (pieces : List (List ℕ)) (text : Output → List ℕ) (counts : ℕ → Counts5) (ports : List ℕ) (i q : ℕ)
+pub more_counts : (manifest : Listed) (f g : Files) (pieces : List (List ℕ)) (text : Output → List ℕ) (counts : ℕ → Counts5) (ports : List ℕ) (i q : ℕ)
     → i < length ports → q ≡ get_or ports i q
-    → HasTexts plan pieces f g (with_more (with_more text output.Counters (count_lines counts (take i ports))) output.Counters (count_line q (counts q)))
-    → HasTexts plan pieces f g (with_more text output.Counters (count_lines counts (take (i + 1) ports)))
-more_counts plan f g pieces text counts ports i q inside is =
-    more_behind plan f g pieces text output.Counters (count_lines counts (take i ports)) (count_line q (counts q)) (count_lines counts (take (i + 1) ports))
+    → HasTexts manifest pieces f g (with_more (with_more text output.Counters (count_lines counts (take i ports))) output.Counters (count_line q (counts q)))
+    → HasTexts manifest pieces f g (with_more text output.Counters (count_lines counts (take (i + 1) ports)))
+more_counts manifest f g pieces text counts ports i q inside is =
+    more_behind manifest f g pieces text output.Counters (count_lines counts (take i ports)) (count_line q (counts q)) (count_lines counts (take (i + 1) ports))
     (texts_more (λ (p : ℕ). count_line p (counts p)) ports i q inside is)
 
-pub cut_lines : (plan : Planned) (f g : Files) (text : Output → List ℕ) (events : List Event) (i : ℕ) (e : Event) → i < length events → e ≡ get_or events i e
-    → AreCut plan f g (with_more (with_more text output.Journal (lines_of (take i events))) output.Journal (line_of e ++ 10 ∷ []))
-    → AreCut plan f g (with_more text output.Journal (lines_of events))
-cut_lines plan f g text events i e inside is =
-    cut_behind plan f g text output.Journal (lines_of (take i events)) (line_of e ++ 10 ∷ []) (lines_of (drop (i + 1) events)) (lines_of events)
+pub cut_lines : (manifest : Listed) (f g : Files) (text : Output → List ℕ) (events : List Event) (i : ℕ) (e : Event) → i < length events → e ≡ get_or events i e
+    → AreCut manifest f g (with_more (with_more text output.Journal (lines_of (take i events))) output.Journal (line_of e ++ 10 ∷ []))
+    → AreCut manifest f g (with_more text output.Journal (lines_of events))
+cut_lines manifest f g text events i e inside is =
+    cut_behind manifest f g text output.Journal (lines_of (take i events)) (line_of e ++ 10 ∷ []) (lines_of (drop (i + 1) events)) (lines_of events)
     (texts_in_parts (λ (x : Event). line_of x ++ 10 ∷ []) events i e inside is)
 
 trace_in_parts : (lines : List TraceLine) (i : ℕ) (one : TraceLine) → i < length lines → one ≡ get_or lines i one
@@ -61,20 +61,20 @@ trace_in_parts : (lines : List TraceLine) (i : ℕ) (one : TraceLine) → i < le
 unfolding trace_text
 trace_in_parts lines i one inside is = texts_in_parts (λ (x : TraceLine). trace_line x ++ 10 ∷ []) lines i one inside is
 
-pub cut_trace : (plan : Planned) (f g : Files) (text : Output → List ℕ) (lines : List TraceLine) (i : ℕ) (one : TraceLine) → i < length lines → one ≡ get_or lines i one
-    → AreCut plan f g (with_more (with_more text output.Trace (trace_text (take i lines))) output.Trace (trace_line one ++ 10 ∷ []))
-    → AreCut plan f g (with_more text output.Trace (trace_text lines))
-cut_trace plan f g text lines i one inside is =
-    cut_behind plan f g text output.Trace (trace_text (take i lines)) (trace_line one ++ 10 ∷ []) (trace_text (drop (i + 1) lines)) (trace_text lines)
+pub cut_trace : (manifest : Listed) (f g : Files) (text : Output → List ℕ) (lines : List TraceLine) (i : ℕ) (one : TraceLine) → i < length lines → one ≡ get_or lines i one
+    → AreCut manifest f g (with_more (with_more text output.Trace (trace_text (take i lines))) output.Trace (trace_line one ++ 10 ∷ []))
+    → AreCut manifest f g (with_more text output.Trace (trace_text lines))
+cut_trace manifest f g text lines i one inside is =
+    cut_behind manifest f g text output.Trace (trace_text (take i lines)) (trace_line one ++ 10 ∷ []) (trace_text (drop (i + 1) lines)) (trace_text lines)
     (trace_in_parts lines i one inside is)
 
 counts_in_parts : (counts : ℕ → Counts5) (ports : List ℕ) (i q : ℕ) → i < length ports → q ≡ get_or ports i q
     → (count_lines counts (take i ports) ++ count_line q (counts q)) ++ count_lines counts (drop (i + 1) ports) ≡ count_lines counts ports
 counts_in_parts counts ports i q inside is = texts_in_parts (λ (p : ℕ). count_line p (counts p)) ports i q inside is
 
-pub cut_counts : (plan : Planned) (f g : Files) (text : Output → List ℕ) (counts : ℕ → Counts5) (ports : List ℕ) (i q : ℕ) → i < length ports → q ≡ get_or ports i q
-    → AreCut plan f g (with_more (with_more text output.Counters (count_lines counts (take i ports))) output.Counters (count_line q (counts q)))
-    → AreCut plan f g (with_more text output.Counters (count_lines counts ports))
-cut_counts plan f g text counts ports i q inside is =
-    cut_behind plan f g text output.Counters (count_lines counts (take i ports)) (count_line q (counts q)) (count_lines counts (drop (i + 1) ports)) (count_lines counts ports)
+pub cut_counts : (manifest : Listed) (f g : Files) (text : Output → List ℕ) (counts : ℕ → Counts5) (ports : List ℕ) (i q : ℕ) → i < length ports → q ≡ get_or ports i q
+    → AreCut manifest f g (with_more (with_more text output.Counters (count_lines counts (take i ports))) output.Counters (count_line q (counts q)))
+    → AreCut manifest f g (with_more text output.Counters (count_lines counts ports))
+cut_counts manifest f g text counts ports i q inside is =
+    cut_behind manifest f g text output.Counters (count_lines counts (take i ports)) (count_line q (counts q)) (count_lines counts (drop (i + 1) ports)) (count_lines counts ports)
     (counts_in_parts counts ports i q inside is)

@@ -28,7 +28,7 @@ use Rattle.exb_wiring.specs.Counting.{CountsGoOn}
 use Rattle.exb_writers.specs.declared.counted.Counted.{Counted}
 use Rattle.exb_writers.specs.Counts.{counts_with, AreCounted, AreCountsOf, CanCountAt, CountsOn, GoTogether, IsCounted, port_counts_so_far}
 use Rattle.exb_outputs.specs.declared.outputs.Outputs.{Outputs}
-use Rattle.exb_outputs.specs.Plans.{Planned}
+use Rattle.exb_outputs.specs.Manifests.{Listed}
 use Rattle.exb_outputs.specs.Sent.{HasSent, capture_size, SameCaptures}
 use Rattle.exb_writers.proofs.Counting.{count_events}
 use Rattle.exb_writers.proofs.Telling.{counts-more}
@@ -37,12 +37,12 @@ use Rattle.exb_writers.proofs.Telling.{counts-more}
 pub fives : (c d : Counts5) → c.relayed ≡ d.relayed → c.dropped ≡ d.dropped → c.ignored ≡ d.ignored → c.left ≡ d.left → c.octets ≡ d.octets → c ≡ d
 fives c d r p g l o = λ i. record { relayed = r i; dropped = p i; ignored = g i; left = l i; octets = o i }
 
-pub counts_same : (plan : Planned) (old new : Outputs) (c : Counters) (q : ℕ) → q < 4160 → is_external plan.tree q ≡ true → SameCaptures plan old new → counts_with plan new c q ≡ counts_with plan old c q
-counts_same plan old new c q low out same =
+pub counts_same : (manifest : Listed) (old new : Outputs) (c : Counters) (q : ℕ) → q < 4160 → is_external manifest.tree q ≡ true → SameCaptures manifest old new → counts_with manifest new c q ≡ counts_with manifest old c q
+counts_same manifest old new c q low out same =
     let s = same.each q low out in
     let frames = s.0 in
     let size = s.1 in
-    fives (counts_with plan new c q) (counts_with plan old c q) refl refl refl frames (omega (arith, frames, size))
+    fives (counts_with manifest new c q) (counts_with manifest old c q) refl refl refl frames (omega (arith, frames, size))
 
 -- ---- what was said goes with what was told
 pub none_together : GoTogether [] []
@@ -188,28 +188,28 @@ module _ (t : Shape) (b : Basis) (told : List Event) (passed : List Bool) (gone 
       ∙ ap (λ (s : Shape). count_lines (port_counts b ([] then told)) (filter (is_external s) (below 4160))) same
 
 -- a port of which counters and captures have counted all
-pub port_whole : (plan : Planned) (o : Outputs) (c : Counters) (told : List Event) (passed : List Bool) (gone : List Leaving) (q : ℕ) → q < 4160 → is_external plan.tree q ≡ true → counts_at c q ≡ plus_events told passed q nothing
-    → HasSent plan o (λ p. left_at p gone) → capture_size (left_at q gone) < 2 ^ 64 → counts_with plan o c q ≡ port_counts_so_far told passed gone q
-port_whole plan o c told passed gone q low out came sent room =
+pub port_whole : (manifest : Listed) (o : Outputs) (c : Counters) (told : List Event) (passed : List Bool) (gone : List Leaving) (q : ℕ) → q < 4160 → is_external manifest.tree q ≡ true → counts_at c q ≡ plus_events told passed q nothing
+    → HasSent manifest o (λ p. left_at p gone) → capture_size (left_at q gone) < 2 ^ 64 → counts_with manifest o c q ≡ port_counts_so_far told passed gone q
+port_whole manifest o c told passed gone q low out came sent room =
     let own = sent.each q low out room in
     let frames = own.0 in
     let size = own.1 in
-    fives (counts_with plan o c q) (port_counts_so_far told passed gone q) (ap (λ (k : Counts5). k.relayed) came) (ap (λ (k : Counts5). k.dropped) came) (ap (λ (k : Counts5). k.ignored) came)
+    fives (counts_with manifest o c q) (port_counts_so_far told passed gone q) (ap (λ (k : Counts5). k.relayed) came) (ap (λ (k : Counts5). k.dropped) came) (ap (λ (k : Counts5). k.ignored) came)
     (omega (arith, frames)) (omega (arith, frames, size))
 
 -- ---- what a run tells can be counted, and is
-pub ports-can : (plan : Planned) (ports : Option Counters) (told more : List Event) (passed said : List Bool) → AreCounted plan ports told passed → GoTogether told passed →
+pub ports-can : (manifest : Listed) (ports : Option Counters) (told more : List Event) (passed said : List Bool) → AreCounted manifest ports told passed → GoTogether told passed →
     ((q : ℕ) → FitsCounts (plus_events (told ++ more) (passed ++ said) q nothing)) → IfSome ports (CanCountAt more said)
-ports-can plan None told more passed said are together fits = tt
-ports-can plan (Some c) told more passed said are together fits =
+ports-can manifest None told more passed said are together fits = tt
+ports-can manifest (Some c) told more passed said are together fits =
     λ q there. subst FitsCounts (sym (ap (plus_events more said q) (are.2 q there) ∙ port_more told more passed said q together)) (fits q)
 
-ports-on : (plan : Planned) (old new : Option Counters) (told more : List Event) (passed said : List Bool) → CountsOn old new more said → GoTogether told passed →
-    AreCounted plan old told passed → AreCounted plan new (told ++ more) (passed ++ said)
-ports-on plan None None told more passed said on together are = are
-ports-on plan None (Some d) told more passed said on together are = absurd on
-ports-on plan (Some c) None told more passed said on together are = absurd on
-ports-on plan (Some c) (Some d) told more passed said on together are =
+ports-on : (manifest : Listed) (old new : Option Counters) (told more : List Event) (passed said : List Bool) → CountsOn old new more said → GoTogether told passed →
+    AreCounted manifest old told passed → AreCounted manifest new (told ++ more) (passed ++ said)
+ports-on manifest None None told more passed said on together are = are
+ports-on manifest None (Some d) told more passed said on together are = absurd on
+ports-on manifest (Some c) None told more passed said on together are = absurd on
+ports-on manifest (Some c) (Some d) told more passed said on together are =
     let same = on.0 in (
       are.0,
       (λ q low out. (let h = are.1 q low out in omega (arith, h, same))),
@@ -218,17 +218,17 @@ ports-on plan (Some c) (Some d) told more passed said on together are =
           on.1 q was ∙ ap (plus_events more said q) (are.2 q was) ∙ port_more told more passed said q together),
     )
 
-pub counted-on : (plan : Planned) (c d : Counted) (told more : List Event) (passed said : List Bool) (gone : List Leaving) (xs : List Left) →
+pub counted-on : (manifest : Listed) (c d : Counted) (told more : List Event) (passed said : List Bool) (gone : List Leaving) (xs : List Left) →
     counts_of d.tally ≡ frames_more_in_all (length (all_left xs)) (count_events (counts_of c.tally) more) → CountsOn c.ports d.ports more said → GoTogether told passed →
-    IsCounted plan c told passed gone → IsCounted plan d (told ++ more) (passed ++ said) (gone ++ all_left xs)
-counted-on plan c d told more passed said gone xs tally ports together are = record {
+    IsCounted manifest c told passed gone → IsCounted manifest d (told ++ more) (passed ++ said) (gone ++ all_left xs)
+counted-on manifest c d told more passed said gone xs tally ports together are = record {
   tally = tally ∙ ap (λ (b : Counts). frames_more_in_all (length (all_left xs)) (count_events b more)) are.tally ∙ counts-more told more gone xs;
-  ports = ports-on plan c.ports d.ports told more passed said ports together are.ports;
+  ports = ports-on manifest c.ports d.ports told more passed said ports together are.ports;
 }
 
 -- before anything is told
-pub counted-none : (plan : Planned) (c : Counted) → counts_of c.tally ≡ nothing_counted → AreCounted plan c.ports [] [] → IsCounted plan c [] [] []
-counted-none plan c tally ports = record { tally = tally; ports = ports }
+pub counted-none : (manifest : Listed) (c : Counted) → counts_of c.tally ≡ nothing_counted → AreCounted manifest c.ports [] [] → IsCounted manifest c [] [] []
+counted-none manifest c tally ports = record { tally = tally; ports = ports }
 
 pub asked_for : (b : Bool) → not b ≡ false → b ≡ true
 asked_for true e = refl
@@ -238,10 +238,10 @@ pub unasked : (b : Bool) → not b ≡ true → b ≡ false
 unasked true e = sym e
 unasked false e = refl
 
-pub counts-of : (plan : Planned) (ports : Option Counters) (told : List Event) (passed : List Bool) → AreCounted plan ports told passed → AreCountsOf plan ports
-counts-of plan None told passed are = are
-counts-of plan (Some c) told passed are = (are.0, are.1)
+pub counts-of : (manifest : Listed) (ports : Option Counters) (told : List Event) (passed : List Bool) → AreCounted manifest ports told passed → AreCountsOf manifest ports
+counts-of manifest None told passed are = are
+counts-of manifest (Some c) told passed are = (are.0, are.1)
 
-pub ports-new : (plan : Planned) (made : Counters) → plan.options.counters ≡ true → ((q : ℕ) → q < 4160 → is_external plan.tree q ≡ true → HasPort made q) → ((q : ℕ) → counts_at made q ≡ nothing) →
-    AreCounted plan (Some made) [] []
-ports-new plan made asked ports none = (asked, ports, λ q there. none q ∙ sym (port_none q))
+pub ports-new : (manifest : Listed) (made : Counters) → manifest.options.counters ≡ true → ((q : ℕ) → q < 4160 → is_external manifest.tree q ≡ true → HasPort made q) → ((q : ℕ) → counts_at made q ≡ nothing) →
+    AreCounted manifest (Some made) [] []
+ports-new manifest made asked ports none = (asked, ports, λ q there. none q ∙ sym (port_none q))

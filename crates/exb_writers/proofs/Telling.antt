@@ -18,7 +18,7 @@ use Rattle.exb_text.specs.declared.output.Output.TheVariants as output
 use Rattle.exb_text.specs.Tallies.{nothing_counted}
 use Rattle.exb_counters.specs.declared.counters.Counters.{Counters}
 use Rattle.exb_outputs.specs.declared.outputs.Outputs.{Outputs}
-use Rattle.exb_outputs.specs.Plans.{Planned}
+use Rattle.exb_outputs.specs.Manifests.{Listed}
 use Rattle.exb_writers.specs.Counts.{counts_so_far, counts_text}
 use Rattle.exb_writers.specs.Telling.{with_end, with_told}
 use Rattle.exb_writers.specs.Texts.{text_so_far}
@@ -74,9 +74,9 @@ counts_written told gone lines counts output.Journal = refl
 counts_written told gone lines counts output.Trace = refl
 counts_written told gone lines counts output.Counters = refl
 
-pub end_written : (told : List Event) (gone : List Leaving) (lines : List TraceLine) (plan : Planned) (ports : Option Counters) (outs : Outputs) (o : Output)
-    → with_end (text_so_far told gone lines []) plan ports outs o ≡ text_so_far told gone lines (counts_text plan ports outs) o
-end_written told gone lines plan ports outs o = counts_written told gone lines (counts_text plan ports outs) o
+pub end_written : (told : List Event) (gone : List Leaving) (lines : List TraceLine) (manifest : Listed) (ports : Option Counters) (outs : Outputs) (o : Output)
+    → with_end (text_so_far told gone lines []) manifest ports outs o ≡ text_so_far told gone lines (counts_text manifest ports outs) o
+end_written told gone lines manifest ports outs o = counts_written told gone lines (counts_text manifest ports outs) o
 
 -- ---- counts
 left-aside : (es : List Event) (n : ℕ) (c : Counts) → count_events (with_left n c) es ≡ with_left n (count_events c es)

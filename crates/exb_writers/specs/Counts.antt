@@ -13,7 +13,7 @@ use Rattle.exb_counters.specs.Counters.{count_lines, octets_of}
 use Rattle.exb_counters.specs.Counting.{FitsCounts, HasPort, counts_at, drops_in, nothing, plus_events}
 use Rattle.exb_writers.specs.declared.counted.Counted.{Counted}
 use Rattle.exb_outputs.specs.declared.outputs.Outputs.{Outputs}
-use Rattle.exb_outputs.specs.Plans.{Planned}
+use Rattle.exb_outputs.specs.Manifests.{Listed}
 use Rattle.exb_outputs.specs.Sent.{frames_at, size_at}
 
 -- and the counts
@@ -29,36 +29,36 @@ abbrev pub port_counts_so_far : List Event → List Bool → List Left → ℕ �
 port_counts_so_far told passed gone q = with_frames (left_at q gone) (plus_events told passed q nothing)
 
 -- there are counts by port where they are asked for, and they are those of what came in
-abbrev pub AreCounted : Planned → Option Counters → List Event → List Bool → Type 0
-AreCounted plan None told passed = plan.options.counters ≡ false
-AreCounted plan (Some c) told passed =
-    (plan.options.counters ≡ true) × ((q : ℕ) → q < 4160 → is_external plan.tree q ≡ true → HasPort c q) × ((q : ℕ) → HasPort c q → counts_at c q ≡ plus_events told passed q nothing)
+abbrev pub AreCounted : Listed → Option Counters → List Event → List Bool → Type 0
+AreCounted manifest None told passed = manifest.options.counters ≡ false
+AreCounted manifest (Some c) told passed =
+    (manifest.options.counters ≡ true) × ((q : ℕ) → q < 4160 → is_external manifest.tree q ≡ true → HasPort c q) × ((q : ℕ) → HasPort c q → counts_at c q ≡ plus_events told passed q nothing)
 
 -- there are counts by port exactly where they are asked for, and of each external port
-abbrev pub AreCountsOf : Planned → Option Counters → Type 0
-AreCountsOf plan None = plan.options.counters ≡ false
-AreCountsOf plan (Some c) = (plan.options.counters ≡ true) × ((q : ℕ) → q < 4160 → is_external plan.tree q ≡ true → HasPort c q)
+abbrev pub AreCountsOf : Listed → Option Counters → Type 0
+AreCountsOf manifest None = manifest.options.counters ≡ false
+AreCountsOf manifest (Some c) = (manifest.options.counters ≡ true) × ((q : ℕ) → q < 4160 → is_external manifest.tree q ≡ true → HasPort c q)
 
 -- the counts of port q: what came in, by the counters, and what left, by the capture
-abbrev pub counts_with : Planned → Outputs → Counters → ℕ → Counts5
-counts_with plan o c q =
+abbrev pub counts_with : Listed → Outputs → Counters → ℕ → Counts5
+counts_with manifest o c q =
     record {
       relayed = (counts_at c q).relayed;
       dropped = (counts_at c q).dropped;
       ignored = (counts_at c q).ignored;
-      left = frames_at plan o q;
-      octets = size_at plan o q - 24 - 16 * frames_at plan o q;
+      left = frames_at manifest o q;
+      octets = size_at manifest o q - 24 - 16 * frames_at manifest o q;
     }
 
 -- the text of the counters, with what the captures have counted
-abbrev pub counts_text : Planned → Option Counters → Outputs → List ℕ
-counts_text plan None o = []
-counts_text plan (Some c) o = count_lines (counts_with plan o c) (external_ports plan.tree)
+abbrev pub counts_text : Listed → Option Counters → Outputs → List ℕ
+counts_text manifest None o = []
+counts_text manifest (Some c) o = count_lines (counts_with manifest o c) (external_ports manifest.tree)
 
 -- what is counted is what was told and has left
-pub record IsCounted (plan : Planned) (c : Counted) (told : List Event) (passed : List Bool) (gone : List Left) : Type 0 where
+pub record IsCounted (manifest : Listed) (c : Counted) (told : List Event) (passed : List Bool) (gone : List Left) : Type 0 where
   pub tally : counts_of c.tally ≡ counts_so_far told gone
-  pub ports : AreCounted plan c.ports told passed
+  pub ports : AreCounted manifest c.ports told passed
 
 -- what was said of Relays goes with what was told: the drops of more are those of what comes more
 abbrev pub GoTogether : List Event → List Bool → Type 0

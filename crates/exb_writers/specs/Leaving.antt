@@ -8,7 +8,7 @@ use Rattle.exb_network.specs.Worlds.{all_left, copies_of}
 use Rattle.exb_resting.specs.Flight.Showing.{left_at}
 use Rattle.exb_text.specs.declared.output.Output.{Output}
 use Rattle.exb_text.specs.declared.output.Output.TheVariants as output
-use Rattle.exb_outputs.specs.Plans.{Planned}
+use Rattle.exb_outputs.specs.Manifests.{Listed}
 use Rattle.exb_outputs.specs.Writing.{CanBeRecorded}
 
 -- the texts, where each capture has what left its port
@@ -29,5 +29,5 @@ abbrev pub sent_with : (ℕ → List Sent) → List Left → ℕ → List Sent
 sent_with sent left = sent_with_copies sent (all_left left)
 
 -- a frame that can be written: it left external ports, below 2^32 seconds
-abbrev pub CanBeWritten : Planned → Left → Type 0
-CanBeWritten plan x = All (λ (y : Leaving). CanBeRecorded plan y.port y.moment y.bytes) (copies_of x)
+abbrev pub CanBeWritten : Listed → Left → Type 0
+CanBeWritten manifest x = All (λ (y : Leaving). CanBeRecorded manifest y.port y.moment y.bytes) (copies_of x)

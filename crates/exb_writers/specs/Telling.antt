@@ -7,7 +7,7 @@ use Rattle.exb_counters.specs.declared.counters.Counters.{Counters}
 use Rattle.exb_text.specs.declared.output.Output.{Output}
 use Rattle.exb_text.specs.declared.output.Output.TheVariants as output
 use Rattle.exb_outputs.specs.declared.outputs.Outputs.{Outputs}
-use Rattle.exb_outputs.specs.Plans.{Planned}
+use Rattle.exb_outputs.specs.Manifests.{Listed}
 use Rattle.exb_outputs.specs.Writing.{lines_of, with_more}
 use Rattle.exb_writers.specs.Counts.{counts_text}
 use Rattle.exb_writers.specs.Leaving.{with_left_frames}
@@ -17,5 +17,5 @@ abbrev pub with_told : (Output → List ℕ) → List Event → List Left → Li
 with_told text told left lines = with_more (with_left_frames (with_more text output.Journal (lines_of told)) left) output.Trace (trace_text lines)
 
 -- and with what is written where nothing more is told: the counters
-abbrev pub with_end : (Output → List ℕ) → Planned → Option Counters → Outputs → Output → List ℕ
-with_end text plan ports o = with_more text output.Counters (counts_text plan ports o)
+abbrev pub with_end : (Output → List ℕ) → Listed → Option Counters → Outputs → Output → List ℕ
+with_end text manifest ports o = with_more text output.Counters (counts_text manifest ports o)

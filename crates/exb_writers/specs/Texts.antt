@@ -10,13 +10,13 @@ use Rattle.exb_shelf.specs.Files.{Files}
 use Rattle.exb_text.specs.declared.output.Output.{Output}
 use Rattle.exb_text.specs.declared.output.Output.TheVariants as output
 use Rattle.exb_counters.specs.Counters.{count_text}
-use Rattle.exb_outputs.specs.Plans.{Planned, kind_at, output_count, output_name}
+use Rattle.exb_outputs.specs.Manifests.{Listed, kind_at, output_count, output_name}
 use Rattle.exb_outputs.specs.Names.{IsCut}
 use Rattle.exb_model.specs.declared.event.Event.{Event}
 use Rattle.exb_machine.specs.Worlds.{Left}
 use Rattle.exb_resting.specs.Flight.Showing.{left_at}
 
--- ---- the outputs of a plan
+-- ---- the outputs of a manifest
 -- what a file holds over a history, by its kind, with these lines of the trace
 abbrev pub output_text : Input → History → List TraceLine → Output → List ℕ
 output_text i h lines (output.Capture q) = capture_text (flat (basis_of i) h q)
@@ -32,9 +32,9 @@ GrowsEagerly output.Trace = ⊥
 GrowsEagerly output.Counters = ⊥
 
 -- these are as they were, or hold a front of their text over the eager history
-abbrev pub AreCutEagerly : Input → Planned → Files → Files → Type 0
-AreCutEagerly i plan old new =
-    (j : ℕ) → j < output_count plan → GrowsEagerly (kind_at plan j) → IsCut (old (output_name plan j)) (new (output_name plan j)) (output_text i (eager_history i) [] (kind_at plan j))
+abbrev pub AreCutEagerly : Input → Listed → Files → Files → Type 0
+AreCutEagerly i manifest old new =
+    (j : ℕ) → j < output_count manifest → GrowsEagerly (kind_at manifest j) → IsCut (old (output_name manifest j)) (new (output_name manifest j)) (output_text i (eager_history i) [] (kind_at manifest j))
 
 -- a kind that is written as things happen; the counters are written at the end
 abbrev pub IsWrittenAlong : Output → Type 0
@@ -43,10 +43,10 @@ IsWrittenAlong output.Journal = Unit {0}
 IsWrittenAlong output.Trace = Unit {0}
 IsWrittenAlong output.Counters = ⊥
 
--- ---- the outputs of a plan
+-- ---- the outputs of a manifest
 -- each that is written along is as it was, or holds a front of its text
-abbrev pub AreCutAlong : Planned → Files → Files → (Output → List ℕ) → Type 0
-AreCutAlong plan old new text = (j : ℕ) → j < output_count plan → IsWrittenAlong (kind_at plan j) → IsCut (old (output_name plan j)) (new (output_name plan j)) (text (kind_at plan j))
+abbrev pub AreCutAlong : Listed → Files → Files → (Output → List ℕ) → Type 0
+AreCutAlong manifest old new text = (j : ℕ) → j < output_count manifest → IsWrittenAlong (kind_at manifest j) → IsCut (old (output_name manifest j)) (new (output_name manifest j)) (text (kind_at manifest j))
 
 -- ---- what is told
 -- the text of each kind after this was told and this has left; counters have theirs at the end

@@ -9,7 +9,7 @@ use exb_counters::Counters;
 use exb_model::event::Event;
 use exb_model::memory::NoMemory;
 use exb_model::setup::Setup;
-use exb_outputs::Plan;
+use exb_outputs::Manifest;
 use exb_text::Tally;
 use std::alloc::Global;
 
@@ -44,13 +44,13 @@ fn count_in(ports: &mut Option<Counters>, events: &[Event], passed: &[bool])
 
 impl Counted {
     /// Nothing is counted yet.
-    pub fn new(alloc: Global, setup: &Setup, plan: &Plan) -> Result<Counted, NoMemory>
+    pub fn new(alloc: Global, setup: &Setup, manifest: &Manifest) -> Result<Counted, NoMemory>
         requires valid { IsValid setup.now }
-        requires tree { plan.now.tree ≡ shape_of setup.now }
-        ensures { IfOk result (λ made. IsCounted plan.now made [] [] []) }
+        requires tree { manifest.now.tree ≡ shape_of setup.now }
+        ensures { IfOk result (λ made. IsCounted manifest.now made [] [] []) }
     {
         let tally = Tally::new();
-        if !plan.options().counters {
+        if !manifest.options().counters {
             return Ok(Counted { tally, ports: None });
         }
         let ports = Counters::new(alloc, setup)?;

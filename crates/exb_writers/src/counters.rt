@@ -7,7 +7,7 @@ ghost use Rattle.exb_shelf.specs.Files.{Files};
 ghost use Rattle.exb_text.specs.declared.output.Output.{Output};
 ghost use Rattle.exb_text.specs.declared.output.Output.TheVariants as output;
 ghost use Rattle.exb_inputs.specs.Shelving.{CountsFaults};
-ghost use Rattle.exb_outputs.specs.Plans.{port_at, port_count};
+ghost use Rattle.exb_outputs.specs.Manifests.{port_at, port_count};
 ghost use Rattle.exb_outputs.specs.Sent.{AreCountedAt, IsCountedAt, SameCaptures};
 ghost use Rattle.exb_outputs.specs.Shelving.{IsOfWriting, OnlyWrites};
 ghost use Rattle.exb_outputs.specs.Writing.{AreCut, HasTexts, IsReady, pieces_of, with_more};
@@ -16,7 +16,7 @@ ghost use Rattle.exb_writers.specs.Counts.{counts_with};
 use exb_counters::{Counters, Counts5, write_count_line};
 use exb_inputs::Fault;
 use exb_model::port::PortId;
-use exb_outputs::{Outputs, Plan};
+use exb_outputs::{Manifest, Outputs};
 use exb_shelf::Shelf;
 use exb_text::Output;
 
@@ -27,16 +27,16 @@ const HEADER: u64 = 24;
 const RECORD: u64 = 16;
 
 /// The counts of the port of capture `at`.
-fn counts_of(outputs: &Outputs, plan: &Plan, at: u16, counters: &Counters) -> Counts5
-    requires within { at < port_count plan.now }
-    requires files { port_count plan.now ≤ length outputs.now.files.items }
-    requires port { HasPort counters.now (port_at plan.now at) }
-    requires counted { IsCountedAt plan.now outputs.now (port_at plan.now at) }
-    ensures { result ≡ counts_with plan.now outputs.now counters.now (port_at plan.now at) }
+fn counts_of(outputs: &Outputs, manifest: &Manifest, at: u16, counters: &Counters) -> Counts5
+    requires within { at < port_count manifest.now }
+    requires files { port_count manifest.now ≤ length outputs.now.files.items }
+    requires port { HasPort counters.now (port_at manifest.now at) }
+    requires counted { IsCountedAt manifest.now outputs.now (port_at manifest.now at) }
+    ensures { result ≡ counts_with manifest.now outputs.now counters.now (port_at manifest.now at) }
 {
-    let frames = outputs.frames_of(plan, at);
-    let size = outputs.size_of(plan, at);
-    let came = counters.line(plan.port(at));
+    let frames = outputs.frames_of(manifest, at);
+    let size = outputs.size_of(manifest, at);
+    let came = counters.line(manifest.port(at));
     Counts5 {
         relayed: came.relayed,
         dropped: came.dropped,
@@ -49,21 +49,21 @@ fn counts_of(outputs: &Outputs, plan: &Plan, at: u16, counters: &Counters) -> Co
 /// Puts the line of a port's counts behind the counters, which are asked for.
 fn add_count<S: Shelf>(
     shelf: &mut S,
-    plan: &Plan,
+    manifest: &Manifest,
     outputs: &mut Outputs,
     line: &mut Vec<u8>,
     port: PortId,
     counts: &Counts5,
 ) -> Result<(), Fault>
-    requires asked { plan.now.options.counters ≡ true }
-    requires ready { IsReady plan.now (S.ids shelf.old) outputs.old }
-    ensures ready { IsReady plan.now (S.ids shelf.new) outputs.new }
-    ensures texts { S.tells → OnOk result ((orig : Files) (text : Output → List ℕ) → HasTexts plan.now (pieces_of outputs.old) orig (S.file shelf.old) text
-        → HasTexts plan.now (pieces_of outputs.new) orig (S.file shelf.new) (with_more text output.Counters (count_line port counts.now))) }
-    ensures cut { S.tells → OnErr result ((orig : Files) (text : Output → List ℕ) → HasTexts plan.now (pieces_of outputs.old) orig (S.file shelf.old) text
-        → AreCut plan.now orig (S.file shelf.new) (with_more text output.Counters (count_line port counts.now))) }
-    ensures same { OnOk result (SameCaptures plan.now outputs.old outputs.new) }
-    ensures only { OnlyWrites S.tells plan.now (S.file shelf.old) (S.file shelf.new) (S.ids shelf.old) (S.ids shelf.new) }
+    requires asked { manifest.now.options.counters ≡ true }
+    requires ready { IsReady manifest.now (S.ids shelf.old) outputs.old }
+    ensures ready { IsReady manifest.now (S.ids shelf.new) outputs.new }
+    ensures texts { S.tells → OnOk result ((orig : Files) (text : Output → List ℕ) → HasTexts manifest.now (pieces_of outputs.old) orig (S.file shelf.old) text
+        → HasTexts manifest.now (pieces_of outputs.new) orig (S.file shelf.new) (with_more text output.Counters (count_line port counts.now))) }
+    ensures cut { S.tells → OnErr result ((orig : Files) (text : Output → List ℕ) → HasTexts manifest.now (pieces_of outputs.old) orig (S.file shelf.old) text
+        → AreCut manifest.now orig (S.file shelf.new) (with_more text output.Counters (count_line port counts.now))) }
+    ensures same { OnOk result (SameCaptures manifest.now outputs.old outputs.new) }
+    ensures only { OnlyWrites S.tells manifest.now (S.file shelf.old) (S.file shelf.new) (S.ids shelf.old) (S.ids shelf.new) }
     ensures causes { IfErr result IsOfWriting }
     ensures faults { CountsFaults result (S.faults shelf.old) (S.faults shelf.new) }
 {
@@ -71,35 +71,35 @@ fn add_count<S: Shelf>(
     if write_count_line(line, port, counts).is_err() {
         return Err(Fault::Memory);
     }
-    outputs.write(shelf, plan, Output::Counters, line.as_slice())
+    outputs.write(shelf, manifest, Output::Counters, line.as_slice())
 }
 
 /// Puts the lines of all counts behind the counters, which are asked for: what came in, by these counters, and what left, by the
 /// captures. `line` is room for one line.
 pub fn write_counters<S: Shelf>(
     shelf: &mut S,
-    plan: &Plan,
+    manifest: &Manifest,
     outputs: &mut Outputs,
     line: &mut Vec<u8>,
     counters: &Counters,
 ) -> Result<(), Fault>
-    requires asked { plan.now.options.counters ≡ true }
-    requires ports { (q : ℕ) → q < 4160 → is_external plan.now.tree q ≡ true → HasPort counters.now q }
-    requires counted { AreCountedAt plan.now outputs.old }
-    requires ready { IsReady plan.now (S.ids shelf.old) outputs.old }
-    ensures ready { IsReady plan.now (S.ids shelf.new) outputs.new }
-    ensures texts { S.tells → OnOk result ((orig : Files) (text : Output → List ℕ) → HasTexts plan.now (pieces_of outputs.old) orig (S.file shelf.old) text
-        → HasTexts plan.now (pieces_of outputs.new) orig (S.file shelf.new) (with_more text output.Counters (count_lines (counts_with plan.now outputs.old counters.now) (external_ports plan.now.tree)))) }
-    ensures cut { S.tells → OnErr result ((orig : Files) (text : Output → List ℕ) → HasTexts plan.now (pieces_of outputs.old) orig (S.file shelf.old) text
-        → AreCut plan.now orig (S.file shelf.new) (with_more text output.Counters (count_lines (counts_with plan.now outputs.old counters.now) (external_ports plan.now.tree)))) }
-    ensures same { OnOk result (SameCaptures plan.now outputs.old outputs.new) }
-    ensures only { OnlyWrites S.tells plan.now (S.file shelf.old) (S.file shelf.new) (S.ids shelf.old) (S.ids shelf.new) }
+    requires asked { manifest.now.options.counters ≡ true }
+    requires ports { (q : ℕ) → q < 4160 → is_external manifest.now.tree q ≡ true → HasPort counters.now q }
+    requires counted { AreCountedAt manifest.now outputs.old }
+    requires ready { IsReady manifest.now (S.ids shelf.old) outputs.old }
+    ensures ready { IsReady manifest.now (S.ids shelf.new) outputs.new }
+    ensures texts { S.tells → OnOk result ((orig : Files) (text : Output → List ℕ) → HasTexts manifest.now (pieces_of outputs.old) orig (S.file shelf.old) text
+        → HasTexts manifest.now (pieces_of outputs.new) orig (S.file shelf.new) (with_more text output.Counters (count_lines (counts_with manifest.now outputs.old counters.now) (external_ports manifest.now.tree)))) }
+    ensures cut { S.tells → OnErr result ((orig : Files) (text : Output → List ℕ) → HasTexts manifest.now (pieces_of outputs.old) orig (S.file shelf.old) text
+        → AreCut manifest.now orig (S.file shelf.new) (with_more text output.Counters (count_lines (counts_with manifest.now outputs.old counters.now) (external_ports manifest.now.tree)))) }
+    ensures same { OnOk result (SameCaptures manifest.now outputs.old outputs.new) }
+    ensures only { OnlyWrites S.tells manifest.now (S.file shelf.old) (S.file shelf.new) (S.ids shelf.old) (S.ids shelf.new) }
     ensures causes { IfErr result IsOfWriting }
     ensures faults { CountsFaults result (S.faults shelf.old) (S.faults shelf.new) }
 {
-    for at in 0..plan.count() {
-        let counts = counts_of(outputs, plan, at, counters);
-        add_count(shelf, plan, outputs, line, plan.port(at), &counts)?;
+    for at in 0..manifest.count() {
+        let counts = counts_of(outputs, manifest, at, counters);
+        add_count(shelf, manifest, outputs, line, manifest.port(at), &counts)?;
     }
     Ok(())
 }

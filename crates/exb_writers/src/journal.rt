@@ -11,7 +11,7 @@ ghost use Rattle.exb_outputs.specs.Writing.{AreCut, HasTexts, IsReady, lines_of,
 
 use exb_inputs::Fault;
 use exb_model::event::Event;
-use exb_outputs::{Outputs, Plan};
+use exb_outputs::{Manifest, Outputs};
 use exb_shelf::Shelf;
 use exb_text::{LineRoom, Output};
 
@@ -19,24 +19,24 @@ use exb_text::{LineRoom, Output};
 #[inline(always)]
 fn add_event<S: Shelf>(
     shelf: &mut S,
-    plan: &Plan,
+    manifest: &Manifest,
     outputs: &mut Outputs,
     room: &mut LineRoom,
     event: &Event,
 ) -> Result<(), Fault>
-    requires ready { IsReady plan.now (S.ids shelf.old) outputs.old }
-    ensures ready { IsReady plan.now (S.ids shelf.new) outputs.new }
-    ensures texts { S.tells → OnOk result ((orig : Files) (text : Output → List ℕ) → HasTexts plan.now (pieces_of outputs.old) orig (S.file shelf.old) text
-        → HasTexts plan.now (pieces_of outputs.new) orig (S.file shelf.new) (with_more text output.Journal (line_of event.now ++ 10 ∷ []))) }
-    ensures cut { S.tells → OnErr result ((orig : Files) (text : Output → List ℕ) → HasTexts plan.now (pieces_of outputs.old) orig (S.file shelf.old) text
-        → AreCut plan.now orig (S.file shelf.new) (with_more text output.Journal (line_of event.now ++ 10 ∷ []))) }
-    ensures same { OnOk result (SameCaptures plan.now outputs.old outputs.new) }
-    ensures only { OnlyWrites S.tells plan.now (S.file shelf.old) (S.file shelf.new) (S.ids shelf.old) (S.ids shelf.new) }
+    requires ready { IsReady manifest.now (S.ids shelf.old) outputs.old }
+    ensures ready { IsReady manifest.now (S.ids shelf.new) outputs.new }
+    ensures texts { S.tells → OnOk result ((orig : Files) (text : Output → List ℕ) → HasTexts manifest.now (pieces_of outputs.old) orig (S.file shelf.old) text
+        → HasTexts manifest.now (pieces_of outputs.new) orig (S.file shelf.new) (with_more text output.Journal (line_of event.now ++ 10 ∷ []))) }
+    ensures cut { S.tells → OnErr result ((orig : Files) (text : Output → List ℕ) → HasTexts manifest.now (pieces_of outputs.old) orig (S.file shelf.old) text
+        → AreCut manifest.now orig (S.file shelf.new) (with_more text output.Journal (line_of event.now ++ 10 ∷ []))) }
+    ensures same { OnOk result (SameCaptures manifest.now outputs.old outputs.new) }
+    ensures only { OnlyWrites S.tells manifest.now (S.file shelf.old) (S.file shelf.new) (S.ids shelf.old) (S.ids shelf.new) }
     ensures causes { IfErr result IsOfWriting }
     ensures faults { CountsFaults result (S.faults shelf.old) (S.faults shelf.new) }
 {
     match room.line(event) {
-        Ok(line) => outputs.write(shelf, plan, Output::Journal, line),
+        Ok(line) => outputs.write(shelf, manifest, Output::Journal, line),
         Err(_) => Err(Fault::Memory),
     }
 }
@@ -45,24 +45,24 @@ fn add_event<S: Shelf>(
 #[inline(always)]
 pub fn write_events<S: Shelf>(
     shelf: &mut S,
-    plan: &Plan,
+    manifest: &Manifest,
     outputs: &mut Outputs,
     room: &mut LineRoom,
     events: &[Event],
 ) -> Result<(), Fault>
-    requires ready { IsReady plan.now (S.ids shelf.old) outputs.old }
-    ensures ready { IsReady plan.now (S.ids shelf.new) outputs.new }
-    ensures texts { S.tells → OnOk result ((orig : Files) (text : Output → List ℕ) → HasTexts plan.now (pieces_of outputs.old) orig (S.file shelf.old) text
-        → HasTexts plan.now (pieces_of outputs.new) orig (S.file shelf.new) (with_more text output.Journal (lines_of events.now))) }
-    ensures cut { S.tells → OnErr result ((orig : Files) (text : Output → List ℕ) → HasTexts plan.now (pieces_of outputs.old) orig (S.file shelf.old) text
-        → AreCut plan.now orig (S.file shelf.new) (with_more text output.Journal (lines_of events.now))) }
-    ensures same { OnOk result (SameCaptures plan.now outputs.old outputs.new) }
-    ensures only { OnlyWrites S.tells plan.now (S.file shelf.old) (S.file shelf.new) (S.ids shelf.old) (S.ids shelf.new) }
+    requires ready { IsReady manifest.now (S.ids shelf.old) outputs.old }
+    ensures ready { IsReady manifest.now (S.ids shelf.new) outputs.new }
+    ensures texts { S.tells → OnOk result ((orig : Files) (text : Output → List ℕ) → HasTexts manifest.now (pieces_of outputs.old) orig (S.file shelf.old) text
+        → HasTexts manifest.now (pieces_of outputs.new) orig (S.file shelf.new) (with_more text output.Journal (lines_of events.now))) }
+    ensures cut { S.tells → OnErr result ((orig : Files) (text : Output → List ℕ) → HasTexts manifest.now (pieces_of outputs.old) orig (S.file shelf.old) text
+        → AreCut manifest.now orig (S.file shelf.new) (with_more text output.Journal (lines_of events.now))) }
+    ensures same { OnOk result (SameCaptures manifest.now outputs.old outputs.new) }
+    ensures only { OnlyWrites S.tells manifest.now (S.file shelf.old) (S.file shelf.new) (S.ids shelf.old) (S.ids shelf.new) }
     ensures causes { IfErr result IsOfWriting }
     ensures faults { CountsFaults result (S.faults shelf.old) (S.faults shelf.new) }
 {
     for event in events {
-        add_event(shelf, plan, outputs, room, event)?;
+        add_event(shelf, manifest, outputs, room, event)?;
     }
     Ok(())
 }

@@ -14,35 +14,35 @@ ghost use Rattle.exb_writers.specs.Leaving.{CanBeWritten, sent_with, sent_with_c
 use exb_capture::record_text;
 use exb_inputs::Fault;
 use exb_network::Left;
-use exb_outputs::{Outputs, Plan};
+use exb_outputs::{Manifest, Outputs};
 use exb_shelf::Shelf;
 
 /// Puts a record, of which what stands before the frame's bytes is given, behind the capture of each port of a row.
 #[inline(always)]
 fn write_row<S: Shelf>(
     shelf: &mut S,
-    plan: &Plan,
+    manifest: &Manifest,
     outputs: &mut Outputs,
     left: &Left,
     head: &[u8; 16],
 ) -> Result<(), Fault>
-    requires ready { IsReady plan.now (S.ids shelf.old) outputs.old }
-    requires frame { CanBeWritten plan.now left.now }
+    requires ready { IsReady manifest.now (S.ids shelf.old) outputs.old }
+    requires frame { CanBeWritten manifest.now left.now }
     requires head { record_of (left.now.moment, left.now.bytes) ≡ head.now ++ left.now.bytes }
-    ensures ready { IsReady plan.now (S.ids shelf.new) outputs.new }
-    ensures texts { S.tells → OnOk result ((orig : Files) (text : Output → List ℕ) → HasTexts plan.now (pieces_of outputs.old) orig (S.file shelf.old) text
-        → HasTexts plan.now (pieces_of outputs.new) orig (S.file shelf.new) (with_copies text (copies_of left.now))) }
-    ensures cut { S.tells → OnErr result ((orig : Files) (text : Output → List ℕ) → HasTexts plan.now (pieces_of outputs.old) orig (S.file shelf.old) text
-        → AreCut plan.now orig (S.file shelf.new) (with_copies text (copies_of left.now))) }
-    ensures sent { OnOk result ((sent : ℕ → List Sent) → HasSent plan.now outputs.old sent → HasSent plan.now outputs.new (sent_with_copies sent (copies_of left.now))) }
-    ensures only { OnlyWrites S.tells plan.now (S.file shelf.old) (S.file shelf.new) (S.ids shelf.old) (S.ids shelf.new) }
+    ensures ready { IsReady manifest.now (S.ids shelf.new) outputs.new }
+    ensures texts { S.tells → OnOk result ((orig : Files) (text : Output → List ℕ) → HasTexts manifest.now (pieces_of outputs.old) orig (S.file shelf.old) text
+        → HasTexts manifest.now (pieces_of outputs.new) orig (S.file shelf.new) (with_copies text (copies_of left.now))) }
+    ensures cut { S.tells → OnErr result ((orig : Files) (text : Output → List ℕ) → HasTexts manifest.now (pieces_of outputs.old) orig (S.file shelf.old) text
+        → AreCut manifest.now orig (S.file shelf.new) (with_copies text (copies_of left.now))) }
+    ensures sent { OnOk result ((sent : ℕ → List Sent) → HasSent manifest.now outputs.old sent → HasSent manifest.now outputs.new (sent_with_copies sent (copies_of left.now))) }
+    ensures only { OnlyWrites S.tells manifest.now (S.file shelf.old) (S.file shelf.new) (S.ids shelf.old) (S.ids shelf.new) }
     ensures causes { IfErr result IsOfWriting }
     ensures faults { CountsFaults result (S.faults shelf.old) (S.faults shelf.new) }
 {
     let bytes = left.bytes.as_slice();
     let mut rest = left.row;
     while let Some(port) = rest.next() {
-        outputs.write_record(shelf, plan, port, head, bytes)?;
+        outputs.write_record(shelf, manifest, port, head, bytes)?;
     }
     Ok(())
 }
@@ -51,19 +51,19 @@ fn write_row<S: Shelf>(
 #[inline(always)]
 fn add_left<S: Shelf>(
     shelf: &mut S,
-    plan: &Plan,
+    manifest: &Manifest,
     outputs: &mut Outputs,
     left: &Left,
 ) -> Result<(), Fault>
-    requires ready { IsReady plan.now (S.ids shelf.old) outputs.old }
-    requires frame { CanBeWritten plan.now left.now }
-    ensures ready { IsReady plan.now (S.ids shelf.new) outputs.new }
-    ensures texts { S.tells → OnOk result ((orig : Files) (text : Output → List ℕ) → HasTexts plan.now (pieces_of outputs.old) orig (S.file shelf.old) text
-        → HasTexts plan.now (pieces_of outputs.new) orig (S.file shelf.new) (with_copies text (copies_of left.now))) }
-    ensures cut { S.tells → OnErr result ((orig : Files) (text : Output → List ℕ) → HasTexts plan.now (pieces_of outputs.old) orig (S.file shelf.old) text
-        → AreCut plan.now orig (S.file shelf.new) (with_copies text (copies_of left.now))) }
-    ensures sent { OnOk result ((sent : ℕ → List Sent) → HasSent plan.now outputs.old sent → HasSent plan.now outputs.new (sent_with_copies sent (copies_of left.now))) }
-    ensures only { OnlyWrites S.tells plan.now (S.file shelf.old) (S.file shelf.new) (S.ids shelf.old) (S.ids shelf.new) }
+    requires ready { IsReady manifest.now (S.ids shelf.old) outputs.old }
+    requires frame { CanBeWritten manifest.now left.now }
+    ensures ready { IsReady manifest.now (S.ids shelf.new) outputs.new }
+    ensures texts { S.tells → OnOk result ((orig : Files) (text : Output → List ℕ) → HasTexts manifest.now (pieces_of outputs.old) orig (S.file shelf.old) text
+        → HasTexts manifest.now (pieces_of outputs.new) orig (S.file shelf.new) (with_copies text (copies_of left.now))) }
+    ensures cut { S.tells → OnErr result ((orig : Files) (text : Output → List ℕ) → HasTexts manifest.now (pieces_of outputs.old) orig (S.file shelf.old) text
+        → AreCut manifest.now orig (S.file shelf.new) (with_copies text (copies_of left.now))) }
+    ensures sent { OnOk result ((sent : ℕ → List Sent) → HasSent manifest.now outputs.old sent → HasSent manifest.now outputs.new (sent_with_copies sent (copies_of left.now))) }
+    ensures only { OnlyWrites S.tells manifest.now (S.file shelf.old) (S.file shelf.new) (S.ids shelf.old) (S.ids shelf.new) }
     ensures causes { IfErr result IsOfWriting }
     ensures faults { CountsFaults result (S.faults shelf.old) (S.faults shelf.new) }
 {
@@ -71,30 +71,30 @@ fn add_left<S: Shelf>(
         return Ok(());
     }
     let head = record_text(left.moment, left.bytes.as_slice().len() as u32);
-    write_row(shelf, plan, outputs, left, &head)
+    write_row(shelf, manifest, outputs, left, &head)
 }
 
 /// Puts frames that left behind the captures of their ports.
 pub fn write_left<S: Shelf>(
     shelf: &mut S,
-    plan: &Plan,
+    manifest: &Manifest,
     outputs: &mut Outputs,
     left: &[Left],
 ) -> Result<(), Fault>
-    requires ready { IsReady plan.now (S.ids shelf.old) outputs.old }
-    requires frames { All (λ x. CanBeWritten plan.now x) left.now }
-    ensures ready { IsReady plan.now (S.ids shelf.new) outputs.new }
-    ensures texts { S.tells → OnOk result ((orig : Files) (text : Output → List ℕ) → HasTexts plan.now (pieces_of outputs.old) orig (S.file shelf.old) text
-        → HasTexts plan.now (pieces_of outputs.new) orig (S.file shelf.new) (with_left_frames text left.now)) }
-    ensures cut { S.tells → OnErr result ((orig : Files) (text : Output → List ℕ) → HasTexts plan.now (pieces_of outputs.old) orig (S.file shelf.old) text
-        → AreCut plan.now orig (S.file shelf.new) (with_left_frames text left.now)) }
-    ensures sent { OnOk result ((sent : ℕ → List Sent) → HasSent plan.now outputs.old sent → HasSent plan.now outputs.new (sent_with sent left.now)) }
-    ensures only { OnlyWrites S.tells plan.now (S.file shelf.old) (S.file shelf.new) (S.ids shelf.old) (S.ids shelf.new) }
+    requires ready { IsReady manifest.now (S.ids shelf.old) outputs.old }
+    requires frames { All (λ x. CanBeWritten manifest.now x) left.now }
+    ensures ready { IsReady manifest.now (S.ids shelf.new) outputs.new }
+    ensures texts { S.tells → OnOk result ((orig : Files) (text : Output → List ℕ) → HasTexts manifest.now (pieces_of outputs.old) orig (S.file shelf.old) text
+        → HasTexts manifest.now (pieces_of outputs.new) orig (S.file shelf.new) (with_left_frames text left.now)) }
+    ensures cut { S.tells → OnErr result ((orig : Files) (text : Output → List ℕ) → HasTexts manifest.now (pieces_of outputs.old) orig (S.file shelf.old) text
+        → AreCut manifest.now orig (S.file shelf.new) (with_left_frames text left.now)) }
+    ensures sent { OnOk result ((sent : ℕ → List Sent) → HasSent manifest.now outputs.old sent → HasSent manifest.now outputs.new (sent_with sent left.now)) }
+    ensures only { OnlyWrites S.tells manifest.now (S.file shelf.old) (S.file shelf.new) (S.ids shelf.old) (S.ids shelf.new) }
     ensures causes { IfErr result IsOfWriting }
     ensures faults { CountsFaults result (S.faults shelf.old) (S.faults shelf.new) }
 {
     for frame in left {
-        add_left(shelf, plan, outputs, frame)?;
+        add_left(shelf, manifest, outputs, frame)?;
     }
     Ok(())
 }

@@ -20,7 +20,7 @@ use exb_inputs::Fault;
 use exb_model::event::Event;
 use exb_model::trace::TraceLine;
 use exb_network::Left;
-use exb_outputs::{Outputs, Plan};
+use exb_outputs::{Manifest, Outputs};
 use exb_shelf::Shelf;
 use exb_text::LineRoom;
 use std::alloc::Global;
@@ -46,52 +46,52 @@ impl Room {
 #[inline(always)]
 pub fn write_told<S: Shelf>(
     shelf: &mut S,
-    plan: &Plan,
+    manifest: &Manifest,
     outputs: &mut Outputs,
     room: &mut Room,
     events: &[Event],
     left: &[Left],
     lines: &[TraceLine],
 ) -> Result<(), Fault>
-    requires ready { IsReady plan.now (S.ids shelf.old) outputs.old }
-    requires frames { All (λ x. CanBeWritten plan.now x) left.now }
-    ensures ready { IsReady plan.now (S.ids shelf.new) outputs.new }
-    ensures texts { S.tells → OnOk result ((orig : Files) (text : Output → List ℕ) → HasTexts plan.now (pieces_of outputs.old) orig (S.file shelf.old) text
-        → HasTexts plan.now (pieces_of outputs.new) orig (S.file shelf.new) (with_told text events.now left.now lines.now)) }
-    ensures cut { S.tells → OnErr result ((orig : Files) (text : Output → List ℕ) → HasTexts plan.now (pieces_of outputs.old) orig (S.file shelf.old) text
-        → AreCut plan.now orig (S.file shelf.new) (with_told text events.now left.now lines.now)) }
-    ensures sent { OnOk result ((sent : ℕ → List Sent) → HasSent plan.now outputs.old sent → HasSent plan.now outputs.new (sent_with sent left.now)) }
-    ensures only { OnlyWrites S.tells plan.now (S.file shelf.old) (S.file shelf.new) (S.ids shelf.old) (S.ids shelf.new) }
+    requires ready { IsReady manifest.now (S.ids shelf.old) outputs.old }
+    requires frames { All (λ x. CanBeWritten manifest.now x) left.now }
+    ensures ready { IsReady manifest.now (S.ids shelf.new) outputs.new }
+    ensures texts { S.tells → OnOk result ((orig : Files) (text : Output → List ℕ) → HasTexts manifest.now (pieces_of outputs.old) orig (S.file shelf.old) text
+        → HasTexts manifest.now (pieces_of outputs.new) orig (S.file shelf.new) (with_told text events.now left.now lines.now)) }
+    ensures cut { S.tells → OnErr result ((orig : Files) (text : Output → List ℕ) → HasTexts manifest.now (pieces_of outputs.old) orig (S.file shelf.old) text
+        → AreCut manifest.now orig (S.file shelf.new) (with_told text events.now left.now lines.now)) }
+    ensures sent { OnOk result ((sent : ℕ → List Sent) → HasSent manifest.now outputs.old sent → HasSent manifest.now outputs.new (sent_with sent left.now)) }
+    ensures only { OnlyWrites S.tells manifest.now (S.file shelf.old) (S.file shelf.new) (S.ids shelf.old) (S.ids shelf.new) }
     ensures causes { IfErr result IsOfWriting }
     ensures faults { CountsFaults result (S.faults shelf.old) (S.faults shelf.new) }
 {
-    write_events(shelf, plan, outputs, &mut room.line, events)?;
-    write_left(shelf, plan, outputs, left)?;
-    write_trace(shelf, plan, outputs, &mut room.text, lines)
+    write_events(shelf, manifest, outputs, &mut room.line, events)?;
+    write_left(shelf, manifest, outputs, left)?;
+    write_trace(shelf, manifest, outputs, &mut room.text, lines)
 }
 
 /// Writes what stands in files once nothing more is told: the counters, where they are asked for.
 pub fn write_end<S: Shelf>(
     shelf: &mut S,
-    plan: &Plan,
+    manifest: &Manifest,
     outputs: &mut Outputs,
     room: &mut Room,
     ports: &Option<Counters>,
 ) -> Result<(), Fault>
-    requires ready { IsReady plan.now (S.ids shelf.old) outputs.old }
-    requires counted { AreCountsOf plan.now ports.now }
-    requires sent { AreCountedAt plan.now outputs.old }
-    ensures ready { IsReady plan.now (S.ids shelf.new) outputs.new }
-    ensures texts { S.tells → OnOk result ((orig : Files) (text : Output → List ℕ) → HasTexts plan.now (pieces_of outputs.old) orig (S.file shelf.old) text
-        → HasTexts plan.now (pieces_of outputs.new) orig (S.file shelf.new) (with_end text plan.now ports.now outputs.old)) }
-    ensures cut { S.tells → OnErr result ((orig : Files) (text : Output → List ℕ) → HasTexts plan.now (pieces_of outputs.old) orig (S.file shelf.old) text
-        → AreCut plan.now orig (S.file shelf.new) (with_end text plan.now ports.now outputs.old)) }
-    ensures only { OnlyWrites S.tells plan.now (S.file shelf.old) (S.file shelf.new) (S.ids shelf.old) (S.ids shelf.new) }
+    requires ready { IsReady manifest.now (S.ids shelf.old) outputs.old }
+    requires counted { AreCountsOf manifest.now ports.now }
+    requires sent { AreCountedAt manifest.now outputs.old }
+    ensures ready { IsReady manifest.now (S.ids shelf.new) outputs.new }
+    ensures texts { S.tells → OnOk result ((orig : Files) (text : Output → List ℕ) → HasTexts manifest.now (pieces_of outputs.old) orig (S.file shelf.old) text
+        → HasTexts manifest.now (pieces_of outputs.new) orig (S.file shelf.new) (with_end text manifest.now ports.now outputs.old)) }
+    ensures cut { S.tells → OnErr result ((orig : Files) (text : Output → List ℕ) → HasTexts manifest.now (pieces_of outputs.old) orig (S.file shelf.old) text
+        → AreCut manifest.now orig (S.file shelf.new) (with_end text manifest.now ports.now outputs.old)) }
+    ensures only { OnlyWrites S.tells manifest.now (S.file shelf.old) (S.file shelf.new) (S.ids shelf.old) (S.ids shelf.new) }
     ensures causes { IfErr result IsOfWriting }
     ensures faults { CountsFaults result (S.faults shelf.old) (S.faults shelf.new) }
 {
     match ports {
-        Some(counters) => write_counters(shelf, plan, outputs, &mut room.text, counters),
+        Some(counters) => write_counters(shelf, manifest, outputs, &mut room.text, counters),
         None => Ok(()),
     }
 }

@@ -11,27 +11,27 @@ ghost use Rattle.exb_outputs.specs.Writing.{AreCut, HasTexts, IsReady, pieces_of
 
 use exb_inputs::Fault;
 use exb_model::trace::TraceLine;
-use exb_outputs::{Outputs, Plan};
+use exb_outputs::{Manifest, Outputs};
 use exb_shelf::Shelf;
 use exb_text::{Output, write_trace_line};
 
 /// Puts a line behind the trace, which is asked for.
 fn add_line<S: Shelf>(
     shelf: &mut S,
-    plan: &Plan,
+    manifest: &Manifest,
     outputs: &mut Outputs,
     line: &mut Vec<u8>,
     one: &TraceLine,
 ) -> Result<(), Fault>
-    requires traced { plan.now.options.trace ≡ true }
-    requires ready { IsReady plan.now (S.ids shelf.old) outputs.old }
-    ensures ready { IsReady plan.now (S.ids shelf.new) outputs.new }
-    ensures texts { S.tells → OnOk result ((orig : Files) (text : Output → List ℕ) → HasTexts plan.now (pieces_of outputs.old) orig (S.file shelf.old) text
-        → HasTexts plan.now (pieces_of outputs.new) orig (S.file shelf.new) (with_more text output.Trace (trace_line one.now ++ 10 ∷ []))) }
-    ensures cut { S.tells → OnErr result ((orig : Files) (text : Output → List ℕ) → HasTexts plan.now (pieces_of outputs.old) orig (S.file shelf.old) text
-        → AreCut plan.now orig (S.file shelf.new) (with_more text output.Trace (trace_line one.now ++ 10 ∷ []))) }
-    ensures same { OnOk result (SameCaptures plan.now outputs.old outputs.new) }
-    ensures only { OnlyWrites S.tells plan.now (S.file shelf.old) (S.file shelf.new) (S.ids shelf.old) (S.ids shelf.new) }
+    requires traced { manifest.now.options.trace ≡ true }
+    requires ready { IsReady manifest.now (S.ids shelf.old) outputs.old }
+    ensures ready { IsReady manifest.now (S.ids shelf.new) outputs.new }
+    ensures texts { S.tells → OnOk result ((orig : Files) (text : Output → List ℕ) → HasTexts manifest.now (pieces_of outputs.old) orig (S.file shelf.old) text
+        → HasTexts manifest.now (pieces_of outputs.new) orig (S.file shelf.new) (with_more text output.Trace (trace_line one.now ++ 10 ∷ []))) }
+    ensures cut { S.tells → OnErr result ((orig : Files) (text : Output → List ℕ) → HasTexts manifest.now (pieces_of outputs.old) orig (S.file shelf.old) text
+        → AreCut manifest.now orig (S.file shelf.new) (with_more text output.Trace (trace_line one.now ++ 10 ∷ []))) }
+    ensures same { OnOk result (SameCaptures manifest.now outputs.old outputs.new) }
+    ensures only { OnlyWrites S.tells manifest.now (S.file shelf.old) (S.file shelf.new) (S.ids shelf.old) (S.ids shelf.new) }
     ensures causes { IfErr result IsOfWriting }
     ensures faults { CountsFaults result (S.faults shelf.old) (S.faults shelf.new) }
 {
@@ -39,33 +39,33 @@ fn add_line<S: Shelf>(
     if write_trace_line(line, one).is_err() {
         return Err(Fault::Memory);
     }
-    outputs.write(shelf, plan, Output::Trace, line.as_slice())
+    outputs.write(shelf, manifest, Output::Trace, line.as_slice())
 }
 
 /// Puts lines behind the trace, where it is asked for. `line` is room for one line.
 pub fn write_trace<S: Shelf>(
     shelf: &mut S,
-    plan: &Plan,
+    manifest: &Manifest,
     outputs: &mut Outputs,
     line: &mut Vec<u8>,
     lines: &[TraceLine],
 ) -> Result<(), Fault>
-    requires ready { IsReady plan.now (S.ids shelf.old) outputs.old }
-    ensures ready { IsReady plan.now (S.ids shelf.new) outputs.new }
-    ensures texts { S.tells → OnOk result ((orig : Files) (text : Output → List ℕ) → HasTexts plan.now (pieces_of outputs.old) orig (S.file shelf.old) text
-        → HasTexts plan.now (pieces_of outputs.new) orig (S.file shelf.new) (with_more text output.Trace (trace_text lines.now))) }
-    ensures cut { S.tells → OnErr result ((orig : Files) (text : Output → List ℕ) → HasTexts plan.now (pieces_of outputs.old) orig (S.file shelf.old) text
-        → AreCut plan.now orig (S.file shelf.new) (with_more text output.Trace (trace_text lines.now))) }
-    ensures same { OnOk result (SameCaptures plan.now outputs.old outputs.new) }
-    ensures only { OnlyWrites S.tells plan.now (S.file shelf.old) (S.file shelf.new) (S.ids shelf.old) (S.ids shelf.new) }
+    requires ready { IsReady manifest.now (S.ids shelf.old) outputs.old }
+    ensures ready { IsReady manifest.now (S.ids shelf.new) outputs.new }
+    ensures texts { S.tells → OnOk result ((orig : Files) (text : Output → List ℕ) → HasTexts manifest.now (pieces_of outputs.old) orig (S.file shelf.old) text
+        → HasTexts manifest.now (pieces_of outputs.new) orig (S.file shelf.new) (with_more text output.Trace (trace_text lines.now))) }
+    ensures cut { S.tells → OnErr result ((orig : Files) (text : Output → List ℕ) → HasTexts manifest.now (pieces_of outputs.old) orig (S.file shelf.old) text
+        → AreCut manifest.now orig (S.file shelf.new) (with_more text output.Trace (trace_text lines.now))) }
+    ensures same { OnOk result (SameCaptures manifest.now outputs.old outputs.new) }
+    ensures only { OnlyWrites S.tells manifest.now (S.file shelf.old) (S.file shelf.new) (S.ids shelf.old) (S.ids shelf.new) }
     ensures causes { IfErr result IsOfWriting }
     ensures faults { CountsFaults result (S.faults shelf.old) (S.faults shelf.new) }
 {
-    if !plan.options().trace {
+    if !manifest.options().trace {
         return Ok(());
     }
     for one in lines {
-        add_line(shelf, plan, outputs, line, one)?;
+        add_line(shelf, manifest, outputs, line, one)?;
     }
     Ok(())
 }

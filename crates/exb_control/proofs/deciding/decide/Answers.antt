@@ -9,7 +9,7 @@ use Rattle.exb_plans.specs.Held.{Held}
 use Rattle.exb_plan.specs.Spaces.{held_by}
 use Rattle.exb_changing.specs.declared.job.Job.{Job}
 use Rattle.exb_changing.specs.Deciding.{decide}
-use Rattle.exb_control.specs.Fabrics.{decision_of, held_after}
+use Rattle.exb_control.specs.ActiveConfigs.{decision_of, held_after}
 use Rattle.exb_control.proofs.Decided.{plan_is, plan_held_is}
 use Rattle.exb_control.proofs.deciding.decide.Goals as goal
 

@@ -1,7 +1,7 @@
 use Rattle.std.proofs.Common.{ap, ◌∙◌, arith}
 use Rattle.exb_changing.specs.Deciding.{Decide}
 use Rattle.exb_changing.specs.Counting.{requests_of, bridge_left, held_left}
-use Rattle.exb_control.specs.Fabrics.{bridge_in, held_in}
+use Rattle.exb_control.specs.ActiveConfigs.{bridge_in, held_in}
 use Rattle.exb_control.specs.Controls.{decide_of}
 use Rattle.exb_control.proofs.NextJobs.{same_decide}
 use Rattle.exb_control.proofs.Counts.{next_fits, requests_next, none_left}
@@ -10,13 +10,13 @@ use Rattle.exb_control.proofs.planned.count_jobs.Goals as goal
 pub run-requires-clause-fits : goal.run-requires-clause-fits
 run-requires-clause-fits c =
     let inv = c.jobs.invariant in
-    rw inv.shape (next_fits c.args.fabric.now.shape c.args.queue.now c.jobs.at c.item.result c.item.ensures inv.fit).0
+    rw inv.shape (next_fits c.args.active.now.shape c.args.queue.now c.jobs.at c.item.result c.item.ensures inv.fit).0
 
 pub jobs-preserved : goal.jobs-preserved
 jobs-preserved c =
     let inv = c.jobs.invariant in
-    let v0 = c.args.fabric.now in
-    let v = c.jobs.fabric in
+    let v0 = c.args.active.now in
+    let v = c.jobs.active in
     let made = c.in_ok-count.ensures in
     let same = same_decide v0 v inv.shape inv.limits in
     let few = inv.few in
@@ -37,4 +37,4 @@ jobs-preserved c =
 pub returns-clause-count : goal.returns-clause-count
 returns-clause-count c =
     let inv = c.jobs.invariant in
-    none_left (decide_of c.args.fabric.now) (bridge_in c.jobs.fabric) (held_in c.jobs.fabric) c.args.queue.now c.jobs.at c.jobs.count _ (omega arith) inv.rest
+    none_left (decide_of c.args.active.now) (bridge_in c.jobs.active) (held_in c.jobs.active) c.args.queue.now c.jobs.at c.jobs.count _ (omega arith) inv.rest

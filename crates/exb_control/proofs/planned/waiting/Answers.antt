@@ -4,7 +4,7 @@ use Rattle.exb_model.specs.Configuration.{Bridge}
 use Rattle.exb_plans.specs.Held.{Held}
 use Rattle.exb_changing.specs.Counting.{requests_in}
 use Rattle.exb_changing.specs.Deciding.{Decide}
-use Rattle.exb_control.specs.Fabrics.{bridge_in, held_in, bridge_at_end, held_at_end}
+use Rattle.exb_control.specs.ActiveConfigs.{bridge_in, held_in, bridge_at_end, held_at_end}
 use Rattle.exb_control.specs.Controls.{decide_of}
 use Rattle.exb_control.proofs.NextJobs.{same_decide}
 use Rattle.exb_control.proofs.Counts.{none_waits}
@@ -12,12 +12,12 @@ use Rattle.exb_control.proofs.planned.waiting.Goals as goal
 
 pub returns-then-is_empty-clause-count : goal.returns-then-is_empty-clause-count
 returns-then-is_empty-clause-count c =
-    let v = c.args.fabric.now in
+    let v = c.args.active.now in
     none_waits (decide_of v) (bridge_at_end v.stage (bridge_in v)) (held_at_end v.stage (held_in v)) c.args.queue.now (sym c.is_empty.ensures ∙ c.if-is_empty.true)
 
 pub returns-clause-count : goal.returns-clause-count
 returns-clause-count c =
-    let v = c.args.fabric.now in
+    let v = c.args.active.now in
     let trial = c.in_ok-trial.trial in
     let made = c.in_ok-trial.ensures in
     let q = c.args.queue.now in

@@ -21,7 +21,7 @@ turns-preserved c =
       shape = made.shape ∙ way.shape;
       limits = made.limits ∙ way.limits;
       fit = rw way.shape at made.fit;
-      way = λ f same. on_way (decide_of c.turns.core.fabric) (decide_of c.args.core.now.fabric) (same_decide c.args.core.now.fabric c.turns.core.fabric way.shape way.limits)
+      way = λ f same. on_way (decide_of c.turns.core.active) (decide_of c.args.core.now.active) (same_decide c.args.core.now.active c.turns.core.active way.shape way.limits)
           (rest_of f c.turn.new.core) (rest_of f c.turns.core) c.turn.new.queue c.turns.queue _ _ _ _ _ _ (made.goes goes f same) ∙ way.way f same;
-      steady = λ k may. steady_rests (2 ^ 21 * length c.turn.new.queue + k) c.turn.new.core.fabric.stage c.turn.new.core.place _ stage (made.steady k (way.steady k may));
+      steady = λ k may. steady_rests (2 ^ 21 * length c.turn.new.queue + k) c.turn.new.core.active.stage c.turn.new.core.place _ stage (made.steady k (way.steady k may));
     }

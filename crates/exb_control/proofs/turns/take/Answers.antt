@@ -4,7 +4,7 @@ use Rattle.exb_session.specs.Asking.{AskerState, took}
 use Rattle.exb_changing.specs.Machine.{Moved, with_asker}
 use Rattle.exb_control.specs.Controls.{decide_of}
 use Rattle.exb_control.specs.Steps.{askers_of, asks_in, left_at, rest_of, state_in, reached, reached_by, advances}
-use Rattle.exb_control.specs.Fabrics.{bridge_in, held_in}
+use Rattle.exb_control.specs.ActiveConfigs.{bridge_in, held_in}
 use Rattle.exb_control.proofs.NextJobs.{same_decide}
 use Rattle.exb_control.proofs.Soundness.{may_ask}
 use Rattle.exb_control.proofs.Starting.{short_phase}
@@ -14,47 +14,47 @@ use Rattle.exb_control.proofs.turns.take.Goals as goal
 pub overflow_add-core : goal.overflow_add-core
 overflow_add-core c =
     let old = c.args.core.now in
-    let able = can_proceed (2 ^ 21 * length c.args.queue.now) old.fabric.stage old.place (askers_of old.sessions) c.args.extender c.args.message.now _ c.requires.steady
+    let able = can_proceed (2 ^ 21 * length c.args.queue.now) old.active.stage old.place (askers_of old.sessions) c.args.extender c.args.message.now _ c.requires.steady
     (sym c.take-taken.ensures.taken ∙ c.in-Answer.is) in
-    let few = short_phase old.fabric.shape (bridge_in old.fabric) (held_in old.fabric) old.fabric.stage old.place c.is_fabric.ensures.holds able.on.within in
+    let few = short_phase old.active.shape (bridge_in old.active) (held_in old.active) old.active.stage old.place c.is_active_config.ensures.holds able.on.within in
     omega arith
 
 pub proceed-requires-clause-busy : goal.proceed-requires-clause-busy
 proceed-requires-clause-busy c =
     let old = c.args.core.now in
-    (can_proceed (2 ^ 21 * length c.args.queue.now) old.fabric.stage old.place (askers_of old.sessions) c.args.extender c.args.message.now _ c.requires.steady
+    (can_proceed (2 ^ 21 * length c.args.queue.now) old.active.stage old.place (askers_of old.sessions) c.args.extender c.args.message.now _ c.requires.steady
     (sym c.take-taken.ensures.taken ∙ c.in-Answer.is)).busy
 
 pub proceed-requires-clause-known : goal.proceed-requires-clause-known
 proceed-requires-clause-known c =
     let old = c.args.core.now in
-    (can_proceed (2 ^ 21 * length c.args.queue.now) old.fabric.stage old.place (askers_of old.sessions) c.args.extender c.args.message.now _ c.requires.steady
+    (can_proceed (2 ^ 21 * length c.args.queue.now) old.active.stage old.place (askers_of old.sessions) c.args.extender c.args.message.now _ c.requires.steady
     (sym c.take-taken.ensures.taken ∙ c.in-Answer.is)).on.known
 
 pub proceed-requires-clause-after : goal.proceed-requires-clause-after
 proceed-requires-clause-after c =
     let old = c.args.core.now in
-    (can_proceed (2 ^ 21 * length c.args.queue.now) old.fabric.stage old.place (askers_of old.sessions) c.args.extender c.args.message.now _ c.requires.steady
+    (can_proceed (2 ^ 21 * length c.args.queue.now) old.active.stage old.place (askers_of old.sessions) c.args.extender c.args.message.now _ c.requires.steady
     (sym c.take-taken.ensures.taken ∙ c.in-Answer.is)).on.after
 
 pub proceed-requires-clause-may : goal.proceed-requires-clause-may
 proceed-requires-clause-may c =
     let old = c.args.core.now in
-    let able = can_proceed (2 ^ 21 * length c.args.queue.now) old.fabric.stage old.place (askers_of old.sessions) c.args.extender c.args.message.now _ c.requires.steady
+    let able = can_proceed (2 ^ 21 * length c.args.queue.now) old.active.stage old.place (askers_of old.sessions) c.args.extender c.args.message.now _ c.requires.steady
     (sym c.take-taken.ensures.taken ∙ c.in-Answer.is) in
-    rw c.take-taken.ensures.state (may_ask (left_at old.fabric.stage (old.place + 1) + 2 ^ 21 * length c.args.queue.now) _ _ (omega arith) able.on.may)
+    rw c.take-taken.ensures.state (may_ask (left_at old.active.stage (old.place + 1) + 2 ^ 21 * length c.args.queue.now) _ _ (omega arith) able.on.may)
 
 pub wake-requires-clause-steady : goal.wake-requires-clause-steady
 wake-requires-clause-steady c =
     let old = c.args.core.now in
-    let able = can_proceed (2 ^ 21 * length c.args.queue.now) old.fabric.stage old.place (askers_of old.sessions) c.args.extender c.args.message.now _ c.requires.steady
+    let able = can_proceed (2 ^ 21 * length c.args.queue.now) old.active.stage old.place (askers_of old.sessions) c.args.extender c.args.message.now _ c.requires.steady
     (sym c.take-taken.ensures.taken ∙ c.in-Answer.is) in
     c.in_ok-proceed.ensures.steady (2 ^ 21 * length c.args.queue.now) (rw c.take-taken.ensures.state able.on.may)
 
 pub returns-in_ok-wake-clause-steady : goal.returns-in_ok-wake-clause-steady
 returns-in_ok-wake-clause-steady c k steady =
     let old = c.args.core.now in
-    let able = can_proceed (2 ^ 21 * length c.args.queue.now + k) old.fabric.stage old.place (askers_of old.sessions) c.args.extender c.args.message.now _ steady
+    let able = can_proceed (2 ^ 21 * length c.args.queue.now + k) old.active.stage old.place (askers_of old.sessions) c.args.extender c.args.message.now _ steady
     (sym c.take-taken.ensures.taken ∙ c.in-Answer.is) in
     c.in_ok-wake.ensures.steady k (c.in_ok-proceed.ensures.steady (2 ^ 21 * length c.args.queue.now + k) (rw c.take-taken.ensures.state able.on.may))
 
@@ -63,28 +63,28 @@ returns-in_ok-wake-clause-reached c f same is =
     let old = c.args.core.now in
     let e = c.args.extender in
     let took_it = took (askers_of old.sessions e) c.args.message.now in
-    let able = can_proceed (2 ^ 21 * length c.args.queue.now) old.fabric.stage old.place (askers_of old.sessions) e c.args.message.now _ c.requires.steady
+    let able = can_proceed (2 ^ 21 * length c.args.queue.now) old.active.stage old.place (askers_of old.sessions) e c.args.message.now _ c.requires.steady
     (sym c.take-taken.ensures.taken ∙ c.in-Answer.is) in
-    let d = decide_of old.fabric in
+    let d = decide_of old.active in
     let s = with_asker e took_it.0 (state_in f old) in
-    let m = advances old.fabric.stage (drop (old.place + 1) (asks_in old.fabric.stage)) (record s { work = None }) in
+    let m = advances old.active.stage (drop (old.place + 1) (asks_in old.active.stage)) (record s { work = None }) in
     let first : reached (state_in f c.proceed.new.core) c.proceed.new.events c.proceed.new.asks (table_of c.proceed.new.core.learned)
     ≡ reached_by m c.args.events.now c.args.asks.now (table_of old.learned) =
     c.in_ok-proceed.ensures.reached f
-    ∙ ap (λ (a : ℕ → AskerState). reached_by (advances old.fabric.stage (drop (old.place + 1) (asks_in old.fabric.stage)) (record (rest_of f old) { askers = a }))
+    ∙ ap (λ (a : ℕ → AskerState). reached_by (advances old.active.stage (drop (old.place + 1) (asks_in old.active.stage)) (record (rest_of f old) { askers = a }))
     c.args.events.now c.args.asks.now (table_of old.learned)) c.take-taken.ensures.state in
     c.in_ok-wake.ensures.reached f same is
-    ∙ then_wakes d (decide_of c.proceed.new.core.fabric) m (state_in f c.proceed.new.core) c.args.events.now _ c.args.asks.now _ _ _
-    (same_decide old.fabric c.proceed.new.core.fabric c.in_ok-proceed.ensures.shape c.in_ok-proceed.ensures.limits) first
+    ∙ then_wakes d (decide_of c.proceed.new.core.active) m (state_in f c.proceed.new.core) c.args.events.now _ c.args.asks.now _ _ _
+    (same_decide old.active c.proceed.new.core.active c.in_ok-proceed.ensures.shape c.in_ok-proceed.ensures.limits) first
     ∙ ap (λ (n : Moved). reached_by n c.args.events.now c.args.asks.now (table_of old.learned))
-    (answered_on d old.fabric.stage old.place s took_it.1 _ refl (sym c.take-taken.ensures.taken ∙ c.in-Answer.is) able.busy able.on.within)
+    (answered_on d old.active.stage old.place s took_it.1 _ refl (sym c.take-taken.ensures.taken ∙ c.in-Answer.is) able.busy able.on.within)
 
 pub returns-in_default-clause-reached : goal.returns-in_default-clause-reached
 returns-in_default-clause-reached c f same is =
     let old = c.args.core.now in
     let e = c.args.extender in
     let took_it = took (askers_of old.sessions e) c.args.message.now in
-    stayed (decide_of old.fabric) took_it.1 (with_asker e took_it.0 (state_in f old)) _ c.args.events.now c.args.asks.now (table_of old.learned)
+    stayed (decide_of old.active) took_it.1 (with_asker e took_it.0 (state_in f old)) _ c.args.events.now c.args.asks.now (table_of old.learned)
     (λ r is_one. c.in_default.not-Answer r (c.take-taken.ensures.taken ∙ is_one))
     (rw (c.take-taken.ensures.state, is) refl)
 

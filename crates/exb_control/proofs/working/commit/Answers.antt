@@ -7,11 +7,11 @@ use Rattle.exb_control.proofs.working.commit.Goals as goal
 pub returns-clause-reached : goal.returns-clause-reached
 returns-clause-reached c =
     let old = c.args.core.now in
-    let ready = prepared_is old.fabric.stage c.requires.stage in
+    let ready = prepared_is old.active.stage c.requires.stage in
     let force = c.in_ok-commit.ensures.stage ready.job ready.change ready.is in
     let told = c.in_ok-tell.ensures in
     let here = c.stage.ensures ∙ force in
     on_ok_weaker c.clean.result (λ reached f.
     reached f c.tell.new.events
-    ∙ effect_from (rest_of f old) ready.job ready.change old.fabric.stage c.commit.new.self.stage _ _ _ _ c.args.asks.now _ _ ready.is force
+    ∙ effect_from (rest_of f old) ready.job ready.change old.active.stage c.commit.new.self.stage _ _ _ _ c.args.asks.now _ _ ready.is force
     (c.in_ok-commit.ensures.config ready.job ready.change ready.is) c.in_ok-commit.ensures.held (told.events ready.job ready.change here) (told.table ready.job ready.change here)) c.clean.ensures.reached

@@ -2,7 +2,7 @@ use Rattle.std.proofs.Common.{[], Some, ap, ◌∙◌}
 use Rattle.std.proofs.lemmas.Result.{err_from_is_err_and, on_err_weaker, on_ok_weaker}
 use Rattle.exb_inputs.proofs.ShelvingLemmas.{counts_from}
 use Rattle.exb_text.specs.declared.output.Output.TheVariants as output
-use Rattle.exb_outputs.specs.Plans.{kind_at}
+use Rattle.exb_outputs.specs.Manifests.{kind_at}
 use Rattle.exb_outputs.specs.Writing.{pieces_of, with_more}
 use Rattle.exb_outputs.proofs.Cutting.{cut_same}
 use Rattle.exb_outputs.proofs.ShelvingLemmas.{writes_then}
@@ -18,10 +18,10 @@ returns-clause-texts g c tells =
     (λ last done is.
     let desk = c.args.desk.now in
     let old = g.S.Shelf.file c.args.shelf.now in
-    let counts = counts_text desk.plan desk.counted.ports desk.outputs in
+    let counts = counts_text desk.manifest desk.counted.ports desk.outputs in
     let whole = last old (with_more (text_of done []) output.Counters counts) (c.in_ok-write_counts.ensures.texts tells old (text_of done []) (is.texts tells)) in
     record {
-      each = λ j low. let now = whole.each j low in now.1 ∙ ap Some (now.2 ∙ counts_written done.events done.left [] counts (kind_at desk.plan j));
+      each = λ j low. let now = whole.each j low in now.1 ∙ ap Some (now.2 ∙ counts_written done.events done.left [] counts (kind_at desk.manifest j));
     })
     (c.finish.ensures.texts tells)
 
@@ -33,11 +33,11 @@ returns-in_err-write_counts-clause-cut g c = λ t.
     let desk = c.args.desk.now in
     let old = g.S.Shelf.file c.args.shelf.now in
     let new = g.S.Shelf.file c.write_counts.new.shelf in
-    let counts = counts_text desk.plan desk.counted.ports desk.outputs in
+    let counts = counts_text desk.manifest desk.counted.ports desk.outputs in
     record {
       counts = counts;
-      each = fronts_cut desk.plan (pieces_of desk.outputs) old new (text_of done []) (text_of done counts) (goes-counts done counts) (is.texts t)
-          (cut_same desk.plan old new _ (text_of done counts) (counts_written done.events done.left [] counts) (c.in_err-write_counts.ensures.cut t old (text_of done []) (is.texts t)));
+      each = fronts_cut desk.manifest (pieces_of desk.outputs) old new (text_of done []) (text_of done counts) (goes-counts done counts) (is.texts t)
+          (cut_same desk.manifest old new _ (text_of done counts) (counts_written done.events done.left [] counts) (c.in_err-write_counts.ensures.cut t old (text_of done []) (is.texts t)));
     })
 
 pub returns-clause-cut : goal.returns-clause-cut
@@ -47,11 +47,11 @@ returns-clause-cut g c tells =
     let desk = c.args.desk.now in
     let old = g.S.Shelf.file c.args.shelf.now in
     let new = g.S.Shelf.file c.finish.new.shelf in
-    let counts = counts_text desk.plan desk.counted.ports desk.outputs in
+    let counts = counts_text desk.manifest desk.counted.ports desk.outputs in
     record {
       counts = counts;
-      each = fronts_cut desk.plan (pieces_of desk.outputs) old new (text_of done []) (text_of done counts) (goes-counts done counts) (is.texts tells)
-          (cut_same desk.plan old new _ (text_of done counts) (counts_written done.events done.left [] counts)
+      each = fronts_cut desk.manifest (pieces_of desk.outputs) old new (text_of done []) (text_of done counts) (goes-counts done counts) (is.texts tells)
+          (cut_same desk.manifest old new _ (text_of done counts) (counts_written done.events done.left [] counts)
           (last old (with_more (text_of done []) output.Counters counts) (c.in_ok-write_counts.ensures.texts tells old (text_of done []) (is.texts tells))));
     })
     (c.finish.ensures.cut tells)

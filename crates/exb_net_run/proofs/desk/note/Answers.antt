@@ -38,7 +38,7 @@ overflow_cast-count_left g c =
 pub returns-clause-noted : goal.returns-clause-noted
 returns-clause-noted g c told done together more is =
     let desk = c.args.desk.now in
-    let plan = desk.plan in
+    let manifest = desk.manifest in
     let n = network_of c.args.world.now in
     let old = g.S.Shelf.file c.args.shelf.now in
     let new = g.S.Shelf.file c.write_new.new.shelf in
@@ -52,12 +52,12 @@ returns-clause-noted g c told done together more is =
     subst (λ (bs : List Bool). CountsOn desk.counted.ports c.note.new.self.ports n.log.events bs) c.passed.ensures
     (subst (λ (es : List Event). CountsOn desk.counted.ports c.note.new.self.ports es c.passed.result.now) c.events.ensures c.note.ensures.ports) in
     record {
-      counted = counted-as told done n more plan c.note.new.self
-          (counted-on plan desk.counted c.note.new.self told.events n.log.events told.passed n.log.passed told.left n.log.left tally ports together is.counted);
+      counted = counted-as told done n more manifest c.note.new.self
+          (counted-on manifest desk.counted c.note.new.self told.events n.log.events told.passed n.log.passed told.left n.log.left tally ports together is.counted);
       texts = λ t.
-          own_texts plan (pieces_of outputs) old new (text_of done [])
-          (kinds_same plan old new (pieces_of outputs) _ (text_of done []) (text-on told done n more) (c.in_ok-write_new.ensures.texts t old (text_of told []) (is.texts t)));
-      sent = sent_as plan outputs (sent_with (λ q. left_at q told.left) n.log.left) (λ q. left_at q done.left) (left-on told done n more) (c.in_ok-write_new.ensures.sent (λ q. left_at q told.left) is.sent);
+          own_texts manifest (pieces_of outputs) old new (text_of done [])
+          (kinds_same manifest old new (pieces_of outputs) _ (text_of done []) (text-on told done n more) (c.in_ok-write_new.ensures.texts t old (text_of told []) (is.texts t)));
+      sent = sent_as manifest outputs (sent_with (λ q. left_at q told.left) n.log.left) (λ q. left_at q done.left) (left-on told done n more) (c.in_ok-write_new.ensures.sent (λ q. left_at q told.left) is.sent);
     }
 
 pub returns-in_err-write_new-clause-cut : goal.returns-in_err-write_new-clause-cut
@@ -65,12 +65,12 @@ returns-in_err-write_new-clause-cut g c = λ t.
     let e = err_from_is_err_and c.from_residual.result c.from_residual.ensures.1 in
     rw e.1
     (λ told done more is.
-    let plan = c.args.desk.now.plan in
+    let manifest = c.args.desk.now.manifest in
     let old = g.S.Shelf.file c.args.shelf.now in
     let new = g.S.Shelf.file c.write_new.new.shelf in
     let n = network_of c.args.world.now in
     record {
       counts = [];
-      each = fronts_cut plan (pieces_of c.args.desk.now.outputs) old new (text_of told []) (text_of done []) (goes-on told done n more) (is.texts t)
-          (cut_same plan old new _ (text_of done []) (text-on told done n more) (c.in_err-write_new.ensures.cut t old (text_of told []) (is.texts t)));
+      each = fronts_cut manifest (pieces_of c.args.desk.now.outputs) old new (text_of told []) (text_of done []) (goes-on told done n more) (is.texts t)
+          (cut_same manifest old new _ (text_of done []) (text-on told done n more) (c.in_err-write_new.ensures.cut t old (text_of told []) (is.texts t)));
     })

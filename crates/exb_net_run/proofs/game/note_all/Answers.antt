@@ -4,10 +4,10 @@ use Rattle.std.proofs.lemmas.Option.{slice_get_within}
 use Rattle.std.proofs.lemmas.Result.{err_from_is_err_and}
 use Rattle.exb_inputs.proofs.ShelvingLemmas.{counts_as, counts_from}
 use Rattle.exb_schedule.specs.Worlds.{network_of}
-use Rattle.exb_outputs.specs.Plans.{Planned}
+use Rattle.exb_outputs.specs.Manifests.{Listed}
 use Rattle.exb_net.proofs.Places.{at_place, is_there, set_there}
-use Rattle.exb_net_run.specs.Desks.{AreAllFronts, AreNoted, ArePlansApart, CanNote, IsMore, IsNoted, OnlyWritesAll, plans_in}
-use Rattle.exb_net_run.proofs.Noted.{fronts_more, noted_all, noted_more, noted_skip, only_none, only_one, plans-same-long, plans_set, ready_more, upto_high, upto_none}
+use Rattle.exb_net_run.specs.Desks.{AreAllFronts, AreNoted, AreManifestsApart, CanNote, IsMore, IsNoted, OnlyWritesAll, manifests_in}
+use Rattle.exb_net_run.proofs.Noted.{fronts_more, noted_all, noted_more, noted_skip, only_none, only_one, manifests-same-long, manifests_set, ready_more, upto_high, upto_none}
 use Rattle.exb_net_run.proofs.game.note_all.Goals as goal
 
 pub noting-init : goal.noting-init
@@ -15,7 +15,7 @@ noting-init g c =
     let S = g.S.Shelf in
     let desks = c.args.desks.now.items in
     record {
-      plans = refl;
+      manifests = refl;
       rest = λ b low. refl;
       ready = c.requires.ready;
       noted = λ told dones together more was. subst (AreNoted S.tells (S.file c.args.shelf.now) desks) (sym (upto_none told dones)) was;
@@ -26,7 +26,7 @@ noting-init g c =
 
 pub index_mut-requires : goal.index_mut-requires
 index_mut-requires g c =
-    let long = plans-same-long c.noting.desks.items c.args.desks.now.items c.noting.invariant.plans in
+    let long = manifests-same-long c.noting.desks.items c.args.desks.now.items c.noting.invariant.manifests in
     omega (arith, long, c.requires.can.whole, c.in-Some.ensures.found.1, c.noting.desks.ok.0)
 
 pub noting-smaller : goal.noting-smaller
@@ -37,7 +37,7 @@ note-requires-clause-ready g c =
     let inv = c.noting.invariant in
     let items = c.noting.desks.items in
     let i = c.in-Some.bridge in
-    let long = plans-same-long items c.args.desks.now.items inv.plans in
+    let long = manifests-same-long items c.args.desks.now.items inv.manifests in
     let inside : i < length items = omega (arith, long, c.requires.can.whole, c.in-Some.ensures.found.1) in
     inv.ready.each i c.index_mut.result.now (at_place items i c.index_mut.result.now inside c.index_mut.ensures.value)
 
@@ -47,12 +47,12 @@ note-requires-clause-can g c =
     let items = c.noting.desks.items in
     let i = c.in-Some.bridge in
     let found = c.in-Some.ensures.found in
-    let long = plans-same-long items c.args.desks.now.items inv.plans in
+    let long = manifests-same-long items c.args.desks.now.items inv.manifests in
     let inside : i < length items = omega (arith, long, c.requires.can.whole, found.1) in
     let was = c.index_mut.result.now in
     let before = sym (inv.rest i found.0) ∙ at_place items i was inside c.index_mut.ensures.value in
     let node = is_there c.args.net.now.nodes.items i found.1 in
-    subst (λ (w : _). CanNote was.plan was.counted (network_of w)) (sym (c.world.ensures node.0 node.1)) (c.requires.can.each i was node.0 before node.1)
+    subst (λ (w : _). CanNote was.manifest was.counted (network_of w)) (sym (c.world.ensures node.0 node.1)) (c.requires.can.each i was node.0 before node.1)
 
 pub noting-preserved : goal.noting-preserved
 noting-preserved g c =
@@ -62,7 +62,7 @@ noting-preserved g c =
     let nodes = c.args.net.now.nodes.items in
     let i = c.in-Some.bridge in
     let found = c.in-Some.ensures.found in
-    let long = plans-same-long items c.args.desks.now.items inv.plans in
+    let long = manifests-same-long items c.args.desks.now.items inv.manifests in
     let inside : i < length items = omega (arith, long, c.requires.can.whole, found.1) in
     let within : i ≤ length nodes = omega (arith, found.1) in
     let was = c.index_mut.result.now in
@@ -70,9 +70,9 @@ noting-preserved g c =
     let node = is_there nodes i found.1 in
     let noted = c.in_ok-note.ensures in
     let now = c.note.new.desk in
-    let apart : ArePlansApart (plans_in items) = subst ArePlansApart (sym inv.plans) c.requires.apart in
+    let apart : AreManifestsApart (manifests_in items) = subst AreManifestsApart (sym inv.manifests) c.requires.apart in
     record {
-      plans = plans_set items i was now at noted.plan ∙ inv.plans;
+      manifests = manifests_set items i was now at noted.manifest ∙ inv.manifests;
       rest = λ b high. set_there items i b now (omega (arith, high)) ∙ inv.rest b (omega (arith, high, found.0));
       ready = ready_more (S.ids c.noting.shelf) (S.ids c.note.new.shelf) items i was now at noted.only.kept inv.ready noted.ready;
       noted = λ told dones together more all.
@@ -80,9 +80,9 @@ noting-preserved g c =
           (noted_skip nodes S.tells (S.file c.noting.shelf) items c.noting.from i told dones found.0 within found.2 more (inv.noted told dones together more all))
           (λ own. noted.noted (told i) (dones i) (together.each i node.0 node.1) (subst (λ (w : _). IsMore (told i) (dones i) (network_of w)) (sym (c.world.ensures node.0 node.1)) (more.each i node.0 node.1)) own);
       only =
-          subst (λ (ps : List Planned). OnlyWritesAll S.tells ps (S.file c.args.shelf.now) (S.file c.note.new.shelf) (S.ids c.args.shelf.now) (S.ids c.note.new.shelf)) inv.plans
+          subst (λ (ps : List Listed). OnlyWritesAll S.tells ps (S.file c.args.shelf.now) (S.file c.note.new.shelf) (S.ids c.args.shelf.now) (S.ids c.note.new.shelf)) inv.manifests
           (only_one items apart i was at S.tells (S.file c.args.shelf.now) (S.file c.noting.shelf) (S.file c.note.new.shelf) (S.ids c.args.shelf.now) (S.ids c.noting.shelf) (S.ids c.note.new.shelf)
-          (subst (λ (ps : List Planned). OnlyWritesAll S.tells ps (S.file c.args.shelf.now) (S.file c.noting.shelf) (S.ids c.args.shelf.now) (S.ids c.noting.shelf)) (sym inv.plans) inv.only) noted.only);
+          (subst (λ (ps : List Listed). OnlyWritesAll S.tells ps (S.file c.args.shelf.now) (S.file c.noting.shelf) (S.ids c.args.shelf.now) (S.ids c.noting.shelf)) (sym inv.manifests) inv.only) noted.only);
       faults = search (arith, noted.faults.none_fell, inv.faults);
       counted = noted.faults.once ∙ inv.counted;
     }
@@ -95,7 +95,7 @@ returns-clause-noted g c told dones together more was =
     let nodes = c.args.net.now.nodes.items in
     let n = length nodes in
     let all = inv.noted told dones together more was in
-    let long = plans-same-long items c.args.desks.now.items inv.plans in
+    let long = manifests-same-long items c.args.desks.now.items inv.manifests in
     elim (cases_lt c.noting.from n) [
       | inl low ↦
           noted_all S.tells (S.file c.noting.shelf) items n told dones (omega (arith, long, c.requires.can.whole))
@@ -109,14 +109,14 @@ returns-in_err-note-clause-only g c =
     let inv = c.noting.invariant in
     let items = c.noting.desks.items in
     let i = c.in-Some.bridge in
-    let long = plans-same-long items c.args.desks.now.items inv.plans in
+    let long = manifests-same-long items c.args.desks.now.items inv.manifests in
     let inside : i < length items = omega (arith, long, c.requires.can.whole, c.in-Some.ensures.found.1) in
     let was = c.index_mut.result.now in
     let at = at_place items i was inside c.index_mut.ensures.value in
-    let apart : ArePlansApart (plans_in items) = subst ArePlansApart (sym inv.plans) c.requires.apart in
-    subst (λ (ps : List Planned). OnlyWritesAll S.tells ps (S.file c.args.shelf.now) (S.file c.note.new.shelf) (S.ids c.args.shelf.now) (S.ids c.note.new.shelf)) inv.plans
+    let apart : AreManifestsApart (manifests_in items) = subst AreManifestsApart (sym inv.manifests) c.requires.apart in
+    subst (λ (ps : List Listed). OnlyWritesAll S.tells ps (S.file c.args.shelf.now) (S.file c.note.new.shelf) (S.ids c.args.shelf.now) (S.ids c.note.new.shelf)) inv.manifests
     (only_one items apart i was at S.tells (S.file c.args.shelf.now) (S.file c.noting.shelf) (S.file c.note.new.shelf) (S.ids c.args.shelf.now) (S.ids c.noting.shelf) (S.ids c.note.new.shelf)
-    (subst (λ (ps : List Planned). OnlyWritesAll S.tells ps (S.file c.args.shelf.now) (S.file c.noting.shelf) (S.ids c.args.shelf.now) (S.ids c.noting.shelf)) (sym inv.plans) inv.only) c.in_err-note.ensures.only)
+    (subst (λ (ps : List Listed). OnlyWritesAll S.tells ps (S.file c.args.shelf.now) (S.file c.noting.shelf) (S.ids c.args.shelf.now) (S.ids c.noting.shelf)) (sym inv.manifests) inv.only) c.in_err-note.ensures.only)
 
 pub returns-in_err-note-clause-cut : goal.returns-in_err-note-clause-cut
 returns-in_err-note-clause-cut g c = λ t.
@@ -130,15 +130,15 @@ returns-in_err-note-clause-cut g c = λ t.
     let i = c.in-Some.bridge in
     let found = c.in-Some.ensures.found in
     let whole = c.requires.can.whole in
-    let long = plans-same-long items c.args.desks.now.items inv.plans in
+    let long = manifests-same-long items c.args.desks.now.items inv.manifests in
     let inside : i < length items = omega (arith, long, whole, found.1) in
     let within : i ≤ length nodes = omega (arith, found.1) in
     let was = c.index_mut.result.now in
     let at = at_place items i was inside c.index_mut.ensures.value in
     let node = is_there nodes i found.1 in
-    let apart : ArePlansApart (plans_in items) = subst ArePlansApart (sym inv.plans) c.requires.apart in
+    let apart : AreManifestsApart (manifests_in items) = subst AreManifestsApart (sym inv.manifests) c.requires.apart in
     let noted = noted_skip nodes S.tells (S.file c.noting.shelf) items c.noting.from i told dones found.0 within found.2 more (inv.noted told dones together more all) in
-    subst (λ (ps : List Planned). AreAllFronts ps (S.file c.note.new.shelf) dones) inv.plans
+    subst (λ (ps : List Listed). AreAllFronts ps (S.file c.note.new.shelf) dones) inv.manifests
     (fronts_more (S.file c.noting.shelf) (S.file c.note.new.shelf) items i was told dones apart at (c.in_err-note.ensures.only.others t) (λ b k is. (noted.each b k is).texts t)
     (λ b k is.
     let inside_b = slice_get_within items b k is in
@@ -152,16 +152,16 @@ returns-in_err-note-clause-faults g c =
     let e = err_from_is_err_and c.from_residual.result c.from_residual.ensures.1 in
     rw (e.1, e.2) (counts_from _ _ _ _ c.noting.invariant.counted (counts_as c.in_err-note.field-0.0 _ _ c.in_err-note.ensures.faults))
 
-pub returns-in_err-note-clause-plans : goal.returns-in_err-note-clause-plans
-returns-in_err-note-clause-plans g c =
+pub returns-in_err-note-clause-manifests : goal.returns-in_err-note-clause-manifests
+returns-in_err-note-clause-manifests g c =
     let inv = c.noting.invariant in
     let items = c.noting.desks.items in
     let i = c.in-Some.bridge in
-    let long = plans-same-long items c.args.desks.now.items inv.plans in
+    let long = manifests-same-long items c.args.desks.now.items inv.manifests in
     let inside : i < length items = omega (arith, long, c.requires.can.whole, c.in-Some.ensures.found.1) in
     let was = c.index_mut.result.now in
     let at = at_place items i was inside c.index_mut.ensures.value in
-    plans_set items i was c.note.new.desk at c.in_err-note.ensures.plan ∙ inv.plans
+    manifests_set items i was c.note.new.desk at c.in_err-note.ensures.manifest ∙ inv.manifests
 
 pub returns-in_err-note-clause-ready : goal.returns-in_err-note-clause-ready
 returns-in_err-note-clause-ready g c =
@@ -169,7 +169,7 @@ returns-in_err-note-clause-ready g c =
     let inv = c.noting.invariant in
     let items = c.noting.desks.items in
     let i = c.in-Some.bridge in
-    let long = plans-same-long items c.args.desks.now.items inv.plans in
+    let long = manifests-same-long items c.args.desks.now.items inv.manifests in
     let inside : i < length items = omega (arith, long, c.requires.can.whole, c.in-Some.ensures.found.1) in
     let was = c.index_mut.result.now in
     let at = at_place items i was inside c.index_mut.ensures.value in

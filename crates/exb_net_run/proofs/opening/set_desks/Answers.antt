@@ -9,7 +9,7 @@ use Rattle.exb_net_file.specs.declared.apart.NetRest.{NetRest}
 use Rattle.exb_net_file.specs.declared.members.NetMember.{NetMember}
 use Rattle.exb_net_file.specs.Apart.{rest_of}
 use Rattle.exb_outputs.specs.Order.{MadeInOrder}
-use Rattle.exb_outputs.specs.Plans.{Planned}
+use Rattle.exb_outputs.specs.Manifests.{Listed}
 use Rattle.exb_outputs.specs.Shelving.{OnlyMakes}
 use Rattle.exb_outputs.specs.Writing.{AreCut}
 use Rattle.exb_net_run.specs.declared.desk.Desk.{Desk}
@@ -52,10 +52,10 @@ loop-bridge-preserved g c =
       set = λ ms ws taken read.
           let k = next_here c.args.counters ms ws c.args.parts.now taken c.as_slice-setups.result.now c.as_slice-rests.result.now c.as_slice-setups.ensures c.as_slice-rests.ensures i (omega arith) c.index-setups-bridge.result c.index-rests-bridge.result
           c.as_str-name.result.now c.index-setups-bridge.is c.index-rests-bridge.is c.as_str-name.ensures in
-          let only = subst (λ (p : Planned). OnlyMakes S.tells p now new ids ids2) k.plan made.only in
+          let only = subst (λ (p : Listed). OnlyMakes S.tells p now new ids ids2) k.manifest made.only in
           let next : SetUpTo c.args.counters ms S.tells (suc i) old new given ids2 (c.loop-bridge.desks.items ++ d.0 ∷ []) =
-          set_next c.bridges_write_apart.ensures c.args.counters ms read.names read.apart S.tells i old now new given ids ids2 c.loop-bridge.desks.items k.member k.here (inv.set ms ws taken read) only d.0 (d.2 ∙ k.plan) d.3
-          (made_all _ _ tt ids ids2 k.plan made.made) in
+          set_next c.bridges_write_apart.ensures c.args.counters ms read.names read.apart S.tells i old now new given ids ids2 c.loop-bridge.desks.items k.member k.here (inv.set ms ws taken read) only d.0 (d.2 ∙ k.manifest) d.3
+          (made_all _ _ tt ids ids2 k.manifest made.made) in
           subst (λ (n : ℕ). SetUpTo c.args.counters ms S.tells n old new given ids2 c.set_desk.new.desks.items) (plus i) (subst (λ (ds : List Desk). SetUpTo c.args.counters ms S.tells (suc i) old new given ids2 ds) (sym d.1) next);
       faults = search (arith, made.faults.none_fell, inv.faults);
       counted = made.faults.once ∙ inv.counted;
@@ -95,8 +95,8 @@ returns-in_err-set_desk-clause-cut g c = λ t.
     let k = next_here c.args.counters ms ws c.args.parts.now taken c.as_slice-setups.result.now c.as_slice-rests.result.now c.as_slice-setups.ensures c.as_slice-rests.ensures i (omega arith) c.index-setups-bridge.result c.index-rests-bridge.result
     c.as_str-name.result.now c.index-setups-bridge.is c.index-rests-bridge.is c.as_str-name.ensures in
     cut_before c.bridges_write_apart.ensures c.args.counters ms read.names read.apart S.tells i (S.file c.args.shelf.now) now new (S.ids c.args.shelf.now) (S.ids c.loop-bridge.shelf) (S.ids c.set_desk.new.shelf) c.loop-bridge.desks.items k.member k.here
-    (c.loop-bridge.invariant.set ms ws taken read) (subst (λ (p : Planned). OnlyMakes S.tells p now new (S.ids c.loop-bridge.shelf) (S.ids c.set_desk.new.shelf)) k.plan bad.only) t text goes
-    (subst (λ (p : Planned). AreCut p now new (text i)) k.plan (bad.cut t (text i) (goes i))))
+    (c.loop-bridge.invariant.set ms ws taken read) (subst (λ (p : Listed). OnlyMakes S.tells p now new (S.ids c.loop-bridge.shelf) (S.ids c.set_desk.new.shelf)) k.manifest bad.only) t text goes
+    (subst (λ (p : Listed). AreCut p now new (text i)) k.manifest (bad.cut t (text i) (goes i))))
 
 pub returns-in_err-set_desk-clause-only : goal.returns-in_err-set_desk-clause-only
 returns-in_err-set_desk-clause-only g c = λ t ms ws taken read.
@@ -107,7 +107,7 @@ returns-in_err-set_desk-clause-only g c = λ t ms ws taken read.
     let k = next_here c.args.counters ms ws c.args.parts.now taken c.as_slice-setups.result.now c.as_slice-rests.result.now c.as_slice-setups.ensures c.as_slice-rests.ensures i (omega arith) c.index-setups-bridge.result c.index-rests-bridge.result
     c.as_str-name.result.now c.index-setups-bridge.is c.index-rests-bridge.is c.as_str-name.ensures in
     only_all c.bridges_write_apart.ensures c.args.counters ms read.names read.apart S.tells i (S.file c.args.shelf.now) now new (S.ids c.args.shelf.now) (S.ids c.loop-bridge.shelf) (S.ids c.set_desk.new.shelf) c.loop-bridge.desks.items k.member k.here
-    (c.loop-bridge.invariant.set ms ws taken read) (subst (λ (p : Planned). OnlyMakes S.tells p now new (S.ids c.loop-bridge.shelf) (S.ids c.set_desk.new.shelf)) k.plan c.in_err-set_desk.ensures.only) t
+    (c.loop-bridge.invariant.set ms ws taken read) (subst (λ (p : Listed). OnlyMakes S.tells p now new (S.ids c.loop-bridge.shelf) (S.ids c.set_desk.new.shelf)) k.manifest c.in_err-set_desk.ensures.only) t
 
 pub returns-in_err-set_desk-clause-opened : goal.returns-in_err-set_desk-clause-opened
 returns-in_err-set_desk-clause-opened g c = λ ms ws taken read.
@@ -118,7 +118,7 @@ returns-in_err-set_desk-clause-opened g c = λ ms ws taken read.
     let k = next_here c.args.counters ms ws c.args.parts.now taken c.as_slice-setups.result.now c.as_slice-rests.result.now c.as_slice-setups.ensures c.as_slice-rests.ensures i (omega arith) c.index-setups-bridge.result c.index-rests-bridge.result
     c.as_str-name.result.now c.index-setups-bridge.is c.index-rests-bridge.is c.as_str-name.ensures in
     opened_more c.bridges_write_apart.ensures c.args.counters ms read.names read.apart S.tells i (S.file c.args.shelf.now) now new (S.ids c.args.shelf.now) (S.ids c.loop-bridge.shelf) (S.ids c.set_desk.new.shelf) c.loop-bridge.desks.items k.member k.here
-    (c.loop-bridge.invariant.set ms ws taken read) (subst (λ (p : Planned). OnlyMakes S.tells p now new (S.ids c.loop-bridge.shelf) (S.ids c.set_desk.new.shelf)) k.plan c.in_err-set_desk.ensures.only)
+    (c.loop-bridge.invariant.set ms ws taken read) (subst (λ (p : Listed). OnlyMakes S.tells p now new (S.ids c.loop-bridge.shelf) (S.ids c.set_desk.new.shelf)) k.manifest c.in_err-set_desk.ensures.only)
 
 pub returns-in_err-set_desk-clause-made : goal.returns-in_err-set_desk-clause-made
 returns-in_err-set_desk-clause-made g c =
@@ -136,5 +136,5 @@ returns-in_err-set_desk-clause-made g c =
     let k = next_here c.args.counters ms ws c.args.parts.now taken c.as_slice-setups.result.now c.as_slice-rests.result.now c.as_slice-setups.ensures c.as_slice-rests.ensures i (omega arith) c.index-setups-bridge.result c.index-rests-bridge.result
     c.as_str-name.result.now c.index-setups-bridge.is c.index-rests-bridge.is c.as_str-name.ensures in
     makes_some c.bridges_write_apart.ensures c.args.counters ms read.names read.apart S.tells i (S.file c.args.shelf.now) now new (S.ids c.args.shelf.now) ids ids2 c.loop-bridge.desks.items k.member k.here
-    (c.loop-bridge.invariant.set ms ws taken read) (subst (λ (p : Planned). OnlyMakes S.tells p now new ids ids2) k.plan bad.only) x bad.made.count (not_late (Vec Desk Global) x bad.causes)
-    (subst (λ (p : Planned). MadeInOrder p bad.made.count ids ids2) k.plan bad.made.made))
+    (c.loop-bridge.invariant.set ms ws taken read) (subst (λ (p : Listed). OnlyMakes S.tells p now new ids ids2) k.manifest bad.only) x bad.made.count (not_late (Vec Desk Global) x bad.causes)
+    (subst (λ (p : Listed). MadeInOrder p bad.made.count ids ids2) k.manifest bad.made.made))

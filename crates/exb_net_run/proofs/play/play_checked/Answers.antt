@@ -3,11 +3,11 @@ use Rattle.std.specs.Prelude.{string_bytes}
 use Rattle.std.proofs.lemmas.Result.{err_from_is_err_and}
 use Rattle.exb_inputs.proofs.Outcomes.{if_ok_map}
 use Rattle.exb_nets.specs.Nets.{Net}
-use Rattle.exb_outputs.specs.Plans.{Planned}
+use Rattle.exb_outputs.specs.Manifests.{Listed}
 use Rattle.exb_shelf.proofs.IdLemmas.{opens_then, opens_weaker}
 use Rattle.exb_net_inputs.specs.Opening.{ReadsMemberCapture}
-use Rattle.exb_net_run.specs.Desks.{OnlyAllPlanned}
-use Rattle.exb_net_run.specs.Nets.{net_of, plan_with}
+use Rattle.exb_net_run.specs.Desks.{OnlyAllListed}
+use Rattle.exb_net_run.specs.Nets.{net_of, manifest_with}
 use Rattle.exb_net_run.specs.Opening.{WritesNetOutput}
 use Rattle.exb_net_run.specs.Outputs.{AreNetFronts}
 use Rattle.exb_net_run.specs.UnderWay.{HasWritten, IsCutOff}
@@ -58,7 +58,7 @@ returns-clause-done g c tells =
     let ready = prepared c.bridges_write_apart.ensures S.tells counters ms ws c.args.parts.now c.args.checked.now old now (S.ids c.set_desks.new.shelf) c.in_ok-desks.desks.items taken read
     (members_same S.tells ms old now c.args.checked.now (λ s. stay) all) (c.in_ok-desks.ensures.set ms ws taken read) in
     played counters ms (net_of ms ws old) (net_is ms ws old c.inputs_are_of_members.ensures read) (trees_are ms ws old) old new (string_bytes line)
-    (subst (λ (n : Net). HasWritten (record { net = n; before = old; plans = map (plan_with counters) ms }) new (string_bytes line)) (net_same ms ws old now stay) (wrote counters ms ws old ready)))
+    (subst (λ (n : Net). HasWritten (record { net = n; before = old; manifests = map (manifest_with counters) ms }) new (string_bytes line)) (net_same ms ws old now stay) (wrote counters ms ws old ready)))
     (c.play_into.ensures.done tells)
 
 pub returns-clause-fronts : goal.returns-clause-fronts
@@ -75,9 +75,9 @@ returns-clause-fronts g c tells = λ ms ws taken read all.
     (members_same S.tells ms old now c.args.checked.now (λ s. stay) all) (c.in_ok-desks.ensures.set ms ws taken read) in
     either_way {R = AreNetFronts ms (net_of ms ws old) old new} c.play_into.result
     (λ line wrote. played_fronts counters ms (net_of ms ws old) net (trees_are ms ws old) old new (string_bytes line)
-    (subst (λ (n : Net). HasWritten (record { net = n; before = old; plans = map (plan_with counters) ms }) new (string_bytes line)) same (wrote counters ms ws old ready)))
+    (subst (λ (n : Net). HasWritten (record { net = n; before = old; manifests = map (manifest_with counters) ms }) new (string_bytes line)) same (wrote counters ms ws old ready)))
     (λ cut. cut_fronts counters ms (net_of ms ws old) net (trees_are ms ws old) c.nets_have_histories.ensures c.nets_are_played.ensures c.histories_go_on.ensures old new
-    (subst (λ (n : Net). IsCutOff (record { net = n; before = old; plans = map (plan_with counters) ms }) new) same (cut counters ms ws old ready))) (c.play_into.ensures.done tells) (c.play_into.ensures.cut tells)
+    (subst (λ (n : Net). IsCutOff (record { net = n; before = old; manifests = map (manifest_with counters) ms }) new) same (cut counters ms ws old ready))) (c.play_into.ensures.done tells) (c.play_into.ensures.cut tells)
 
 pub returns-in_err-desks-clause-fronts : goal.returns-in_err-desks-clause-fronts
 returns-in_err-desks-clause-fronts g c tells = λ ms ws taken read all.
@@ -89,11 +89,11 @@ returns-in_err-desks-clause-fronts g c tells = λ ms ws taken read all.
 pub returns-clause-only : goal.returns-clause-only
 returns-clause-only g c = λ t ms ws taken read.
     let S = g.S.Shelf in
-    let ps = map (plan_with c.args.counters) ms in
+    let ps = map (manifest_with c.args.counters) ms in
     let now = S.file c.set_desks.new.shelf in
     let new = S.file c.play_into.new.shelf in
     only_all_then ps (S.file c.args.shelf.now) now new (c.in_ok-desks.ensures.only t ms ws taken read)
-    (subst (λ (qs : List Planned). OnlyAllPlanned qs now new) (c.in_ok-desks.ensures.set ms ws taken read).plans (c.play_into.ensures.only t))
+    (subst (λ (qs : List Listed). OnlyAllListed qs now new) (c.in_ok-desks.ensures.set ms ws taken read).manifests (c.play_into.ensures.only t))
 
 pub returns-clause-opens : goal.returns-clause-opens
 returns-clause-opens g c = λ ms ws taken read.

@@ -3,7 +3,7 @@ use Rattle.std.proofs.lemmas.Result.{on_ok_weaker}
 use Rattle.exb_model.specs.ETags.{Tag, TagFits, tagged}
 use Rattle.exb_extender.specs.Forwarding.{channel_tag}
 use Rattle.exb_model.specs.Tree.{Shape, on, trunk}
-use Rattle.exb_control.specs.Fabrics.{held_in}
+use Rattle.exb_control.specs.ActiveConfigs.{held_in}
 use Rattle.exb_machine.specs.Controls.{channel_at_trunk}
 use Rattle.exb_machine.specs.Extending.{hung_on}
 use Rattle.exb_machine.specs.Hearing.{puts}
@@ -13,7 +13,7 @@ use Rattle.exb_network.proofs.asking.put_deeper.Goals as goal
 
 pub tag_into-requires-clause-fits : goal.tag_into-requires-clause-fits
 tag_into-requires-clause-fits c =
-    let f = c.args.core.now.control.fabric in
+    let f = c.args.core.now.control.active in
     subst TagFits (sym c.channel_tag.ensures) (channel_fits f.shape (held_in f) c.on.result c.in-Some-of.channel (sym c.of.ensures ∙ c.in-Some-of.is))
 
 pub put-requires-clause-known : goal.put-requires-clause-known
@@ -24,7 +24,7 @@ returns c =
     let t = c.args.site.now.tree in
     let n = c.args.extender in
     let core = c.args.core.now in
-    let f = core.control.fabric in
+    let f = core.control.active in
     let below = trunk_below t c.tree-tree.result.now n c.at.result c.trunk-trunk.result c.hung_on.result c.in-Some.below c.tree-tree.ensures c.trunk-trunk.ensures.value c.at.ensures c.hung_on.ensures c.in-Some.is in
     let has = channel_has t f.shape (held_in f) n c.on.result c.of.result c.in-Some-of.channel c.requires.at.shape c.on.ensures c.of.ensures c.in-Some-of.is in
     let spelled = c.from_vec.ensures ∙ c.in_ok-tag_into.ensures ∙ ap (λ (x : Tag). tagged c.args.frame.now x) c.channel_tag.ensures in

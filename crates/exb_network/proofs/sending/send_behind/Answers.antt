@@ -20,9 +20,9 @@ returns-clause-sent c =
     let core = c.args.core.now in
     let w = world_in core in
     let before = c.args.post.now.log in
-    let told = c.leave.new.post.log in
+    let told = c.leave_extender.new.post.log in
     let same = c.joins.ensures.other c.if-joins.false in
-    let at_row = subst (λ (r : Row). Does (each (sends t c.device-number.result stamp) (row_sent f (ports_in r)) w) s core before told) same c.in_ok-leave.ensures in
+    let at_row = subst (λ (r : Row). Does (each (sends t c.device-number.result stamp) (row_sent f (ports_in r)) w) s core before told) same c.in_ok-leave_extender.ensures in
     let first = subst (λ (n : ℕ). Does (each (sends t n stamp) (row_sent f (ports_in row)) w) s core before told) c.device-number.ensures.value at_row in
     on_ok_weaker c.send_frame.result
     (λ done.

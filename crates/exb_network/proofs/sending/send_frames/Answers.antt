@@ -36,7 +36,7 @@ returns c =
     let stamp = c.args.came.now.stamp in
     let f = c.args.came.now.frame.now in
     let outs = c.args.outs.now in
-    on_ok_weaker c.leave.result
-    (behind_last s n stamp f outs c.loop-out.out-index c.loop-out.row c.loop-out.core (each (sends s.tree n stamp) (map (out_sent f) outs) (world_in c.args.core.now)) c.args.post.now.log c.loop-out.post.log c.leave.new.post.log
+    on_ok_weaker c.leave_extender.result
+    (behind_last s n stamp f outs c.loop-out.out-index c.loop-out.row c.loop-out.core (each (sends s.tree n stamp) (map (out_sent f) outs) (world_in c.args.core.now)) c.args.post.now.log c.loop-out.post.log c.leave_extender.new.post.log
     c.loop-out-test.false c.loop-out.invariant.leads)
-    c.leave.ensures
+    c.leave_extender.ensures

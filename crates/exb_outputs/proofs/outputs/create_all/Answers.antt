@@ -5,7 +5,7 @@ use Rattle.exb_inputs.proofs.ShelvingLemmas.{counts_as, counts_from}
 use Rattle.exb_shelf.specs.Files.{Filled}
 use Rattle.exb_shelf.proofs.FileLemmas.{filled_none, filled_one}
 use Rattle.exb_shelf.proofs.IdLemmas.{opens_none, opens_then}
-use Rattle.exb_outputs.specs.Plans.{kind_at, output_count, output_name}
+use Rattle.exb_outputs.specs.Manifests.{kind_at, output_count, output_name}
 use Rattle.exb_outputs.specs.Sent.{records_of, sizes_of}
 use Rattle.exb_outputs.specs.Writing.{ids_of, pieces_of, first_text}
 use Rattle.exb_outputs.proofs.OutputLemmas.{more_named, more_texts, none_written}
@@ -23,7 +23,7 @@ loop-at-init g c = record {
   sizes = λ j l. absurd (omega arith);
   files = λ t. filled_none _ _ _;
   opened = opens_none _ _;
-  made = made_none c.args.plan.now _;
+  made = made_none c.args.manifest.now _;
   faults = search rules;
   counted = refl;
 }
@@ -33,12 +33,12 @@ loop-at-preserved g c =
     let S = g.S.Shelf in
     let before = c.loop-at.invariant in
     let made = c.in_ok-create_one.ensures in
-    let name = output_name c.args.plan.now in
+    let name = output_name c.args.manifest.now in
     let all = c.loop-at.outputs.files.items in
     let ids = ids_of c.loop-at.outputs in
     let pieces = pieces_of c.loop-at.outputs in
-    let first = λ (k : ℕ). first_text (kind_at c.args.plan.now k) in
-    let lt : c.loop-at.at < output_count c.args.plan.now = omega arith in
+    let first = λ (k : ℕ). first_text (kind_at c.args.manifest.now k) in
+    let lt : c.loop-at.at < output_count c.args.manifest.now = omega arith in
     record {
       count = made.count;
       named = λ j l.
@@ -54,10 +54,10 @@ loop-at-preserved g c =
           ap (λ (xs : List ℕ). slice_index xs j) made.sizes
           ∙ more_values (sizes_of c.loop-at.outputs) (length (first c.loop-at.at)) c.loop-at.at (λ k. length (first k)) (length-map all size_of ∙ before.count) before.sizes refl j l;
       files = λ t.
-          filled_one (S.file c.args.shelf.now) (S.file c.loop-at.shelf) (S.file c.create_one.new.shelf) (output_count c.args.plan.now) c.loop-at.at name (λ j bytes. bytes ≡ [])
-          [] (c.output_names_differ.ensures c.args.plan.now) lt (before.files t) (made.empty t) refl;
+          filled_one (S.file c.args.shelf.now) (S.file c.loop-at.shelf) (S.file c.create_one.new.shelf) (output_count c.args.manifest.now) c.loop-at.at name (λ j bytes. bytes ≡ [])
+          [] (c.output_names_differ.ensures c.args.manifest.now) lt (before.files t) (made.empty t) refl;
       opened = opens_then _ _ _ _ before.opened made.opened;
-      made = made_more c.args.plan.now c.loop-at.at _ _ _ before.made before.opened.kept lt made.makes.0 made.makes.1;
+      made = made_more c.args.manifest.now c.loop-at.at _ _ _ before.made before.opened.kept lt made.makes.0 made.makes.1;
       faults = search (arith, made.faults.none_fell, before.faults);
       counted = made.faults.once ∙ before.counted;
     }
@@ -65,10 +65,10 @@ loop-at-preserved g c =
 pub returns-clause-texts : goal.returns-clause-texts
 returns-clause-texts g c = λ t.
     let S = g.S.Shelf in
-    let all : c.loop-at.at ≡ output_count c.args.plan.now = omega arith in
-    none_written c.args.plan.now (S.file c.args.shelf.now) (S.file c.loop-at.shelf) (pieces_of c.loop-at.outputs) (λ k. first_text (kind_at c.args.plan.now k))
+    let all : c.loop-at.at ≡ output_count c.args.manifest.now = omega arith in
+    none_written c.args.manifest.now (S.file c.args.shelf.now) (S.file c.loop-at.shelf) (pieces_of c.loop-at.outputs) (λ k. first_text (kind_at c.args.manifest.now k))
     (λ j l. c.loop-at.invariant.texts j (omega arith))
-    (subst (λ (n : ℕ). Filled (S.file c.args.shelf.now) (S.file c.loop-at.shelf) n (output_name c.args.plan.now) (λ j bytes. bytes ≡ [])) all (c.loop-at.invariant.files t))
+    (subst (λ (n : ℕ). Filled (S.file c.args.shelf.now) (S.file c.loop-at.shelf) n (output_name c.args.manifest.now) (λ j bytes. bytes ≡ [])) all (c.loop-at.invariant.files t))
 
 pub returns-in_err-create_one-clause-only : goal.returns-in_err-create_one-clause-only
 returns-in_err-create_one-clause-only g c = record {
@@ -83,13 +83,13 @@ returns-clause-only g c = record {
 }
 
 pub returns-clause-made : goal.returns-clause-made
-returns-clause-made g c = makes_all c.args.plan.now c.loop-at.at _ _ _ c.loop-at.invariant.made (omega arith)
+returns-clause-made g c = makes_all c.args.manifest.now c.loop-at.at _ _ _ c.loop-at.invariant.made (omega arith)
 
 pub returns-in_err-create_one-clause-made : goal.returns-in_err-create_one-clause-made
 returns-in_err-create_one-clause-made g c =
     let e = err_from_is_err_and c.from_residual.result c.from_residual.ensures.1 in
     let inv = c.loop-at.invariant in
-    rw (e.1, e.2) (makes_some c.args.plan.now c.loop-at.at _ _ _ _ inv.made inv.opened.kept (omega arith) c.in_err-create_one.ensures.may_make c.in_err-create_one.ensures.causes)
+    rw (e.1, e.2) (makes_some c.args.manifest.now c.loop-at.at _ _ _ _ inv.made inv.opened.kept (omega arith) c.in_err-create_one.ensures.may_make c.in_err-create_one.ensures.causes)
 
 pub returns-in_err-create_one-clause-cut : goal.returns-in_err-create_one-clause-cut
 returns-in_err-create_one-clause-cut g c = λ t.
@@ -97,13 +97,13 @@ returns-in_err-create_one-clause-cut g c = λ t.
     rw e.1
     (λ text.
     let S = g.S.Shelf in
-    let plan = c.args.plan.now in
-    cut_made plan (S.file c.args.shelf.now) (S.file c.loop-at.shelf) (S.file c.create_one.new.shelf) c.loop-at.at (c.output_names_differ.ensures plan) (omega arith)
+    let manifest = c.args.manifest.now in
+    cut_made manifest (S.file c.args.shelf.now) (S.file c.loop-at.shelf) (S.file c.create_one.new.shelf) c.loop-at.at (c.output_names_differ.ensures manifest) (omega arith)
     (c.loop-at.invariant.files t) (c.in_err-create_one.ensures.stays t) text)
 
 pub returns-clause-sent : goal.returns-clause-sent
 returns-clause-sent g c =
-    first_sent c.args.plan.now c.loop-at.outputs (λ j l. c.loop-at.invariant.records j (omega arith)) (λ j l. c.loop-at.invariant.sizes j (omega arith))
+    first_sent c.args.manifest.now c.loop-at.outputs (λ j l. c.loop-at.invariant.records j (omega arith)) (λ j l. c.loop-at.invariant.sizes j (omega arith))
 
 pub returns-in_err-create_one-clause-faults : goal.returns-in_err-create_one-clause-faults
 returns-in_err-create_one-clause-faults g c =

@@ -2,9 +2,9 @@ use Rattle.std.proofs.Common.{◌≡◌, ◌<◌, ℕ, [], length, slice_index, 
 use Rattle.exb_shelf.specs.Files.{Filled}
 use Rattle.exb_shelf.specs.Shelf.{NoFewer, Opens, writing}
 use Rattle.exb_outputs.specs.Order.{MadeInOrder}
-use Rattle.exb_outputs.specs.Plans.{output_name, kind_at}
+use Rattle.exb_outputs.specs.Manifests.{output_name, kind_at}
 use Rattle.exb_outputs.specs.Sent.{records_of, sizes_of}
-use Rattle.exb_outputs.specs.Shelving.{WritesPlanned}
+use Rattle.exb_outputs.specs.Shelving.{WritesListed}
 use Rattle.exb_outputs.specs.Writing.{ids_of, pieces_of, first_text}
 use Rattle.exb_outputs.proofs.outputs.create_all.Given as goal
 
@@ -13,13 +13,13 @@ invariant-loop-at g l =
     let S = g.S.Shelf in
     record {
       count : length l.outputs.files.items ≡ l.at;
-      named : (j : ℕ) → j < l.at → S.ids l.shelf (slice_index (ids_of l.outputs) j) ≡ writing (output_name l.plan j);
-      texts : (j : ℕ) → j < l.at → slice_index_or (pieces_of l.outputs) j [] ≡ first_text (kind_at l.plan j);
+      named : (j : ℕ) → j < l.at → S.ids l.shelf (slice_index (ids_of l.outputs) j) ≡ writing (output_name l.manifest j);
+      texts : (j : ℕ) → j < l.at → slice_index_or (pieces_of l.outputs) j [] ≡ first_text (kind_at l.manifest j);
       records : (j : ℕ) → j < l.at → slice_index (records_of l.outputs) j ≡ 0;
-      sizes : (j : ℕ) → j < l.at → slice_index (sizes_of l.outputs) j ≡ length (first_text (kind_at l.plan j));
-      files : S.tells → Filled (S.file l.fn.shelf) (S.file l.shelf) l.at (output_name l.plan) (λ j bytes. bytes ≡ []);
-      opened : Opens (WritesPlanned l.plan) (S.ids l.fn.shelf) (S.ids l.shelf);
-      made : MadeInOrder l.plan l.at (S.ids l.fn.shelf) (S.ids l.shelf);
+      sizes : (j : ℕ) → j < l.at → slice_index (sizes_of l.outputs) j ≡ length (first_text (kind_at l.manifest j));
+      files : S.tells → Filled (S.file l.fn.shelf) (S.file l.shelf) l.at (output_name l.manifest) (λ j bytes. bytes ≡ []);
+      opened : Opens (WritesListed l.manifest) (S.ids l.fn.shelf) (S.ids l.shelf);
+      made : MadeInOrder l.manifest l.at (S.ids l.fn.shelf) (S.ids l.shelf);
       faults : NoFewer (S.faults l.fn.shelf) (S.faults l.shelf);
       counted : S.faults l.shelf ≡ S.faults l.fn.shelf;
     }

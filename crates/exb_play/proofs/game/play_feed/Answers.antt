@@ -17,7 +17,7 @@ play_world-requires-clause-opened g c =
     let m = mode_of c.args.schedule in
     let run = c.requires.begins.0 in (
       run,
-      begins-opened S.tells m run c.args.script.now.setup.now c.args.plan.now (S.file c.args.shelf.now) (S.ids c.args.shelf.now) (network_of c.in-Ok-open.world) c.args.outputs c.args.feed.now.programme c.requires.begins.1
+      begins-opened S.tells m run c.args.script.now.setup.now c.args.manifest.now (S.file c.args.shelf.now) (S.ids c.args.shelf.now) (network_of c.in-Ok-open.world) c.args.outputs c.args.feed.now.programme c.requires.begins.1
           c.requires.tree (c.in-Ok-open.ensures.plays m) (c.in-Ok-open.ensures.tracing ∙ ap (λ (o : Options). o.trace) c.options.ensures) c.in-Ok.counted c.in-Ok.ensures,
     )
 
@@ -34,7 +34,7 @@ returns-clause-done g c tells =
     if_ok_map c.play_world.result
     (λ line played run b.
     played run
-    (begins-opened S.tells m run c.args.script.now.setup.now c.args.plan.now (S.file c.args.shelf.now) (S.ids c.args.shelf.now) (network_of c.in-Ok-open.world) c.args.outputs c.args.feed.now.programme b
+    (begins-opened S.tells m run c.args.script.now.setup.now c.args.manifest.now (S.file c.args.shelf.now) (S.ids c.args.shelf.now) (network_of c.in-Ok-open.world) c.args.outputs c.args.feed.now.programme b
     c.requires.tree (c.in-Ok-open.ensures.plays m) (c.in-Ok-open.ensures.tracing ∙ ap (λ (o : Options). o.trace) c.options.ensures) c.in-Ok.counted c.in-Ok.ensures))
     (c.play_world.ensures.done tells)
 
@@ -45,42 +45,42 @@ returns-clause-never g c tells =
     if_err_map c.play_world.result
     (λ fault never change run b.
     never change run
-    (begins-opened S.tells m run c.args.script.now.setup.now c.args.plan.now (S.file c.args.shelf.now) (S.ids c.args.shelf.now) (network_of c.in-Ok-open.world) c.args.outputs c.args.feed.now.programme b
+    (begins-opened S.tells m run c.args.script.now.setup.now c.args.manifest.now (S.file c.args.shelf.now) (S.ids c.args.shelf.now) (network_of c.in-Ok-open.world) c.args.outputs c.args.feed.now.programme b
     c.requires.tree (c.in-Ok-open.ensures.plays m) (c.in-Ok-open.ensures.tracing ∙ ap (λ (o : Options). o.trace) c.options.ensures) c.in-Ok.counted c.in-Ok.ensures))
     (c.play_world.ensures.never tells)
 
 -- ---- where it ended early
 pub returns-in_default-clause-fronts : goal.returns-in_default-clause-fronts
-returns-in_default-clause-fronts g c tells eager run b = begun_eagerly run.input c.args.plan.now _ _ (pieces_of c.args.outputs) (b.texts tells)
+returns-in_default-clause-fronts g c tells eager run b = begun_eagerly run.input c.args.manifest.now _ _ (pieces_of c.args.outputs) (b.texts tells)
 
 pub returns-in_default-open-clause-fronts : goal.returns-in_default-open-clause-fronts
-returns-in_default-open-clause-fronts g c tells eager run b = begun_eagerly run.input c.args.plan.now _ _ (pieces_of c.args.outputs) (b.texts tells)
+returns-in_default-open-clause-fronts g c tells eager run b = begun_eagerly run.input c.args.manifest.now _ _ (pieces_of c.args.outputs) (b.texts tells)
 
 pub returns-clause-fronts : goal.returns-clause-fronts
 returns-clause-fronts g c tells eager run b =
     let S = g.S.Shelf in
     let m = mode_of c.args.schedule in
     let is =
-    begins-opened S.tells m run c.args.script.now.setup.now c.args.plan.now (S.file c.args.shelf.now) (S.ids c.args.shelf.now) (network_of c.in-Ok-open.world) c.args.outputs c.args.feed.now.programme b
+    begins-opened S.tells m run c.args.script.now.setup.now c.args.manifest.now (S.file c.args.shelf.now) (S.ids c.args.shelf.now) (network_of c.in-Ok-open.world) c.args.outputs c.args.feed.now.programme b
     c.requires.tree (c.in-Ok-open.ensures.plays m) (c.in-Ok-open.ensures.tracing ∙ ap (λ (o : Options). o.trace) c.options.ensures) c.in-Ok.counted c.in-Ok.ensures in
-    ended_eagerly c.runs_write_fronts.ensures m run c.args.plan.now (S.file c.play_world.new.shelf) c.play_world.result eager b.timely
+    ended_eagerly c.runs_write_fronts.ensures m run c.args.manifest.now (S.file c.play_world.new.shelf) c.play_world.result eager b.timely
     (if_ok_map c.play_world.result (λ line played. played run is) (c.play_world.ensures.done tells))
     (on_err_weaker c.play_world.result (λ cut. cut run is) (c.play_world.ensures.cut tells))
 
 -- ---- what it leaves, however it ended
 pub returns-in_default-clause-so_far : goal.returns-in_default-clause-so_far
-returns-in_default-clause-so_far g c tells run b = begun-so-far (mode_of c.args.schedule) run.input c.args.plan.now _ _ (pieces_of c.args.outputs) (b.texts tells)
+returns-in_default-clause-so_far g c tells run b = begun-so-far (mode_of c.args.schedule) run.input c.args.manifest.now _ _ (pieces_of c.args.outputs) (b.texts tells)
 
 pub returns-in_default-open-clause-so_far : goal.returns-in_default-open-clause-so_far
-returns-in_default-open-clause-so_far g c tells run b = begun-so-far (mode_of c.args.schedule) run.input c.args.plan.now _ _ (pieces_of c.args.outputs) (b.texts tells)
+returns-in_default-open-clause-so_far g c tells run b = begun-so-far (mode_of c.args.schedule) run.input c.args.manifest.now _ _ (pieces_of c.args.outputs) (b.texts tells)
 
 pub returns-clause-so_far : goal.returns-clause-so_far
 returns-clause-so_far g c tells run b =
     let S = g.S.Shelf in
     let m = mode_of c.args.schedule in
     let is =
-    begins-opened S.tells m run c.args.script.now.setup.now c.args.plan.now (S.file c.args.shelf.now) (S.ids c.args.shelf.now) (network_of c.in-Ok-open.world) c.args.outputs c.args.feed.now.programme b
+    begins-opened S.tells m run c.args.script.now.setup.now c.args.manifest.now (S.file c.args.shelf.now) (S.ids c.args.shelf.now) (network_of c.in-Ok-open.world) c.args.outputs c.args.feed.now.programme b
     c.requires.tree (c.in-Ok-open.ensures.plays m) (c.in-Ok-open.ensures.tracing ∙ ap (λ (o : Options). o.trace) c.options.ensures) c.in-Ok.counted c.in-Ok.ensures in
-    ended-so-far c.runs_tell_so_far.ensures m run c.args.plan.now (S.file c.play_world.new.shelf) c.play_world.result b.timely
+    ended-so-far c.runs_tell_so_far.ensures m run c.args.manifest.now (S.file c.play_world.new.shelf) c.play_world.result b.timely
     (if_ok_map c.play_world.result (λ line played. played run is) (c.play_world.ensures.done tells))
     (on_err_weaker c.play_world.result (λ cut. cut run is) (c.play_world.ensures.cut tells))

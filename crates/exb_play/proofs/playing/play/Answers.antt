@@ -21,7 +21,7 @@ use Rattle.exb_play.proofs.playing.play.Goals as goal
 pub play_into-requires-clause-captures : goal.play_into-requires-clause-captures
 play_into-requires-clause-captures g c =
     let S = g.S.Shelf in
-    can-read-on S.tells c.args.plan.now c.args.names.now (S.file c.args.shelf.now) (S.file c.create_all.new.shelf) c.args.checked.now c.create_all.ensures.only.others c.requires.captures
+    can-read-on S.tells c.args.manifest.now c.args.names.now (S.file c.args.shelf.now) (S.file c.create_all.new.shelf) c.args.checked.now c.create_all.ensures.only.others c.requires.captures
 
 pub play_into-requires-clause-texts : goal.play_into-requires-clause-texts
 play_into-requires-clause-texts g c = (g.S.Shelf.file c.args.shelf.now, c.in_ok-outputs.ensures.texts)
@@ -30,10 +30,10 @@ pub returns-clause-done : goal.returns-clause-done
 returns-clause-done g c tells =
     let S = g.S.Shelf in
     let s = c.args.script.now in
-    let same = input-stays s.setup.now s.commands.now c.args.plan.now c.args.names.now (S.file c.args.shelf.now) (S.file c.create_all.new.shelf) c.args.checked.now S.tells (c.create_all.ensures.only.others tells) c.requires.captures in
+    let same = input-stays s.setup.now s.commands.now c.args.manifest.now c.args.names.now (S.file c.args.shelf.now) (S.file c.create_all.new.shelf) c.args.checked.now S.tells (c.create_all.ensures.only.others tells) c.requires.captures in
     if_ok_map c.play_into.result
     (λ line played.
-    subst (λ (i : Input). HasPlayed (mode_of c.args.schedule) i c.args.plan.now (S.file c.args.shelf.now) (S.file c.play_into.new.shelf) (string_bytes line)) same
+    subst (λ (i : Input). HasPlayed (mode_of c.args.schedule) i c.args.manifest.now (S.file c.args.shelf.now) (S.file c.play_into.new.shelf) (string_bytes line)) same
     (played (S.file c.args.shelf.now) (c.in_ok-outputs.ensures.texts tells)))
     (c.play_into.ensures.done tells)
 
@@ -41,12 +41,12 @@ pub returns-clause-fronts : goal.returns-clause-fronts
 returns-clause-fronts g c tells eager =
     let S = g.S.Shelf in
     let s = c.args.script.now in
-    let same = input-stays s.setup.now s.commands.now c.args.plan.now c.args.names.now (S.file c.args.shelf.now) (S.file c.create_all.new.shelf) c.args.checked.now S.tells (c.create_all.ensures.only.others tells) c.requires.captures in
-    subst (λ (i : Input). AreCutEagerly i c.args.plan.now (S.file c.args.shelf.now) (S.file c.play_into.new.shelf)) same
+    let same = input-stays s.setup.now s.commands.now c.args.manifest.now c.args.names.now (S.file c.args.shelf.now) (S.file c.create_all.new.shelf) c.args.checked.now S.tells (c.create_all.ensures.only.others tells) c.requires.captures in
+    subst (λ (i : Input). AreCutEagerly i c.args.manifest.now (S.file c.args.shelf.now) (S.file c.play_into.new.shelf)) same
     (c.play_into.ensures.fronts tells eager (S.file c.args.shelf.now) (c.in_ok-outputs.ensures.texts tells))
 
 pub returns-in_err-outputs-clause-fronts : goal.returns-in_err-outputs-clause-fronts
-returns-in_err-outputs-clause-fronts g c tells eager = made_eagerly _ c.args.plan.now _ _ (c.in_err-outputs.ensures.cut tells)
+returns-in_err-outputs-clause-fronts g c tells eager = made_eagerly _ c.args.manifest.now _ _ (c.in_err-outputs.ensures.cut tells)
 
 pub returns-clause-only : goal.returns-clause-only
 returns-clause-only g c =
@@ -57,12 +57,12 @@ returns-clause-only g c =
     }
 
 pub returns-clause-made : goal.returns-clause-made
-returns-clause-made g c = makes_then_read (ReadsCapture c.args.names.now) c.args.plan.now _ c.play_into.result _ _ _ (λ i r. r.reads.reads) c.in_ok-outputs.ensures.made c.play_into.ensures.opens
+returns-clause-made g c = makes_then_read (ReadsCapture c.args.names.now) c.args.manifest.now _ c.play_into.result _ _ _ (λ i r. r.reads.reads) c.in_ok-outputs.ensures.made c.play_into.ensures.opens
 
 pub returns-in_err-outputs-clause-made : goal.returns-in_err-outputs-clause-made
 returns-in_err-outputs-clause-made g c =
     let e = err_from_is_err_and c.from_residual.result c.from_residual.ensures.1 in
-    rw (e.1, e.2) (makes_as c.args.plan.now c.in_err-outputs.field-0.0 _ _ c.in_err-outputs.ensures.made)
+    rw (e.1, e.2) (makes_as c.args.manifest.now c.in_err-outputs.field-0.0 _ _ c.in_err-outputs.ensures.made)
 
 pub returns-in_err-outputs-clause-only : goal.returns-in_err-outputs-clause-only
 returns-in_err-outputs-clause-only g c =
@@ -82,9 +82,9 @@ pub returns-clause-so_far : goal.returns-clause-so_far
 returns-clause-so_far g c tells =
     let S = g.S.Shelf in
     let s = c.args.script.now in
-    let same = input-stays s.setup.now s.commands.now c.args.plan.now c.args.names.now (S.file c.args.shelf.now) (S.file c.create_all.new.shelf) c.args.checked.now S.tells (c.create_all.ensures.only.others tells) c.requires.captures in
-    subst (λ (i : Input). AreCutSoFar (mode_of c.args.schedule) i c.args.plan.now (S.file c.args.shelf.now) (S.file c.play_into.new.shelf)) same
+    let same = input-stays s.setup.now s.commands.now c.args.manifest.now c.args.names.now (S.file c.args.shelf.now) (S.file c.create_all.new.shelf) c.args.checked.now S.tells (c.create_all.ensures.only.others tells) c.requires.captures in
+    subst (λ (i : Input). AreCutSoFar (mode_of c.args.schedule) i c.args.manifest.now (S.file c.args.shelf.now) (S.file c.play_into.new.shelf)) same
     (c.play_into.ensures.so_far tells (S.file c.args.shelf.now) (c.in_ok-outputs.ensures.texts tells))
 
 pub returns-in_err-outputs-clause-so_far : goal.returns-in_err-outputs-clause-so_far
-returns-in_err-outputs-clause-so_far g c tells = made-so-far (mode_of c.args.schedule) _ c.args.plan.now _ _ (c.in_err-outputs.ensures.cut tells)
+returns-in_err-outputs-clause-so_far g c tells = made-so-far (mode_of c.args.schedule) _ c.args.manifest.now _ _ (c.in_err-outputs.ensures.cut tells)

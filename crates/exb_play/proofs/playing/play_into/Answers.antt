@@ -26,7 +26,7 @@ pub new-programme-requires-clause-since : goal.new-programme-requires-clause-sin
 new-programme-requires-clause-since g c = c.in_ok-captures.ensures.since _ (subst (λ (n : ℕ). AreSince n c.args.checked.now) (sym c.start_of-start.ensures) (since-start c.args.checked.now))
 
 pub play_feed-requires-clause-ready : goal.play_feed-requires-clause-ready
-play_feed-requires-clause-ready g c = ready-opened _ c.args.plan.now (g.S.Shelf.ids c.args.shelf.now) (g.S.Shelf.ids c.open_all.new.shelf) c.args.outputs c.requires.ready c.open_all.ensures.opens
+play_feed-requires-clause-ready g c = ready-opened _ c.args.manifest.now (g.S.Shelf.ids c.args.shelf.now) (g.S.Shelf.ids c.open_all.new.shelf) c.args.outputs c.requires.ready c.open_all.ensures.opens
 
 pub play_feed-requires-clause-feed : goal.play_feed-requires-clause-feed
 play_feed-requires-clause-feed g c = record {
@@ -39,11 +39,11 @@ play_feed-requires-clause-begins g c =
     let s = c.args.script.now in
     let run : Run = record { input = input_from s.setup.now s.commands.now c.args.names.now (S.file c.args.shelf.now); before = c.requires.texts.0 } in (
       run,
-      can-begin-of S.tells (mode_of c.args.schedule) s.setup.now s.commands.now s.fate.now c.args.plan.now c.args.names.now (S.file c.args.shelf.now) (S.file c.open_all.new.shelf) c.args.checked.now (S.ids c.open_all.new.shelf)
+      can-begin-of S.tells (mode_of c.args.schedule) s.setup.now s.commands.now s.fate.now c.args.manifest.now c.args.names.now (S.file c.args.shelf.now) (S.file c.open_all.new.shelf) c.args.checked.now (S.ids c.open_all.new.shelf)
           c.args.outputs run.before c.new-programme.result c.in_ok-captures.captures c.merge_of_all.ensures c.start_is_least.ensures c.requires.script c.requires.tree c.requires.captures
           (c.new-programme.ensures.start ∙ c.start_of-start.ensures) c.new-programme.ensures.commands c.new-programme.ensures.taken c.new-programme.ensures.captures c.in_ok-captures.ensures.standings c.in_ok-captures.ensures.left
           c.in_ok-captures.ensures.named c.in_ok-captures.ensures.streams
-          (λ t. subst (λ (f : Files). HasTexts c.args.plan.now (pieces_of c.args.outputs) run.before f first_text) (sym (files_same (S.file c.args.shelf.now) (S.file c.open_all.new.shelf) c.open_all.ensures.files)) (c.requires.texts.1 t)) c.requires.sent,
+          (λ t. subst (λ (f : Files). HasTexts c.args.manifest.now (pieces_of c.args.outputs) run.before f first_text) (sym (files_same (S.file c.args.shelf.now) (S.file c.open_all.new.shelf) c.open_all.ensures.files)) (c.requires.texts.1 t)) c.requires.sent,
     )
 
 pub play_feed-requires-clause-budget : goal.play_feed-requires-clause-budget
@@ -58,11 +58,11 @@ returns-clause-done g c tells =
     if_ok_map c.play_feed.result
     (λ line played before held.
     let run : Run = record { input = input_from s.setup.now s.commands.now c.args.names.now (S.file c.args.shelf.now); before = before } in
-    played run (can-begin-of S.tells (mode_of c.args.schedule) s.setup.now s.commands.now s.fate.now c.args.plan.now c.args.names.now (S.file c.args.shelf.now) (S.file c.open_all.new.shelf) c.args.checked.now (S.ids c.open_all.new.shelf)
+    played run (can-begin-of S.tells (mode_of c.args.schedule) s.setup.now s.commands.now s.fate.now c.args.manifest.now c.args.names.now (S.file c.args.shelf.now) (S.file c.open_all.new.shelf) c.args.checked.now (S.ids c.open_all.new.shelf)
     c.args.outputs before c.new-programme.result c.in_ok-captures.captures c.merge_of_all.ensures c.start_is_least.ensures c.requires.script c.requires.tree c.requires.captures
     (c.new-programme.ensures.start ∙ c.start_of-start.ensures) c.new-programme.ensures.commands c.new-programme.ensures.taken c.new-programme.ensures.captures c.in_ok-captures.ensures.standings c.in_ok-captures.ensures.left
     c.in_ok-captures.ensures.named c.in_ok-captures.ensures.streams
-    (λ t. subst (λ (f : Files). HasTexts c.args.plan.now (pieces_of c.args.outputs) before f first_text) (sym (files_same (S.file c.args.shelf.now) (S.file c.open_all.new.shelf) c.open_all.ensures.files)) held) c.requires.sent))
+    (λ t. subst (λ (f : Files). HasTexts c.args.manifest.now (pieces_of c.args.outputs) before f first_text) (sym (files_same (S.file c.args.shelf.now) (S.file c.open_all.new.shelf) c.open_all.ensures.files)) held) c.requires.sent))
     (c.play_feed.ensures.done tells)
 
 pub returns-clause-never : goal.returns-clause-never
@@ -72,11 +72,11 @@ returns-clause-never g c tells =
     if_err_map c.play_feed.result
     (λ fault never change.
     let run : Run = record { input = input_from s.setup.now s.commands.now c.args.names.now (S.file c.args.shelf.now); before = c.requires.texts.0 } in
-    never change run (can-begin-of S.tells (mode_of c.args.schedule) s.setup.now s.commands.now s.fate.now c.args.plan.now c.args.names.now (S.file c.args.shelf.now) (S.file c.open_all.new.shelf) c.args.checked.now (S.ids c.open_all.new.shelf)
+    never change run (can-begin-of S.tells (mode_of c.args.schedule) s.setup.now s.commands.now s.fate.now c.args.manifest.now c.args.names.now (S.file c.args.shelf.now) (S.file c.open_all.new.shelf) c.args.checked.now (S.ids c.open_all.new.shelf)
     c.args.outputs run.before c.new-programme.result c.in_ok-captures.captures c.merge_of_all.ensures c.start_is_least.ensures c.requires.script c.requires.tree c.requires.captures
     (c.new-programme.ensures.start ∙ c.start_of-start.ensures) c.new-programme.ensures.commands c.new-programme.ensures.taken c.new-programme.ensures.captures c.in_ok-captures.ensures.standings c.in_ok-captures.ensures.left
     c.in_ok-captures.ensures.named c.in_ok-captures.ensures.streams
-    (λ t. subst (λ (f : Files). HasTexts c.args.plan.now (pieces_of c.args.outputs) run.before f first_text) (sym (files_same (S.file c.args.shelf.now) (S.file c.open_all.new.shelf) c.open_all.ensures.files)) (c.requires.texts.1 t)) c.requires.sent))
+    (λ t. subst (λ (f : Files). HasTexts c.args.manifest.now (pieces_of c.args.outputs) run.before f first_text) (sym (files_same (S.file c.args.shelf.now) (S.file c.open_all.new.shelf) c.open_all.ensures.files)) (c.requires.texts.1 t)) c.requires.sent))
     (c.play_feed.ensures.never tells)
 
 pub returns-clause-fronts : goal.returns-clause-fronts
@@ -85,17 +85,17 @@ returns-clause-fronts g c tells eager before held =
     let s = c.args.script.now in
     let run : Run = record { input = input_from s.setup.now s.commands.now c.args.names.now (S.file c.args.shelf.now); before = before } in
     c.play_feed.ensures.fronts tells eager run
-    (can-begin-of S.tells (mode_of c.args.schedule) s.setup.now s.commands.now s.fate.now c.args.plan.now c.args.names.now (S.file c.args.shelf.now) (S.file c.open_all.new.shelf) c.args.checked.now (S.ids c.open_all.new.shelf)
+    (can-begin-of S.tells (mode_of c.args.schedule) s.setup.now s.commands.now s.fate.now c.args.manifest.now c.args.names.now (S.file c.args.shelf.now) (S.file c.open_all.new.shelf) c.args.checked.now (S.ids c.open_all.new.shelf)
     c.args.outputs before c.new-programme.result c.in_ok-captures.captures c.merge_of_all.ensures c.start_is_least.ensures c.requires.script c.requires.tree c.requires.captures
     (c.new-programme.ensures.start ∙ c.start_of-start.ensures) c.new-programme.ensures.commands c.new-programme.ensures.taken c.new-programme.ensures.captures c.in_ok-captures.ensures.standings c.in_ok-captures.ensures.left
     c.in_ok-captures.ensures.named c.in_ok-captures.ensures.streams
-    (λ t. subst (λ (f : Files). HasTexts c.args.plan.now (pieces_of c.args.outputs) before f first_text) (sym (files_same (S.file c.args.shelf.now) (S.file c.open_all.new.shelf) c.open_all.ensures.files)) held) c.requires.sent)
+    (λ t. subst (λ (f : Files). HasTexts c.args.manifest.now (pieces_of c.args.outputs) before f first_text) (sym (files_same (S.file c.args.shelf.now) (S.file c.open_all.new.shelf) c.open_all.ensures.files)) held) c.requires.sent)
 
 pub returns-in_err-captures-clause-fronts : goal.returns-in_err-captures-clause-fronts
 returns-in_err-captures-clause-fronts g c tells eager before held =
     let S = g.S.Shelf in
-    begun_eagerly _ c.args.plan.now before _ (pieces_of c.args.outputs)
-    (subst (λ (f : Files). HasTexts c.args.plan.now (pieces_of c.args.outputs) before f first_text) (sym (files_same (S.file c.args.shelf.now) (S.file c.open_all.new.shelf) c.open_all.ensures.files)) held)
+    begun_eagerly _ c.args.manifest.now before _ (pieces_of c.args.outputs)
+    (subst (λ (f : Files). HasTexts c.args.manifest.now (pieces_of c.args.outputs) before f first_text) (sym (files_same (S.file c.args.shelf.now) (S.file c.open_all.new.shelf) c.open_all.ensures.files)) held)
 
 pub returns-clause-others : goal.returns-clause-others
 returns-clause-others g c = λ t m away. c.play_feed.ensures.only.others t m away ∙ c.open_all.ensures.files m
@@ -135,14 +135,14 @@ returns-clause-so_far g c tells before held =
     let s = c.args.script.now in
     let run : Run = record { input = input_from s.setup.now s.commands.now c.args.names.now (S.file c.args.shelf.now); before = before } in
     c.play_feed.ensures.so_far tells run
-    (can-begin-of S.tells (mode_of c.args.schedule) s.setup.now s.commands.now s.fate.now c.args.plan.now c.args.names.now (S.file c.args.shelf.now) (S.file c.open_all.new.shelf) c.args.checked.now (S.ids c.open_all.new.shelf)
+    (can-begin-of S.tells (mode_of c.args.schedule) s.setup.now s.commands.now s.fate.now c.args.manifest.now c.args.names.now (S.file c.args.shelf.now) (S.file c.open_all.new.shelf) c.args.checked.now (S.ids c.open_all.new.shelf)
     c.args.outputs before c.new-programme.result c.in_ok-captures.captures c.merge_of_all.ensures c.start_is_least.ensures c.requires.script c.requires.tree c.requires.captures
     (c.new-programme.ensures.start ∙ c.start_of-start.ensures) c.new-programme.ensures.commands c.new-programme.ensures.taken c.new-programme.ensures.captures c.in_ok-captures.ensures.standings c.in_ok-captures.ensures.left
     c.in_ok-captures.ensures.named c.in_ok-captures.ensures.streams
-    (λ t. subst (λ (f : Files). HasTexts c.args.plan.now (pieces_of c.args.outputs) before f first_text) (sym (files_same (S.file c.args.shelf.now) (S.file c.open_all.new.shelf) c.open_all.ensures.files)) held) c.requires.sent)
+    (λ t. subst (λ (f : Files). HasTexts c.args.manifest.now (pieces_of c.args.outputs) before f first_text) (sym (files_same (S.file c.args.shelf.now) (S.file c.open_all.new.shelf) c.open_all.ensures.files)) held) c.requires.sent)
 
 pub returns-in_err-captures-clause-so_far : goal.returns-in_err-captures-clause-so_far
 returns-in_err-captures-clause-so_far g c tells before held =
     let S = g.S.Shelf in
-    begun-so-far (mode_of c.args.schedule) _ c.args.plan.now before _ (pieces_of c.args.outputs)
-    (subst (λ (f : Files). HasTexts c.args.plan.now (pieces_of c.args.outputs) before f first_text) (sym (files_same (S.file c.args.shelf.now) (S.file c.open_all.new.shelf) c.open_all.ensures.files)) held)
+    begun-so-far (mode_of c.args.schedule) _ c.args.manifest.now before _ (pieces_of c.args.outputs)
+    (subst (λ (f : Files). HasTexts c.args.manifest.now (pieces_of c.args.outputs) before f first_text) (sym (files_same (S.file c.args.shelf.now) (S.file c.open_all.new.shelf) c.open_all.ensures.files)) held)

@@ -46,16 +46,16 @@ play-requires-clause-captures g c =
     let input = c.in_ok-input.input in
     let names = c.in_ok-names.names.items in
     let checked = c.in_ok-checked.checked.items in
-    let plan = c.in_ok-plan.plan in
+    let manifest = c.in_ok-manifest.manifest in
     let file : Files = scratch_files c.put_all.new.shelf in
     let after : Files = scratch_files c.check_captures.new.shelf in
     let keeps : KeepsFirst input.captures.items input.captures.items names file =
     subst (λ (cs : List Capture). KeepsFirst cs cs names file) c.as_slice.ensures.value c.in_ok-names.ensures in
     let are : AreChecked ⊤ names file checked = subst (λ (ns : List Named). AreChecked ⊤ ns file checked) c.as_slice-2.ensures.value c.in_ok-checked.ensures.checked in
-    subst (λ (ns : List Named). CanBeRead ⊤ plan ns after c.as_slice-5.result.now) (sym c.as_slice-4.ensures.value)
-    (subst (λ (cs : List Checked). CanBeRead ⊤ plan names after cs) (sym c.as_slice-5.ensures.value)
-    (subst (λ (f : Files). CanBeRead ⊤ plan names f checked) (sym (files_same file after c.in_ok-checked.ensures.files))
-    (made_captures c.args.number input.setup input.captures.items names file i.setup i.captures i.small keeps plan checked c.in_ok-plan.ensures.tree c.in_ok-plan.ensures.prefix are)))
+    subst (λ (ns : List Named). CanBeRead ⊤ manifest ns after c.as_slice-5.result.now) (sym c.as_slice-4.ensures.value)
+    (subst (λ (cs : List Checked). CanBeRead ⊤ manifest names after cs) (sym c.as_slice-5.ensures.value)
+    (subst (λ (f : Files). CanBeRead ⊤ manifest names f checked) (sym (files_same file after c.in_ok-checked.ensures.files))
+    (made_captures c.args.number input.setup input.captures.items names file i.setup i.captures i.small keeps manifest checked c.in_ok-manifest.ensures.tree c.in_ok-manifest.ensures.prefix are)))
 
 pub returns-clause-line : goal.returns-clause-line
 returns-clause-line g c =

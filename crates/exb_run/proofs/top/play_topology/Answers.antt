@@ -21,7 +21,7 @@ use Rattle.exb_writers.specs.Texts.{AreCutEagerly}
 use Rattle.exb_play.specs.Outputs.{HasPlayed}
 use Rattle.exb_run.specs.Outputs.{IsPlayed}
 use Rattle.exb_outputs.specs.Names.{OnlyOutputs}
-use Rattle.exb_outputs.specs.Plans.{OnlyPlanned, Planned}
+use Rattle.exb_outputs.specs.Manifests.{OnlyListed, Listed}
 use Rattle.exb_inputs.specs.Shelving.{EndsAt, ReadsCapture, OpensEach}
 use Rattle.exb_play.specs.Playing.{IsScript, mode_of}
 use Rattle.exb_outputs.specs.Order.{MakesInOrder}
@@ -31,8 +31,8 @@ use Rattle.exb_inputs.proofs.FaultLemmas.{first_none, first_once}
 use Rattle.exb_run.proofs.Handing.{sound_captures, sound_script}
 use Rattle.exb_outputs.proofs.Orders.{makes_none, read_then_makes}
 use Rattle.exb_run.proofs.OpenLemmas.{opened_for}
-use Rattle.exb_run.proofs.Ordered.{captures_are_files, ends_own, err_is, ends_upto, files_for, plan_is, play_own, behind_checks, behind_none}
-use Rattle.exb_run.specs.Opening.{plan_for}
+use Rattle.exb_run.proofs.Ordered.{captures_are_files, ends_own, err_is, ends_upto, files_for, manifest_is, play_own, behind_checks, behind_none}
+use Rattle.exb_run.specs.Opening.{manifest_for}
 use Rattle.exb_inputs.specs.declared.fault.Fault.TheVariants.{Memory}
 use Rattle.exb_inputs.proofs.Outcomes.{files_same, if_ok_map, if_err_map}
 use Rattle.exb_outputs.proofs.Names.{only_by}
@@ -49,15 +49,15 @@ pub play-requires-clause-captures : goal.play-requires-clause-captures
 play-requires-clause-captures g c =
     let S = g.S.Shelf in
     let t = c.args.topology.now in
-    let plan = c.in_ok-plan.plan in
+    let manifest = c.in_ok-manifest.manifest in
     let before = S.file c.args.shelf.now in
     let read = S.file c.check_captures.new.shelf in
     let checked = c.in_ok-checked.checked.items in
     let are : AreChecked S.tells t.captures before checked = subst (λ (names : List Named). AreChecked S.tells names before checked) c.as_slice.ensures c.in_ok-checked.ensures.checked in
-    subst (λ (names : List Named). CanBeRead S.tells plan names read c.as_slice-5.result.now) (sym c.as_slice-4.ensures)
-    (subst (λ (cs : List Checked). CanBeRead S.tells plan t.captures read cs) (sym c.as_slice-5.ensures.value)
-    (subst (λ (f : Files). CanBeRead S.tells plan t.captures f checked) (sym (files_same before read c.in_ok-checked.ensures.files))
-    (sound_captures S.tells t plan before checked c.in_ok-plan.ensures.tree (c.in_ok-plan.ensures.prefix ∙ c.as_str.ensures) c.requires.sound are)))
+    subst (λ (names : List Named). CanBeRead S.tells manifest names read c.as_slice-5.result.now) (sym c.as_slice-4.ensures)
+    (subst (λ (cs : List Checked). CanBeRead S.tells manifest t.captures read cs) (sym c.as_slice-5.ensures.value)
+    (subst (λ (f : Files). CanBeRead S.tells manifest t.captures f checked) (sym (files_same before read c.in_ok-checked.ensures.files))
+    (sound_captures S.tells t manifest before checked c.in_ok-manifest.ensures.tree (c.in_ok-manifest.ensures.prefix ∙ c.as_str.ensures) c.requires.sound are)))
 
 pub returns-in_err-checked-clause-stops : goal.returns-in_err-checked-clause-stops
 returns-in_err-checked-clause-stops g c tells p fault first =
@@ -83,7 +83,7 @@ pub returns-in_err-checked-clause-made : goal.returns-in_err-checked-clause-made
 returns-in_err-checked-clause-made g c =
     let x = c.in_err-checked.field-0.0 in
     let made = err_from_is_err_and c.from_residual.result c.from_residual.ensures.1 in
-    rw (made.1, made.2) (makes_none (ReadsCapture c.as_slice.result.now) (plan_for c.args.topology.now c.args.options) x _ _ (λ i r. r.reads.reads) c.in_err-checked.ensures.opened c.in_err-checked.ensures.causes)
+    rw (made.1, made.2) (makes_none (ReadsCapture c.as_slice.result.now) (manifest_for c.args.topology.now c.args.options) x _ _ (λ i r. r.reads.reads) c.in_err-checked.ensures.opened c.in_err-checked.ensures.causes)
 
 pub returns-in_err-checked-clause-own : goal.returns-in_err-checked-clause-own
 returns-in_err-checked-clause-own g c =
@@ -102,19 +102,19 @@ returns-in_err-checked-clause-upto g c =
     ends_upto S.tells c.args.topology.now.captures file _ _ x
     (subst (λ (names : List Named). EndsAt S.tells names file (S.ids c.args.shelf.now) (S.ids c.check_captures.new.shelf) x) c.as_slice.ensures c.in_err-checked.ensures.ends)
 
-pub returns-in_err-plan-clause-files : goal.returns-in_err-plan-clause-files
-returns-in_err-plan-clause-files g c =
+pub returns-in_err-manifest-clause-files : goal.returns-in_err-manifest-clause-files
+returns-in_err-manifest-clause-files g c =
     let S = g.S.Shelf in
     captures_are_files c.args.options c.args.topology.now _ _
     (subst (λ (names : List Named). Opens (ReadsCapture names) (S.ids c.args.shelf.now) (S.ids c.check_captures.new.shelf)) c.as_slice.ensures c.in_ok-checked.ensures.opened)
 
-pub returns-in_err-plan-clause-made : goal.returns-in_err-plan-clause-made
-returns-in_err-plan-clause-made g c =
-    let made = err_from_is_err_and c.from_residual-in_err-plan.result c.from_residual-in_err-plan.ensures.1 in
-    rw (made.1, made.2) (makes_none (ReadsCapture c.as_slice.result.now) (plan_for c.args.topology.now c.args.options) Memory _ _ (λ i r. r.reads.reads) c.in_ok-checked.ensures.opened tt)
+pub returns-in_err-manifest-clause-made : goal.returns-in_err-manifest-clause-made
+returns-in_err-manifest-clause-made g c =
+    let made = err_from_is_err_and c.from_residual-in_err-manifest.result c.from_residual-in_err-manifest.ensures.1 in
+    rw (made.1, made.2) (makes_none (ReadsCapture c.as_slice.result.now) (manifest_for c.args.topology.now c.args.options) Memory _ _ (λ i r. r.reads.reads) c.in_ok-checked.ensures.opened tt)
 
-pub returns-in_err-plan-clause-upto : goal.returns-in_err-plan-clause-upto
-returns-in_err-plan-clause-upto g c tells p fault first =
+pub returns-in_err-manifest-clause-upto : goal.returns-in_err-manifest-clause-upto
+returns-in_err-manifest-clause-upto g c tells p fault first =
     let file = g.S.Shelf.file c.args.shelf.now in
     let good : AreAllGood c.args.topology.now.captures file = subst (λ (names : List Named). AreAllGood names file) c.as_slice.ensures (c.in_ok-checked.ensures.good tells) in
     absurd (first_none c.args.topology.now.captures file p fault good first)
@@ -138,7 +138,7 @@ pub returns-clause-done : goal.returns-clause-done
 returns-clause-done g c tells =
     let S = g.S.Shelf in
     let t = c.args.topology.now in
-    let plan = c.in_ok-plan.plan in
+    let manifest = c.in_ok-manifest.manifest in
     let before = S.file c.args.shelf.now in
     let read = S.file c.check_captures.new.shelf in
     let after = S.file c.play.new.shelf in
@@ -150,61 +150,61 @@ returns-clause-done g c tells =
     ∙ ap (input_of t) unchanged in
     if_ok_map c.play.result
     (λ line played.
-    subst (λ (b : Options). IsPlayed (mode_for c.args.options.seed) b i t.prefix before after (string_bytes line)) c.in_ok-plan.ensures.options
-    (subst (λ (k : Mode). IsPlayed k plan.options i t.prefix before after (string_bytes line)) c.schedule_of-schedule.ensures
-    (played_by i plan t.prefix (c.in_ok-plan.ensures.prefix ∙ c.as_str.ensures) c.in_ok-plan.ensures.tree m c.requires.valid.tree before after (string_bytes line)
-    (subst (λ (f : Files). HasPlayed m i plan f after (string_bytes line)) unchanged
-    (subst (λ (j : Input). HasPlayed m j plan read after (string_bytes line)) same played)))))
+    subst (λ (b : Options). IsPlayed (mode_for c.args.options.seed) b i t.prefix before after (string_bytes line)) c.in_ok-manifest.ensures.options
+    (subst (λ (k : Mode). IsPlayed k manifest.options i t.prefix before after (string_bytes line)) c.schedule_of-schedule.ensures
+    (played_by i manifest t.prefix (c.in_ok-manifest.ensures.prefix ∙ c.as_str.ensures) c.in_ok-manifest.ensures.tree m c.requires.valid.tree before after (string_bytes line)
+    (subst (λ (f : Files). HasPlayed m i manifest f after (string_bytes line)) unchanged
+    (subst (λ (j : Input). HasPlayed m j manifest read after (string_bytes line)) same played)))))
     (c.play.ensures.done tells)
 
 pub returns-clause-others : goal.returns-clause-others
 returns-clause-others g c tells =
     let S = g.S.Shelf in
     let t = c.args.topology.now in
-    let plan = c.in_ok-plan.plan in
+    let manifest = c.in_ok-manifest.manifest in
     let before = S.file c.args.shelf.now in
     let read = S.file c.check_captures.new.shelf in
     let after = S.file c.play.new.shelf in
     let i : Input = input_of t before in
-    subst (λ (b : Options). OnlyOutputs b (shape_of t.setup) t.prefix before after) c.in_ok-plan.ensures.options
-    (only_by (tree_of i) plan t.prefix (c.in_ok-plan.ensures.prefix ∙ c.as_str.ensures) c.in_ok-plan.ensures.tree before after
-    (subst (λ (f : Files). OnlyPlanned plan f after) (files_same before read c.in_ok-checked.ensures.files) (c.play.ensures.only.others tells)))
+    subst (λ (b : Options). OnlyOutputs b (shape_of t.setup) t.prefix before after) c.in_ok-manifest.ensures.options
+    (only_by (tree_of i) manifest t.prefix (c.in_ok-manifest.ensures.prefix ∙ c.as_str.ensures) c.in_ok-manifest.ensures.tree before after
+    (subst (λ (f : Files). OnlyListed manifest f after) (files_same before read c.in_ok-checked.ensures.files) (c.play.ensures.only.others tells)))
 
 -- ---- what is opened
 pub returns-clause-played : goal.returns-clause-played
 returns-clause-played g c tells =
     let S = g.S.Shelf in
     let t = c.args.topology.now in
-    let plan = c.in_ok-plan.plan in
+    let manifest = c.in_ok-manifest.manifest in
     let file = S.file c.args.shelf.now in
-    opened_for plan c.args.options t file _ _ _ c.in_ok-plan.ensures.options (c.in_ok-plan.ensures.prefix ∙ c.as_str.ensures) c.in_ok-plan.ensures.tree
+    opened_for manifest c.args.options t file _ _ _ c.in_ok-manifest.ensures.options (c.in_ok-manifest.ensures.prefix ∙ c.as_str.ensures) c.in_ok-manifest.ensures.tree
     (subst (λ (names : List Named). AreAllGood names file) c.as_slice.ensures (c.in_ok-checked.ensures.good tells))
     (subst (λ (names : List Named). Opens (ReadsCapture names) (S.ids c.args.shelf.now) (S.ids c.check_captures.new.shelf)) c.as_slice.ensures c.in_ok-checked.ensures.opened)
-    (subst (λ (names : List Named). Opens (IsOfRun names plan) (S.ids c.check_captures.new.shelf) (S.ids c.play.new.shelf)) c.as_slice-4.ensures c.play.ensures.only.opened)
+    (subst (λ (names : List Named). Opens (IsOfRun names manifest) (S.ids c.check_captures.new.shelf) (S.ids c.play.new.shelf)) c.as_slice-4.ensures c.play.ensures.only.opened)
 
 pub returns-clause-files : goal.returns-clause-files
 returns-clause-files g c =
     let S = g.S.Shelf in
     let t = c.args.topology.now in
-    let plan = c.in_ok-plan.plan in
-    files_for plan c.args.options t _ _ _ c.in_ok-plan.ensures.options (c.in_ok-plan.ensures.prefix ∙ c.as_str.ensures) c.in_ok-plan.ensures.tree
+    let manifest = c.in_ok-manifest.manifest in
+    files_for manifest c.args.options t _ _ _ c.in_ok-manifest.ensures.options (c.in_ok-manifest.ensures.prefix ∙ c.as_str.ensures) c.in_ok-manifest.ensures.tree
     (subst (λ (names : List Named). Opens (ReadsCapture names) (S.ids c.args.shelf.now) (S.ids c.check_captures.new.shelf)) c.as_slice.ensures c.in_ok-checked.ensures.opened)
-    (subst (λ (names : List Named). Opens (IsOfRun names plan) (S.ids c.check_captures.new.shelf) (S.ids c.play.new.shelf)) c.as_slice-4.ensures c.play.ensures.only.opened)
+    (subst (λ (names : List Named). Opens (IsOfRun names manifest) (S.ids c.check_captures.new.shelf) (S.ids c.play.new.shelf)) c.as_slice-4.ensures c.play.ensures.only.opened)
 
 pub returns-clause-made : goal.returns-clause-made
 returns-clause-made g c =
     let S = g.S.Shelf in
     let t = c.args.topology.now in
-    let plan = c.in_ok-plan.plan in
-    subst (λ (p : Planned). MakesInOrder p c.play.result (S.ids c.args.shelf.now) (S.ids c.play.new.shelf)) (plan_is plan c.args.options t c.in_ok-plan.ensures.options (c.in_ok-plan.ensures.prefix ∙ c.as_str.ensures) c.in_ok-plan.ensures.tree)
-    (read_then_makes (ReadsCapture c.as_slice.result.now) plan c.play.result _ _ _ (λ i r. r.reads.reads) c.in_ok-checked.ensures.opened c.play.ensures.only.opened.kept c.play.ensures.made)
+    let manifest = c.in_ok-manifest.manifest in
+    subst (λ (p : Listed). MakesInOrder p c.play.result (S.ids c.args.shelf.now) (S.ids c.play.new.shelf)) (manifest_is manifest c.args.options t c.in_ok-manifest.ensures.options (c.in_ok-manifest.ensures.prefix ∙ c.as_str.ensures) c.in_ok-manifest.ensures.tree)
+    (read_then_makes (ReadsCapture c.as_slice.result.now) manifest c.play.result _ _ _ (λ i r. r.reads.reads) c.in_ok-checked.ensures.opened c.play.ensures.only.opened.kept c.play.ensures.made)
 
 -- ---- where it ended early
 pub returns-clause-fronts : goal.returns-clause-fronts
 returns-clause-fronts g c tells eager =
     let S = g.S.Shelf in
     let t = c.args.topology.now in
-    let plan = c.in_ok-plan.plan in
+    let manifest = c.in_ok-manifest.manifest in
     let before = S.file c.args.shelf.now in
     let read = S.file c.check_captures.new.shelf in
     let after = S.file c.play.new.shelf in
@@ -213,18 +213,18 @@ returns-clause-fronts g c tells eager =
     let same : input_from t.setup c.as_slice-2.result.now c.as_slice-4.result.now read ≡ i =
     ap (λ (xs : List Timed). input_from t.setup xs c.as_slice-4.result.now read) c.as_slice-2.ensures ∙ ap (λ (names : List Named). input_from t.setup t.commands names read) c.as_slice-4.ensures
     ∙ ap (input_of t) unchanged in
-    fronts_by i plan t.prefix (c.in_ok-plan.ensures.prefix ∙ c.as_str.ensures) c.in_ok-plan.ensures.tree c.requires.valid.tree before after
-    (subst (λ (f : Files). AreCutEagerly i plan f after) unchanged
-    (subst (λ (j : Input). AreCutEagerly j plan read after) same (c.play.ensures.fronts tells (c.schedule_of-schedule.ensures ∙ eager))))
+    fronts_by i manifest t.prefix (c.in_ok-manifest.ensures.prefix ∙ c.as_str.ensures) c.in_ok-manifest.ensures.tree c.requires.valid.tree before after
+    (subst (λ (f : Files). AreCutEagerly i manifest f after) unchanged
+    (subst (λ (j : Input). AreCutEagerly j manifest read after) same (c.play.ensures.fronts tells (c.schedule_of-schedule.ensures ∙ eager))))
 
 -- ---- of which port a capture has changed, and what was counted
 pub returns-clause-port : goal.returns-clause-port
 returns-clause-port g c =
     if_err_map c.play.result (λ x port p at is. subst (λ (names : List Named). is_named names p ≡ true) c.as_slice-4.ensures (port p at is)) c.play.ensures.port
 
-pub returns-in_err-plan-clause-faults : goal.returns-in_err-plan-clause-faults
-returns-in_err-plan-clause-faults g c =
-    let e = err_from_is_err_and c.from_residual-in_err-plan.result c.from_residual-in_err-plan.ensures.1 in
+pub returns-in_err-manifest-clause-faults : goal.returns-in_err-manifest-clause-faults
+returns-in_err-manifest-clause-faults g c =
+    let e = err_from_is_err_and c.from_residual-in_err-manifest.result c.from_residual-in_err-manifest.ensures.1 in
     rw (e.1, e.2) (counts_memory _ _ c.in_ok-checked.ensures.faults.once)
 
 pub returns-clause-faults : goal.returns-clause-faults
@@ -242,8 +242,8 @@ returns-in_err-checked-clause-behind g c =
     behind_none c.args.topology.now.captures _ _
     (subst (λ (names : List Named). Opens (ReadsCapture names) (S.ids c.args.shelf.now) (S.ids c.check_captures.new.shelf)) c.as_slice.ensures c.in_err-checked.ensures.opened)
 
-pub returns-in_err-plan-clause-behind : goal.returns-in_err-plan-clause-behind
-returns-in_err-plan-clause-behind g c =
+pub returns-in_err-manifest-clause-behind : goal.returns-in_err-manifest-clause-behind
+returns-in_err-manifest-clause-behind g c =
     let S = g.S.Shelf in
     behind_none c.args.topology.now.captures _ _
     (subst (λ (names : List Named). Opens (ReadsCapture names) (S.ids c.args.shelf.now) (S.ids c.check_captures.new.shelf)) c.as_slice.ensures c.in_ok-checked.ensures.opened)
@@ -252,7 +252,7 @@ pub returns-clause-behind : goal.returns-clause-behind
 returns-clause-behind g c =
     let S = g.S.Shelf in
     let names = c.args.topology.now.captures in
-    behind_checks (IsOfRun c.as_slice-4.result.now c.in_ok-plan.plan) names (S.ids c.args.shelf.now) (S.ids c.check_captures.new.shelf) (S.ids c.play.new.shelf)
+    behind_checks (IsOfRun c.as_slice-4.result.now c.in_ok-manifest.manifest) names (S.ids c.args.shelf.now) (S.ids c.check_captures.new.shelf) (S.ids c.play.new.shelf)
     (subst (λ (ns : List Named). Opens (ReadsCapture ns) (S.ids c.args.shelf.now) (S.ids c.check_captures.new.shelf)) c.as_slice.ensures c.in_ok-checked.ensures.opened)
     (subst (λ (ns : List Named). OpensEach ns 4160 (S.ids c.args.shelf.now) (S.ids c.check_captures.new.shelf)) c.as_slice.ensures c.in_ok-checked.ensures.each) c.play.ensures.only.opened
 
@@ -260,14 +260,14 @@ returns-clause-behind g c =
 pub returns-in_err-checked-clause-parts : goal.returns-in_err-checked-clause-parts
 returns-in_err-checked-clause-parts g c tells = inl c.in_err-checked.ensures.files
 
-pub returns-in_err-plan-clause-parts : goal.returns-in_err-plan-clause-parts
-returns-in_err-plan-clause-parts g c tells = inl c.in_ok-checked.ensures.files
+pub returns-in_err-manifest-clause-parts : goal.returns-in_err-manifest-clause-parts
+returns-in_err-manifest-clause-parts g c tells = inl c.in_ok-checked.ensures.files
 
 pub returns-clause-parts : goal.returns-clause-parts
 returns-clause-parts g c tells =
     let S = g.S.Shelf in
     let t = c.args.topology.now in
-    let plan = c.in_ok-plan.plan in
+    let manifest = c.in_ok-manifest.manifest in
     let before = S.file c.args.shelf.now in
     let read = S.file c.check_captures.new.shelf in
     let after = S.file c.play.new.shelf in
@@ -277,5 +277,5 @@ returns-clause-parts g c tells =
     let same : input_from t.setup c.as_slice-2.result.now c.as_slice-4.result.now read ≡ i =
     ap (λ (xs : List Timed). input_from t.setup xs c.as_slice-4.result.now read) c.as_slice-2.ensures ∙ ap (λ (names : List Named). input_from t.setup t.commands names read) c.as_slice-4.ensures
     ∙ ap (input_of t) unchanged in
-    inr (parts-by c.args.options t plan m before after c.in_ok-plan.ensures.options (c.in_ok-plan.ensures.prefix ∙ c.as_str.ensures) c.in_ok-plan.ensures.tree c.schedule_of-schedule.ensures c.requires.valid.tree
-    (subst (λ (f : Files). AreCutSoFar m i plan f after) unchanged (subst (λ (j : Input). AreCutSoFar m j plan read after) same (c.play.ensures.so_far tells))))
+    inr (parts-by c.args.options t manifest m before after c.in_ok-manifest.ensures.options (c.in_ok-manifest.ensures.prefix ∙ c.as_str.ensures) c.in_ok-manifest.ensures.tree c.schedule_of-schedule.ensures c.requires.valid.tree
+    (subst (λ (f : Files). AreCutSoFar m i manifest f after) unchanged (subst (λ (j : Input). AreCutSoFar m j manifest read after) same (c.play.ensures.so_far tells))))

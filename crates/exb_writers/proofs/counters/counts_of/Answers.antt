@@ -1,7 +1,7 @@
 use Rattle.std.proofs.Common.{◌≡◌, ap, ◌∙◌, arith}
 use Rattle.exb_counters.specs.declared.counters.Counts5.{Counts5}
 use Rattle.exb_counters.specs.Counting.{counts_at}
-use Rattle.exb_outputs.specs.Plans.{port_at}
+use Rattle.exb_outputs.specs.Manifests.{port_at}
 use Rattle.exb_writers.specs.Counts.{counts_with}
 use Rattle.exb_writers.proofs.PortCounts.{fives}
 use Rattle.exb_writers.proofs.counters.counts_of.Goals as goal
@@ -31,9 +31,9 @@ overflow_sub-result-2 c =
 
 pub returns : goal.returns
 returns c =
-    let plan = c.args.plan.now in
+    let manifest = c.args.manifest.now in
     let frames = c.frames_of-frames.ensures in
     let size = c.size_of-size.ensures in
-    let came : c.line-came.result ≡ counts_at c.args.counters.now (port_at plan c.args.at) = c.line-came.ensures ∙ ap (counts_at c.args.counters.now) c.port.ensures in
-    fives _ (counts_with plan c.args.outputs.now c.args.counters.now (port_at plan c.args.at)) (ap (λ (k : Counts5). k.relayed) came) (ap (λ (k : Counts5). k.dropped) came) (ap (λ (k : Counts5). k.ignored) came) frames
+    let came : c.line-came.result ≡ counts_at c.args.counters.now (port_at manifest c.args.at) = c.line-came.ensures ∙ ap (counts_at c.args.counters.now) c.port.ensures in
+    fives _ (counts_with manifest c.args.outputs.now c.args.counters.now (port_at manifest c.args.at)) (ap (λ (k : Counts5). k.relayed) came) (ap (λ (k : Counts5). k.dropped) came) (ap (λ (k : Counts5). k.ignored) came) frames
     (omega (arith, frames, size))

@@ -7,7 +7,7 @@ use Rattle.exb_counters.specs.declared.counters.Counts5.{Counts5}
 use Rattle.exb_counters.specs.Counters.{count_line, count_lines}
 use Rattle.exb_model.specs.Tree.{external_ports}
 use Rattle.exb_text.specs.declared.output.Output.TheVariants as output
-use Rattle.exb_outputs.specs.Plans.{port_at, port_count}
+use Rattle.exb_outputs.specs.Manifests.{port_at, port_count}
 use Rattle.exb_writers.specs.Counts.{counts_with}
 use Rattle.exb_outputs.specs.Writing.{AreCut, HasTexts, pieces_of, with_more}
 use Rattle.exb_outputs.proofs.OutputLemmas.{no_more}
@@ -23,8 +23,8 @@ loop-at-init g c =
     let file = g.S.Shelf.file c.args.shelf.now in
     record {
       ready = c.requires.ready;
-      texts = λ t orig text p. no_more c.args.plan.now orig file (pieces_of c.args.outputs.now) text output.Counters p;
-      same = same_none c.args.plan.now c.args.outputs.now;
+      texts = λ t orig text p. no_more c.args.manifest.now orig file (pieces_of c.args.outputs.now) text output.Counters p;
+      same = same_none c.args.manifest.now c.args.outputs.now;
       only = writes_none _ _ _ _;
       faults = search rules;
       counted = refl;
@@ -35,37 +35,37 @@ counts_of-counts-requires-clause-files g c = (let all = c.loop-at.invariant.read
 
 pub counts_of-counts-requires-clause-port : goal.counts_of-counts-requires-clause-port
 counts_of-counts-requires-clause-port g c =
-    let plan = c.args.plan.now in
-    let inside : c.loop-at.at < port_count plan = omega arith in
-    let place = port_is plan c.loop-at.at inside in
-    c.requires.ports (port_at plan c.loop-at.at) place.low place.passes
+    let manifest = c.args.manifest.now in
+    let inside : c.loop-at.at < port_count manifest = omega arith in
+    let place = port_is manifest c.loop-at.at inside in
+    c.requires.ports (port_at manifest c.loop-at.at) place.low place.passes
 
 pub counts_of-counts-requires-clause-counted : goal.counts_of-counts-requires-clause-counted
 counts_of-counts-requires-clause-counted g c =
-    let plan = c.args.plan.now in
-    let inside : c.loop-at.at < port_count plan = omega arith in
-    let place = port_is plan c.loop-at.at inside in
-    counted_same plan c.args.outputs.now c.loop-at.outputs (port_at plan c.loop-at.at) place.low place.passes c.loop-at.invariant.same (c.requires.counted (port_at plan c.loop-at.at) place.low place.passes)
+    let manifest = c.args.manifest.now in
+    let inside : c.loop-at.at < port_count manifest = omega arith in
+    let place = port_is manifest c.loop-at.at inside in
+    counted_same manifest c.args.outputs.now c.loop-at.outputs (port_at manifest c.loop-at.at) place.low place.passes c.loop-at.invariant.same (c.requires.counted (port_at manifest c.loop-at.at) place.low place.passes)
 
 pub loop-at-preserved : goal.loop-at-preserved
 loop-at-preserved g c =
-    let plan = c.args.plan.now in
+    let manifest = c.args.manifest.now in
     let before = c.loop-at.invariant in
     let added = c.in_ok-add_count.ensures in
-    let ports = external_ports plan.tree in
-    let counts = counts_with c.args.plan.now c.args.outputs.now c.args.counters.now in
+    let ports = external_ports manifest.tree in
+    let counts = counts_with c.args.manifest.now c.args.outputs.now c.args.counters.now in
     let inside : c.loop-at.at < length ports = omega arith in
     let is : c.port.result ≡ get_or ports c.loop-at.at c.port.result = c.port.ensures ∙ sym (get_or_default_zero ports c.loop-at.at c.port.result inside) in
-    let place = port_is plan c.loop-at.at inside in
+    let place = port_is manifest c.loop-at.at inside in
     let line : c.counts_of-counts.result ≡ counts c.port.result =
-    c.counts_of-counts.ensures ∙ counts_same plan c.args.outputs.now c.loop-at.outputs c.args.counters.now (port_at plan c.loop-at.at) place.low place.passes before.same ∙ ap counts (sym c.port.ensures) in
+    c.counts_of-counts.ensures ∙ counts_same manifest c.args.outputs.now c.loop-at.outputs c.args.counters.now (port_at manifest c.loop-at.at) place.low place.passes before.same ∙ ap counts (sym c.port.ensures) in
     record {
       ready = added.ready;
       texts = λ t orig text p.
-          more_counts plan orig (g.S.Shelf.file c.add_count.new.shelf) (pieces_of c.add_count.new.outputs) text counts ports c.loop-at.at c.port.result inside is
-          (subst (λ (k : Counts5). HasTexts plan (pieces_of c.add_count.new.outputs) orig (g.S.Shelf.file c.add_count.new.shelf) (with_more (with_more text output.Counters (count_lines counts (take c.loop-at.at ports))) output.Counters (count_line c.port.result k))) line
+          more_counts manifest orig (g.S.Shelf.file c.add_count.new.shelf) (pieces_of c.add_count.new.outputs) text counts ports c.loop-at.at c.port.result inside is
+          (subst (λ (k : Counts5). HasTexts manifest (pieces_of c.add_count.new.outputs) orig (g.S.Shelf.file c.add_count.new.shelf) (with_more (with_more text output.Counters (count_lines counts (take c.loop-at.at ports))) output.Counters (count_line c.port.result k))) line
           (added.texts t orig (with_more text output.Counters (count_lines counts (take c.loop-at.at ports))) (before.texts t orig text p)));
-      same = same_then c.args.plan.now c.args.outputs.now _ _ before.same added.same;
+      same = same_then c.args.manifest.now c.args.outputs.now _ _ before.same added.same;
       only = writes_then _ _ _ _ _ _ _ _ before.only added.only;
       faults = search (arith, added.faults.none_fell, before.faults);
       counted = added.faults.once ∙ before.counted;
@@ -73,9 +73,9 @@ loop-at-preserved g c =
 
 pub returns-clause-texts : goal.returns-clause-texts
 returns-clause-texts g c = λ t orig text p.
-    let ports = external_ports c.args.plan.now.tree in
+    let ports = external_ports c.args.manifest.now.tree in
     let end : length ports ≤ c.loop-at.at = omega arith in
-    subst (λ (ps : List ℕ). HasTexts c.args.plan.now (pieces_of c.loop-at.outputs) orig (g.S.Shelf.file c.loop-at.shelf) (with_more text output.Counters (count_lines (counts_with c.args.plan.now c.args.outputs.now c.args.counters.now) ps)))
+    subst (λ (ps : List ℕ). HasTexts c.args.manifest.now (pieces_of c.loop-at.outputs) orig (g.S.Shelf.file c.loop-at.shelf) (with_more text output.Counters (count_lines (counts_with c.args.manifest.now c.args.outputs.now c.args.counters.now) ps)))
     (take_all c.loop-at.at ports end) (c.loop-at.invariant.texts t orig text p)
 
 pub returns-in_err-add_count-clause-only : goal.returns-in_err-add_count-clause-only
@@ -86,17 +86,17 @@ returns-in_err-add_count-clause-cut g c = λ t.
     let e = err_from_is_err_and c.from_residual.result c.from_residual.ensures.1 in
     rw e.1
     (λ orig text p.
-    let plan = c.args.plan.now in
+    let manifest = c.args.manifest.now in
     let before = c.loop-at.invariant in
-    let ports = external_ports plan.tree in
-    let counts = counts_with c.args.plan.now c.args.outputs.now c.args.counters.now in
+    let ports = external_ports manifest.tree in
+    let counts = counts_with c.args.manifest.now c.args.outputs.now c.args.counters.now in
     let inside : c.loop-at.at < length ports = omega arith in
     let is : c.port.result ≡ get_or ports c.loop-at.at c.port.result = c.port.ensures ∙ sym (get_or_default_zero ports c.loop-at.at c.port.result inside) in
-    let place = port_is plan c.loop-at.at inside in
+    let place = port_is manifest c.loop-at.at inside in
     let line : c.counts_of-counts.result ≡ counts c.port.result =
-    c.counts_of-counts.ensures ∙ counts_same plan c.args.outputs.now c.loop-at.outputs c.args.counters.now (port_at plan c.loop-at.at) place.low place.passes before.same ∙ ap counts (sym c.port.ensures) in
-    cut_counts plan orig (g.S.Shelf.file c.add_count.new.shelf) text counts ports c.loop-at.at c.port.result inside is
-    (subst (λ (k : Counts5). AreCut plan orig (g.S.Shelf.file c.add_count.new.shelf) (with_more (with_more text output.Counters (count_lines counts (take c.loop-at.at ports))) output.Counters (count_line c.port.result k))) line
+    c.counts_of-counts.ensures ∙ counts_same manifest c.args.outputs.now c.loop-at.outputs c.args.counters.now (port_at manifest c.loop-at.at) place.low place.passes before.same ∙ ap counts (sym c.port.ensures) in
+    cut_counts manifest orig (g.S.Shelf.file c.add_count.new.shelf) text counts ports c.loop-at.at c.port.result inside is
+    (subst (λ (k : Counts5). AreCut manifest orig (g.S.Shelf.file c.add_count.new.shelf) (with_more (with_more text output.Counters (count_lines counts (take c.loop-at.at ports))) output.Counters (count_line c.port.result k))) line
     (c.in_err-add_count.ensures.cut t orig (with_more text output.Counters (count_lines counts (take c.loop-at.at ports))) (before.texts t orig text p))))
 
 pub returns-in_err-add_count-clause-faults : goal.returns-in_err-add_count-clause-faults

@@ -10,19 +10,19 @@ use Rattle.exb_writers.proofs.journal.add_event.Goals as goal
 pub returns-in-Err-clause-cut : goal.returns-in-Err-clause-cut
 returns-in-Err-clause-cut g c = λ t orig text p.
     let file = g.S.Shelf.file c.args.shelf.now in
-    cut_more c.args.plan.now orig file text output.Journal (line_of c.args.event.now ++ 10 ∷ [])
-    (cut_now c.args.plan.now orig file (pieces_of c.args.outputs.now) text p)
+    cut_more c.args.manifest.now orig file text output.Journal (line_of c.args.event.now ++ 10 ∷ [])
+    (cut_now c.args.manifest.now orig file (pieces_of c.args.outputs.now) text p)
 
 pub returns-in-Ok-clause-texts : goal.returns-in-Ok-clause-texts
 returns-in-Ok-clause-texts g c = λ t.
     on_ok_weaker c.write.result
     (λ added orig text p.
-    more_spelled c.args.plan.now orig (g.S.Shelf.file c.write.new.shelf) (pieces_of c.write.new.self) text output.Journal output.Journal _ _ refl (search rules) (added orig text p))
+    more_spelled c.args.manifest.now orig (g.S.Shelf.file c.write.new.shelf) (pieces_of c.write.new.self) text output.Journal output.Journal _ _ refl (search rules) (added orig text p))
     (c.write.ensures.texts t)
 
 pub returns-in-Ok-clause-cut : goal.returns-in-Ok-clause-cut
 returns-in-Ok-clause-cut g c = λ t.
     on_err_weaker c.write.result
     (λ cut orig text p.
-    cut_spelled c.args.plan.now orig (g.S.Shelf.file c.write.new.shelf) text output.Journal output.Journal _ _ refl (search rules) (cut orig text p))
+    cut_spelled c.args.manifest.now orig (g.S.Shelf.file c.write.new.shelf) text output.Journal output.Journal _ _ refl (search rules) (cut orig text p))
     (c.write.ensures.cut t)

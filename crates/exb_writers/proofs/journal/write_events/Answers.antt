@@ -16,8 +16,8 @@ loop-event-init g c =
     let file = g.S.Shelf.file c.args.shelf.now in
     record {
       ready = c.requires.ready;
-      texts = λ t orig text p. no_more c.args.plan.now orig file (pieces_of c.args.outputs.now) text output.Journal p;
-      same = same_none c.args.plan.now c.args.outputs.now;
+      texts = λ t orig text p. no_more c.args.manifest.now orig file (pieces_of c.args.outputs.now) text output.Journal p;
+      same = same_none c.args.manifest.now c.args.outputs.now;
       only = writes_none _ _ _ _;
       faults = search rules;
       counted = refl;
@@ -32,10 +32,10 @@ loop-event-preserved g c =
     record {
       ready = added.ready;
       texts = λ t orig text p.
-          more_lines c.args.plan.now orig (g.S.Shelf.file c.add_event.new.shelf) (pieces_of c.add_event.new.outputs) text events c.loop-event.event-index c.event-item.result
+          more_lines c.args.manifest.now orig (g.S.Shelf.file c.add_event.new.shelf) (pieces_of c.add_event.new.outputs) text events c.loop-event.event-index c.event-item.result
           inside c.event-item.is
           (added.texts t orig (with_more text output.Journal (lines_of (take c.loop-event.event-index events))) (before.texts t orig text p));
-      same = same_then c.args.plan.now c.args.outputs.now _ _ before.same added.same;
+      same = same_then c.args.manifest.now c.args.outputs.now _ _ before.same added.same;
       only = writes_then _ _ _ _ _ _ _ _ before.only added.only;
       faults = search (arith, added.faults.none_fell, before.faults);
       counted = added.faults.once ∙ before.counted;
@@ -51,14 +51,14 @@ returns-in_err-add_event-clause-cut g c = λ t.
     (λ orig text p.
     let before = c.loop-event.invariant in
     let events = c.args.events.now in
-    cut_lines c.args.plan.now orig (g.S.Shelf.file c.add_event.new.shelf) text events c.loop-event.event-index c.event-item.result (omega arith) c.event-item.is
+    cut_lines c.args.manifest.now orig (g.S.Shelf.file c.add_event.new.shelf) text events c.loop-event.event-index c.event-item.result (omega arith) c.event-item.is
     (c.in_err-add_event.ensures.cut t orig (with_more text output.Journal (lines_of (take c.loop-event.event-index events))) (before.texts t orig text p)))
 
 pub returns-clause-texts : goal.returns-clause-texts
 returns-clause-texts g c = λ t orig text p.
     let all : List Event = c.args.events.now in
     let end : length all ≤ c.loop-event.event-index = omega arith in
-    subst (λ (xs : List Event). HasTexts c.args.plan.now (pieces_of c.loop-event.outputs) orig (g.S.Shelf.file c.loop-event.shelf) (with_more text output.Journal (lines_of xs)))
+    subst (λ (xs : List Event). HasTexts c.args.manifest.now (pieces_of c.loop-event.outputs) orig (g.S.Shelf.file c.loop-event.shelf) (with_more text output.Journal (lines_of xs)))
     (take_all c.loop-event.event-index all end) (c.loop-event.invariant.texts t orig text p)
 
 pub returns-in_err-add_event-clause-faults : goal.returns-in_err-add_event-clause-faults

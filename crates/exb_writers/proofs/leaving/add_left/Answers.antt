@@ -13,13 +13,13 @@ pub record_text-head-requires : goal.record_text-head-requires
 record_text-head-requires g c =
     let left = c.args.left.now in
     let some = c.is_empty.ensures.some c.if-is_empty.false in
-    (copy_can left some.first (ports_in left.row) some.rest some.is c.args.plan.now c.requires.frame).moment
+    (copy_can left some.first (ports_in left.row) some.rest some.is c.args.manifest.now c.requires.frame).moment
 
 pub overflow_cast-as_slice : goal.overflow_cast-as_slice
 overflow_cast-as_slice g c =
     let left = c.args.left.now in
     let some = c.is_empty.ensures.some c.if-is_empty.false in
-    let short = (copy_can left some.first (ports_in left.row) some.rest some.is c.args.plan.now c.requires.frame).bytes in
+    let short = (copy_can left some.first (ports_in left.row) some.rest some.is c.args.manifest.now c.requires.frame).bytes in
     let same = ap (λ (xs : List ℕ). length xs) c.as_slice.ensures in
     omega (arith, short, same)
 
@@ -28,17 +28,17 @@ write_row-requires-clause-head g c = c.record_text-head.ensures c.args.left.now.
 
 pub returns-then-is_empty-clause-texts : goal.returns-then-is_empty-clause-texts
 returns-then-is_empty-clause-texts g c = λ t orig text p.
-    let plan = c.args.plan.now in
+    let manifest = c.args.manifest.now in
     let file = g.S.Shelf.file c.args.shelf.now in
     let pieces = pieces_of c.args.outputs.now in
-    subst (λ (xs : List Leaving). HasTexts plan pieces orig file (with_copies text xs)) (sym (row_none c.args.left.now _ (c.is_empty.ensures.empty c.if-is_empty.true))) (no_copies plan orig file pieces text p)
+    subst (λ (xs : List Leaving). HasTexts manifest pieces orig file (with_copies text xs)) (sym (row_none c.args.left.now _ (c.is_empty.ensures.empty c.if-is_empty.true))) (no_copies manifest orig file pieces text p)
 
 pub returns-then-is_empty-clause-sent : goal.returns-then-is_empty-clause-sent
 returns-then-is_empty-clause-sent g c = λ sent has.
-    let plan = c.args.plan.now in
+    let manifest = c.args.manifest.now in
     let outputs = c.args.outputs.now in
-    subst (λ (xs : List Leaving). HasSent plan outputs (sent_with_copies sent xs)) (sym (row_none c.args.left.now _ (c.is_empty.ensures.empty c.if-is_empty.true)))
-    (sent_as plan outputs sent (sent_with_copies sent []) (sent_none sent) has)
+    subst (λ (xs : List Leaving). HasSent manifest outputs (sent_with_copies sent xs)) (sym (row_none c.args.left.now _ (c.is_empty.ensures.empty c.if-is_empty.true)))
+    (sent_as manifest outputs sent (sent_with_copies sent []) (sent_none sent) has)
 
 pub returns-then-is_empty-clause-only : goal.returns-then-is_empty-clause-only
 returns-then-is_empty-clause-only g c = writes_none _ _ _ _

@@ -19,12 +19,12 @@ invariant-loop-port g l =
     (done : List Leaving)
     × record {
       all : done ++ copies_at l.left.moment l.left.bytes (ports_in l.rest) ≡ copies_of l.left;
-      can : All (λ (y : Leaving). CanBeRecorded l.plan y.port y.moment y.bytes) (copies_at l.left.moment l.left.bytes (ports_in l.rest));
-      ready : IsReady l.plan (S.ids l.shelf) l.outputs;
-      texts : S.tells → (orig : Files) (text : Output → List ℕ) → HasTexts l.plan (pieces_of l.fn.outputs) orig (S.file l.fn.shelf) text
-          → HasTexts l.plan (pieces_of l.outputs) orig (S.file l.shelf) (with_copies text done);
-      sent : (sent : ℕ → List Sent) → HasSent l.plan l.fn.outputs sent → HasSent l.plan l.outputs (sent_with_copies sent done);
-      only : OnlyWrites S.tells l.plan (S.file l.fn.shelf) (S.file l.shelf) (S.ids l.fn.shelf) (S.ids l.shelf);
+      can : All (λ (y : Leaving). CanBeRecorded l.manifest y.port y.moment y.bytes) (copies_at l.left.moment l.left.bytes (ports_in l.rest));
+      ready : IsReady l.manifest (S.ids l.shelf) l.outputs;
+      texts : S.tells → (orig : Files) (text : Output → List ℕ) → HasTexts l.manifest (pieces_of l.fn.outputs) orig (S.file l.fn.shelf) text
+          → HasTexts l.manifest (pieces_of l.outputs) orig (S.file l.shelf) (with_copies text done);
+      sent : (sent : ℕ → List Sent) → HasSent l.manifest l.fn.outputs sent → HasSent l.manifest l.outputs (sent_with_copies sent done);
+      only : OnlyWrites S.tells l.manifest (S.file l.fn.shelf) (S.file l.shelf) (S.ids l.fn.shelf) (S.ids l.shelf);
       faults : NoFewer (S.faults l.fn.shelf) (S.faults l.shelf);
       counted : S.faults l.shelf ≡ S.faults l.fn.shelf;
     }

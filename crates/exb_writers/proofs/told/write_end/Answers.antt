@@ -7,8 +7,8 @@ use Rattle.exb_writers.proofs.told.write_end.Goals as goal
 
 pub returns-in-None-clause-texts : goal.returns-in-None-clause-texts
 returns-in-None-clause-texts g c tells orig text held =
-    let plan = c.args.plan.now in
+    let manifest = c.args.manifest.now in
     let file = g.S.Shelf.file c.args.shelf.now in
     let pieces = pieces_of c.args.outputs.now in
-    let none : [] ≡ counts_text plan c.args.ports.now c.args.outputs.now = sym (ap (λ ports. counts_text plan ports c.args.outputs.now) c.in-None.is) in
-    subst (λ (counts : List ℕ). HasTexts plan pieces orig file (with_more text output.Counters counts)) none (no_more plan orig file pieces text output.Counters held)
+    let none : [] ≡ counts_text manifest c.args.ports.now c.args.outputs.now = sym (ap (λ ports. counts_text manifest ports c.args.outputs.now) c.in-None.is) in
+    subst (λ (counts : List ℕ). HasTexts manifest pieces orig file (with_more text output.Counters counts)) none (no_more manifest orig file pieces text output.Counters held)

@@ -31,11 +31,11 @@ returns-in_err-write_events-clause-cut g c = λ t.
     let e = err_from_is_err_and c.from_residual.result c.from_residual.ensures.1 in
     rw e.1
     (λ orig text held.
-    let plan = c.args.plan.now in
+    let manifest = c.args.manifest.now in
     let file = g.S.Shelf.file c.write_events.new.shelf in
     let journal = with_more text output.Journal (lines_of c.args.events.now) in
-    cut_more plan orig file (with_left_frames journal c.args.left.now) output.Trace (trace_text c.args.lines.now)
-    (cut_frames plan orig file journal c.args.left.now (c.in_err-write_events.ensures.cut t orig text held)))
+    cut_more manifest orig file (with_left_frames journal c.args.left.now) output.Trace (trace_text c.args.lines.now)
+    (cut_frames manifest orig file journal c.args.left.now (c.in_err-write_events.ensures.cut t orig text held)))
 
 pub returns-in_err-write_left-clause-cut : goal.returns-in_err-write_left-clause-cut
 returns-in_err-write_left-clause-cut g c = λ t.
@@ -43,7 +43,7 @@ returns-in_err-write_left-clause-cut g c = λ t.
     rw e.1
     (λ orig text held.
     let journal = with_more text output.Journal (lines_of c.args.events.now) in
-    cut_more c.args.plan.now orig (g.S.Shelf.file c.write_left.new.shelf) (with_left_frames journal c.args.left.now) output.Trace (trace_text c.args.lines.now)
+    cut_more c.args.manifest.now orig (g.S.Shelf.file c.write_left.new.shelf) (with_left_frames journal c.args.left.now) output.Trace (trace_text c.args.lines.now)
     (c.in_err-write_left.ensures.cut t orig journal (c.in_ok-write_events.ensures.texts t orig text held)))
 
 pub returns-clause-cut : goal.returns-clause-cut
@@ -58,9 +58,9 @@ pub returns-clause-sent : goal.returns-clause-sent
 returns-clause-sent g c =
     on_ok_weaker c.write_trace.result
     (λ same sent has.
-    let plan = c.args.plan.now in
-    let first = sent_same plan c.args.outputs.now c.write_events.new.outputs sent c.in_ok-write_events.ensures.same has in
-    sent_same plan c.write_left.new.outputs c.write_trace.new.outputs (sent_with sent c.args.left.now) same (c.in_ok-write_left.ensures.sent sent first))
+    let manifest = c.args.manifest.now in
+    let first = sent_same manifest c.args.outputs.now c.write_events.new.outputs sent c.in_ok-write_events.ensures.same has in
+    sent_same manifest c.write_left.new.outputs c.write_trace.new.outputs (sent_with sent c.args.left.now) same (c.in_ok-write_left.ensures.sent sent first))
     c.write_trace.ensures.same
 
 pub returns-in_err-write_left-clause-faults : goal.returns-in_err-write_left-clause-faults

@@ -21,8 +21,8 @@ loop-one-init g c =
     let file = g.S.Shelf.file c.args.shelf.now in
     record {
       ready = c.requires.ready;
-      texts = λ t orig text p. no_more c.args.plan.now orig file (pieces_of c.args.outputs.now) text output.Trace p;
-      same = same_none c.args.plan.now c.args.outputs.now;
+      texts = λ t orig text p. no_more c.args.manifest.now orig file (pieces_of c.args.outputs.now) text output.Trace p;
+      same = same_none c.args.manifest.now c.args.outputs.now;
       only = writes_none _ _ _ _;
       faults = search rules;
       counted = refl;
@@ -37,10 +37,10 @@ loop-one-preserved g c =
     record {
       ready = added.ready;
       texts = λ t orig text p.
-          more_trace c.args.plan.now orig (g.S.Shelf.file c.add_line.new.shelf) (pieces_of c.add_line.new.outputs) text lines c.loop-one.one-index c.one-item.result
+          more_trace c.args.manifest.now orig (g.S.Shelf.file c.add_line.new.shelf) (pieces_of c.add_line.new.outputs) text lines c.loop-one.one-index c.one-item.result
           inside c.one-item.is
           (added.texts t orig (with_more text output.Trace (trace_text (take c.loop-one.one-index lines))) (before.texts t orig text p));
-      same = same_then c.args.plan.now c.args.outputs.now _ _ before.same added.same;
+      same = same_then c.args.manifest.now c.args.outputs.now _ _ before.same added.same;
       only = writes_then _ _ _ _ _ _ _ _ before.only added.only;
       faults = search (arith, added.faults.none_fell, before.faults);
       counted = added.faults.once ∙ before.counted;
@@ -56,14 +56,14 @@ returns-in_err-add_line-clause-cut g c = λ t.
     (λ orig text p.
     let before = c.loop-one.invariant in
     let lines = c.args.lines.now in
-    cut_trace c.args.plan.now orig (g.S.Shelf.file c.add_line.new.shelf) text lines c.loop-one.one-index c.one-item.result (omega arith) c.one-item.is
+    cut_trace c.args.manifest.now orig (g.S.Shelf.file c.add_line.new.shelf) text lines c.loop-one.one-index c.one-item.result (omega arith) c.one-item.is
     (c.in_err-add_line.ensures.cut t orig (with_more text output.Trace (trace_text (take c.loop-one.one-index lines))) (before.texts t orig text p)))
 
 pub returns-clause-texts : goal.returns-clause-texts
 returns-clause-texts g c = λ t orig text p.
     let all : List TraceLine = c.args.lines.now in
     let end : length all ≤ c.loop-one.one-index = omega arith in
-    subst (λ (xs : List TraceLine). HasTexts c.args.plan.now (pieces_of c.loop-one.outputs) orig (g.S.Shelf.file c.loop-one.shelf) (with_more text output.Trace (trace_text xs)))
+    subst (λ (xs : List TraceLine). HasTexts c.args.manifest.now (pieces_of c.loop-one.outputs) orig (g.S.Shelf.file c.loop-one.shelf) (with_more text output.Trace (trace_text xs)))
     (take_all c.loop-one.one-index all end) (c.loop-one.invariant.texts t orig text p)
 
 pub returns-in_err-add_line-clause-faults : goal.returns-in_err-add_line-clause-faults
@@ -74,11 +74,11 @@ returns-in_err-add_line-clause-faults g c =
 -- where no trace is asked for
 pub returns-then-not-options-clause-texts : goal.returns-then-not-options-clause-texts
 returns-then-not-options-clause-texts g c = λ tells orig text held.
-    not_written c.args.plan.now orig (g.S.Shelf.file c.args.shelf.now) (pieces_of c.args.outputs.now) text output.Trace (trace_text c.args.lines.now)
+    not_written c.args.manifest.now orig (g.S.Shelf.file c.args.shelf.now) (pieces_of c.args.outputs.now) text output.Trace (trace_text c.args.lines.now)
     (λ asked. false≢true (sym (unasked c.options.result.trace c.if-not-options.true) ∙ ap (λ (o : Options). o.trace) c.options.ensures ∙ asked)) held
 
 pub returns-then-not-options-clause-same : goal.returns-then-not-options-clause-same
-returns-then-not-options-clause-same g c = same_none c.args.plan.now c.args.outputs.now
+returns-then-not-options-clause-same g c = same_none c.args.manifest.now c.args.outputs.now
 
 -- and where it is
 pub add_line-requires-clause-traced : goal.add_line-requires-clause-traced

@@ -13,11 +13,11 @@ abbrev pub invariant-loop-one : goal.invariant-loop-one
 invariant-loop-one g l =
     let S = g.S.Shelf in
     record {
-      ready : IsReady l.plan (S.ids l.shelf) l.outputs;
-      texts : S.tells → (orig : Files) (text : Output → List ℕ) → HasTexts l.plan (pieces_of l.fn.outputs) orig (S.file l.fn.shelf) text
-          → HasTexts l.plan (pieces_of l.outputs) orig (S.file l.shelf) (with_more text output.Trace (trace_text (take l.one-index l.lines)));
-      same : SameCaptures l.plan l.fn.outputs l.outputs;
-      only : OnlyWrites S.tells l.plan (S.file l.fn.shelf) (S.file l.shelf) (S.ids l.fn.shelf) (S.ids l.shelf);
+      ready : IsReady l.manifest (S.ids l.shelf) l.outputs;
+      texts : S.tells → (orig : Files) (text : Output → List ℕ) → HasTexts l.manifest (pieces_of l.fn.outputs) orig (S.file l.fn.shelf) text
+          → HasTexts l.manifest (pieces_of l.outputs) orig (S.file l.shelf) (with_more text output.Trace (trace_text (take l.one-index l.lines)));
+      same : SameCaptures l.manifest l.fn.outputs l.outputs;
+      only : OnlyWrites S.tells l.manifest (S.file l.fn.shelf) (S.file l.shelf) (S.ids l.fn.shelf) (S.ids l.shelf);
       faults : NoFewer (S.faults l.fn.shelf) (S.faults l.shelf);
       counted : S.faults l.shelf ≡ S.faults l.fn.shelf;
     }

@@ -15,8 +15,8 @@ use Rattle.exb_control.proofs.control.Control.answered.Goals as goal
 
 pub take-done-requires-clause-known : goal.take-done-requires-clause-known
 take-done-requires-clause-known c =
-    extender_low c.self.inside.core.fabric.shape c.is_fabric.ensures.tree c.args.extender
-    (subst (λ (p : Parts). is_extender p.fabric.shape c.args.extender ≡ true) (sym c.self.view_is) c.requires)
+    extender_low c.self.inside.core.active.shape c.is_active_config.ensures.tree c.args.extender
+    (subst (λ (p : Parts). is_extender p.active.shape c.args.extender ≡ true) (sym c.self.view_is) c.requires)
 
 pub invariant_of-self : goal.invariant_of-self
 invariant_of-self c =
@@ -26,7 +26,7 @@ invariant_of-self c =
     let k = 2 ^ 21 * (65536 - w.given) in
     let before : to_come w.queue w.given ≡ 2 ^ 21 * length w.queue + k = omega arith in
     let after : 2 ^ 21 * length c.take-done.new.queue + k ≡ to_come c.take-done.new.queue w.given = omega arith in
-    let t = w.core.fabric.shape in
+    let t = w.core.active.shape in
     let s = state_of (parts_of w.core w.queue w.heard w.given w.failed) in
     let led = made.reached (record { queue = w.queue; heard = w.heard.heard; given = w.given }) refl refl in
     record {
@@ -36,8 +36,8 @@ invariant_of-self c =
         asks = made.rests;
         steady = steady_at (2 ^ 21 * length c.take-done.new.queue + k) _ _ _ after (made.steady k (steady_at (to_come w.queue w.given) _ _ _ before sound.steady));
         spells =
-            spells_on t _ (answered (decide_of w.core.fabric) c.args.extender c.args.message.now s) (state_of (parts_of c.take-done.new.core c.take-done.new.queue w.heard w.given w.failed)) made.shape (ap (λ (r : Reached). r.state) led)
-            (answered_spelled t w.core.fabric.limits s sound.fit sound.spells c.args.extender c.args.message.now);
+            spells_on t _ (answered (decide_of w.core.active) c.args.extender c.args.message.now s) (state_of (parts_of c.take-done.new.core c.take-done.new.queue w.heard w.given w.failed)) made.shape (ap (λ (r : Reached). r.state) led)
+            (answered_spelled t w.core.active.limits s sound.fit sound.spells c.args.extender c.args.message.now);
       };
     }
 
@@ -47,7 +47,7 @@ returns-in-Ok-clause-ok c =
     let made = c.in-Ok.ensures in
     let out : Outbox = record { events = c.take-done.new.events; asks = c.take-done.new.asks; sends = c.empty.new.self.sends; ingress = c.empty.new.self.ingress; spare = c.empty.new.self.spare } in
     let new = parts_of c.take-done.new.core c.take-done.new.queue w.heard w.given w.failed in
-    subst (λ (p : Parts). IsMoved (answered (decide_of p.fabric) c.args.extender c.args.message.now (state_of p)) p new out) c.self.view_is
+    subst (λ (p : Parts). IsMoved (answered (decide_of p.active) c.args.extender c.args.message.now (state_of p)) p new out) c.self.view_is
     (moved _ (parts_of w.core w.queue w.heard w.given w.failed) c.take-done.new.core c.take-done.new.queue w.heard w.given w.failed c.empty.new.self.events c.empty.new.self.asks out
     c.empty.ensures.events c.empty.ensures.asks
     (made.reached (record { queue = w.queue; heard = w.heard.heard; given = w.given }) refl refl)
@@ -58,5 +58,5 @@ returns-in-Ok-clause-spelled c =
     let w = c.self.inside in
     let sound = c.self.invariant.sound c.if-self.false in
     asks_on _ _ _ (returns-in-Ok-clause-ok c).asks
-    (subst (λ (p : Parts). Spelled p.fabric.shape (answered (decide_of p.fabric) c.args.extender c.args.message.now (state_of p))) c.self.view_is
-    (answered_spelled w.core.fabric.shape w.core.fabric.limits (state_of (parts_of w.core w.queue w.heard w.given w.failed)) sound.fit sound.spells c.args.extender c.args.message.now))
+    (subst (λ (p : Parts). Spelled p.active.shape (answered (decide_of p.active) c.args.extender c.args.message.now (state_of p))) c.self.view_is
+    (answered_spelled w.core.active.shape w.core.active.limits (state_of (parts_of w.core w.queue w.heard w.given w.failed)) sound.fit sound.spells c.args.extender c.args.message.now))

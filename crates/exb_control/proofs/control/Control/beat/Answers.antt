@@ -25,7 +25,7 @@ returns-clause-ok c =
     (moved _ (parts_of w.core w.queue w.heard w.given w.failed) c.beat.new.core w.queue w.heard w.given w.failed c.empty.new.self.events c.empty.new.self.asks out
     c.empty.ensures.events c.empty.ensures.asks
     (beat_moves w.core c.beat.new.core w.queue w.heard w.given w.failed c.empty.new.self.events c.empty.new.self.asks c.beat.new.asks made.rest made.sessions (when_ok _ fine made.asks))
-    (ap (λ (x : Core). x.fabric.shape) made.rest) (ap (λ (x : Core). x.fabric.limits) made.rest) refl
+    (ap (λ (x : Core). x.active.shape) made.rest) (ap (λ (x : Core). x.active.limits) made.rest) refl
     (record { sends = c.empty.ensures.quiet.sends; ingress = c.empty.ensures.quiet.ingress }))
 
 pub returns-clause-spelled : goal.returns-clause-spelled
@@ -33,5 +33,5 @@ returns-clause-spelled c =
     let w = c.self.inside in
     let sound = c.self.invariant.sound c.if-self.false in
     asks_on _ _ _ (returns-clause-ok c).asks
-    (subst (λ (p : Parts). Spelled p.fabric.shape (beats (state_of p))) c.self.view_is
-    (beats_spelled w.core.fabric.shape w.core.fabric.limits (state_of (parts_of w.core w.queue w.heard w.given w.failed)) sound.fit sound.spells))
+    (subst (λ (p : Parts). Spelled p.active.shape (beats (state_of p))) c.self.view_is
+    (beats_spelled w.core.active.shape w.core.active.limits (state_of (parts_of w.core w.queue w.heard w.given w.failed)) sound.fit sound.spells))

@@ -24,9 +24,9 @@ invariant_of-self-else-is_err c =
     let few : w.given < 65536 = rw (← c.self.view_is) at c.requires.few in
     let before : to_come w.queue w.given ≡ 2 ^ 21 * (n + 1) + k = omega arith in
     let after : 2 ^ 21 * length c.give-done.new.queue + k ≡ to_come c.give-done.new.queue (w.given + 1) = omega arith in
-    let t = w.core.fabric.shape in
+    let t = w.core.active.shape in
     let s = state_of (parts_of w.core w.queue w.heard w.given w.failed) in
-    let names = subst (λ (p : Parts). NamesExternal p.fabric.shape c.args.command.now) (sym c.self.view_is) c.requires.names in
+    let names = subst (λ (p : Parts). NamesExternal p.active.shape c.args.command.now) (sym c.self.view_is) c.requires.names in
     let led = when_ok _ fine made.reached (record { queue = w.queue ++ job.Ordered (w.given + 1) c.args.command.now ∷ []; heard = w.heard.heard; given = w.given + 1 }) refl refl in
     record {
       ports = c.self.invariant.ports ∙ ap (λ t. t.ports) (sym made.shape);
@@ -35,8 +35,8 @@ invariant_of-self-else-is_err c =
         asks = when_ok _ fine made.rests;
         steady = steady_at (2 ^ 21 * length c.give-done.new.queue + k) _ _ _ after (when_ok _ fine made.steady k (steady_at (to_come w.queue w.given) _ _ _ before sound.steady));
         spells =
-            spells_on t _ (ordered (decide_of w.core.fabric) c.args.command.now s) (state_of (parts_of c.give-done.new.core c.give-done.new.queue w.heard (w.given + 1) w.failed)) made.shape (ap (λ (r : Reached). r.state) led)
-            (ordered_spelled t w.core.fabric.limits s sound.fit sound.spells c.args.command.now names);
+            spells_on t _ (ordered (decide_of w.core.active) c.args.command.now s) (state_of (parts_of c.give-done.new.core c.give-done.new.queue w.heard (w.given + 1) w.failed)) made.shape (ap (λ (r : Reached). r.state) led)
+            (ordered_spelled t w.core.active.limits s sound.fit sound.spells c.args.command.now names);
       };
     }
 
@@ -47,7 +47,7 @@ returns-clause-ok c =
     let fine = sym c.is_err.ensures.value ∙ c.if-is_err.false in
     let out : Outbox = record { events = c.give-done.new.events; asks = c.give-done.new.asks; sends = c.empty.new.self.sends; ingress = c.empty.new.self.ingress; spare = c.empty.new.self.spare } in
     let new = parts_of c.give-done.new.core c.give-done.new.queue w.heard (w.given + 1) w.failed in
-    subst (λ (p : Parts). IsMoved (ordered (decide_of p.fabric) c.args.command.now (state_of p)) p new out) c.self.view_is
+    subst (λ (p : Parts). IsMoved (ordered (decide_of p.active) c.args.command.now (state_of p)) p new out) c.self.view_is
     (moved _ (parts_of w.core w.queue w.heard w.given w.failed) c.give-done.new.core c.give-done.new.queue w.heard (w.given + 1) w.failed c.empty.new.self.events c.empty.new.self.asks out
     c.empty.ensures.events c.empty.ensures.asks
     (when_ok _ fine made.reached (record { queue = w.queue ++ job.Ordered (w.given + 1) c.args.command.now ∷ []; heard = w.heard.heard; given = w.given + 1 }) refl refl)
@@ -57,7 +57,7 @@ pub returns-clause-spelled : goal.returns-clause-spelled
 returns-clause-spelled c =
     let w = c.self.inside in
     let sound = c.self.invariant.sound c.if-self.false in
-    let names = subst (λ (p : Parts). NamesExternal p.fabric.shape c.args.command.now) (sym c.self.view_is) c.requires.names in
+    let names = subst (λ (p : Parts). NamesExternal p.active.shape c.args.command.now) (sym c.self.view_is) c.requires.names in
     asks_on _ _ _ (returns-clause-ok c).asks
-    (subst (λ (p : Parts). Spelled p.fabric.shape (ordered (decide_of p.fabric) c.args.command.now (state_of p))) c.self.view_is
-    (ordered_spelled w.core.fabric.shape w.core.fabric.limits (state_of (parts_of w.core w.queue w.heard w.given w.failed)) sound.fit sound.spells c.args.command.now names))
+    (subst (λ (p : Parts). Spelled p.active.shape (ordered (decide_of p.active) c.args.command.now (state_of p))) c.self.view_is
+    (ordered_spelled w.core.active.shape w.core.active.limits (state_of (parts_of w.core w.queue w.heard w.given w.failed)) sound.fit sound.spells c.args.command.now names))

@@ -8,4 +8,4 @@ pub returns : goal.returns
 returns c working n =
     let i = c.self.inside in
     let now = rw (← c.self.view_is) at working in
-    rw (← c.self.view_is) (low_serials (to_come i.queue i.given) (work_at i.core.fabric.stage i.core.place) (askers_of i.core.sessions) (c.self.invariant.sound now).steady n)
+    rw (← c.self.view_is) (low_serials (to_come i.queue i.given) (work_at i.core.active.stage i.core.place) (askers_of i.core.sessions) (c.self.invariant.sound now).steady n)

@@ -15,13 +15,13 @@ use Rattle.exb_control.proofs.control.Control.heard.Goals as goal
 
 pub is_of-requires : goal.is_of-requires
 is_of-requires c =
-    extender_low c.self.inside.core.fabric.shape c.is_fabric.ensures.tree c.args.extender
-    (subst (λ (p : Parts). is_extender p.fabric.shape c.args.extender ≡ true) (sym c.self.view_is) c.requires)
+    extender_low c.self.inside.core.active.shape c.is_active_config.ensures.tree c.args.extender
+    (subst (λ (p : Parts). is_extender p.active.shape c.args.extender ≡ true) (sym c.self.view_is) c.requires)
 
 pub note-requires : goal.note-requires
 note-requires c =
-    extender_low c.self.inside.core.fabric.shape c.is_fabric.ensures.tree c.args.extender
-    (subst (λ (p : Parts). is_extender p.fabric.shape c.args.extender ≡ true) (sym c.self.view_is) c.requires)
+    extender_low c.self.inside.core.active.shape c.is_active_config.ensures.tree c.args.extender
+    (subst (λ (p : Parts). is_extender p.active.shape c.args.extender ≡ true) (sym c.self.view_is) c.requires)
 
 pub invariant_of-self-else-is_err : goal.invariant_of-self-else-is_err
 invariant_of-self-else-is_err c =
@@ -32,11 +32,11 @@ invariant_of-self-else-is_err c =
     let k = 2 ^ 21 * (65536 - w.given) in
     let before : to_come w.queue w.given ≡ 2 ^ 21 * length w.queue + k = omega arith in
     let after : 2 ^ 21 * length c.wake-done.new.queue + k ≡ to_come c.wake-done.new.queue w.given = omega arith in
-    let t = w.core.fabric.shape in
+    let t = w.core.active.shape in
     let s = state_of (parts_of w.core w.queue w.heard w.given w.failed) in
     let led =
     when_ok _ fine made.reached (record { queue = w.queue; heard = c.note.new.self.heard; given = w.given }) refl refl
-    ∙ heard_it (decide_of w.core.fabric) t w.heard.ports c.args.extender c.args.announce.now s _ c.empty.new.self.events c.empty.new.self.asks (table_of w.core.learned)
+    ∙ heard_it (decide_of w.core.active) t w.heard.ports c.args.extender c.args.announce.now s _ c.empty.new.self.events c.empty.new.self.asks (table_of w.core.learned)
     c.self.invariant.ports (sym c.is_of.ensures ∙ c.if-not-is_of.false) c.note.ensures.heard in
     record {
       ports = c.note.ensures.ports ∙ c.self.invariant.ports ∙ ap (λ t. t.ports) (sym made.shape);
@@ -45,8 +45,8 @@ invariant_of-self-else-is_err c =
         asks = when_ok _ fine made.rests;
         steady = steady_at (2 ^ 21 * length c.wake-done.new.queue + k) _ _ _ after (when_ok _ fine made.steady k (steady_at (to_come w.queue w.given) _ _ _ before sound.steady));
         spells =
-            spells_on t _ (announced (decide_of w.core.fabric) t c.args.extender c.args.announce.now s) (state_of (parts_of c.wake-done.new.core c.wake-done.new.queue c.note.new.self w.given w.failed)) made.shape (ap (λ (r : Reached). r.state) led)
-            (announced_spelled t w.core.fabric.limits s sound.fit sound.spells c.args.extender c.args.announce.now);
+            spells_on t _ (announced (decide_of w.core.active) t c.args.extender c.args.announce.now s) (state_of (parts_of c.wake-done.new.core c.wake-done.new.queue c.note.new.self w.given w.failed)) made.shape (ap (λ (r : Reached). r.state) led)
+            (announced_spelled t w.core.active.limits s sound.fit sound.spells c.args.extender c.args.announce.now);
       };
     }
 
@@ -58,12 +58,12 @@ returns-clause-ok c =
     let out : Outbox = record { events = c.wake-done.new.events; asks = c.wake-done.new.asks; sends = c.empty.new.self.sends; ingress = c.empty.new.self.ingress; spare = c.empty.new.self.spare } in
     let old = parts_of w.core w.queue w.heard w.given w.failed in
     let new = parts_of c.wake-done.new.core c.wake-done.new.queue c.note.new.self w.given w.failed in
-    subst (λ (p : Parts). IsMoved (announced (decide_of p.fabric) p.fabric.shape c.args.extender c.args.announce.now (state_of p)) p new out) c.self.view_is
-    (moved (announced (decide_of w.core.fabric) w.core.fabric.shape c.args.extender c.args.announce.now (state_of old))
+    subst (λ (p : Parts). IsMoved (announced (decide_of p.active) p.active.shape c.args.extender c.args.announce.now (state_of p)) p new out) c.self.view_is
+    (moved (announced (decide_of w.core.active) w.core.active.shape c.args.extender c.args.announce.now (state_of old))
     old c.wake-done.new.core c.wake-done.new.queue c.note.new.self w.given w.failed c.empty.new.self.events c.empty.new.self.asks out
     c.empty.ensures.events c.empty.ensures.asks
     (when_ok _ fine made.reached (record { queue = w.queue; heard = c.note.new.self.heard; given = w.given }) refl refl
-    ∙ heard_it (decide_of w.core.fabric) w.core.fabric.shape w.heard.ports c.args.extender c.args.announce.now (state_of old) _ c.empty.new.self.events c.empty.new.self.asks (table_of w.core.learned)
+    ∙ heard_it (decide_of w.core.active) w.core.active.shape w.heard.ports c.args.extender c.args.announce.now (state_of old) _ c.empty.new.self.events c.empty.new.self.asks (table_of w.core.learned)
     c.self.invariant.ports (sym c.is_of.ensures ∙ c.if-not-is_of.false) c.note.ensures.heard)
     made.shape made.limits refl (record { sends = c.empty.ensures.quiet.sends; ingress = c.empty.ensures.quiet.ingress }))
 
@@ -72,8 +72,8 @@ returns-then-not-is_of-clause-ok c =
     let w = c.self.inside in
     let out = c.empty.new.self in
     let old = parts_of w.core w.queue w.heard w.given w.failed in
-    subst (λ (p : Parts). IsMoved (announced (decide_of p.fabric) p.fabric.shape c.args.extender c.args.announce.now (state_of p)) p p out) c.self.view_is
-    (ignored (decide_of w.core.fabric) w.core.fabric.shape w.heard.ports c.args.extender c.args.announce.now old out c.self.invariant.ports (sym c.is_of.ensures ∙ c.if-not-is_of.true)
+    subst (λ (p : Parts). IsMoved (announced (decide_of p.active) p.active.shape c.args.extender c.args.announce.now (state_of p)) p p out) c.self.view_is
+    (ignored (decide_of w.core.active) w.core.active.shape w.heard.ports c.args.extender c.args.announce.now old out c.self.invariant.ports (sym c.is_of.ensures ∙ c.if-not-is_of.true)
     c.empty.ensures.events c.empty.ensures.asks c.empty.ensures.quiet)
 
 pub returns-clause-spelled : goal.returns-clause-spelled
@@ -81,8 +81,8 @@ returns-clause-spelled c =
     let w = c.self.inside in
     let sound = c.self.invariant.sound c.if-self.false in
     asks_on _ _ _ (returns-clause-ok c).asks
-    (subst (λ (p : Parts). Spelled p.fabric.shape (announced (decide_of p.fabric) p.fabric.shape c.args.extender c.args.announce.now (state_of p))) c.self.view_is
-    (announced_spelled w.core.fabric.shape w.core.fabric.limits (state_of (parts_of w.core w.queue w.heard w.given w.failed)) sound.fit sound.spells c.args.extender c.args.announce.now))
+    (subst (λ (p : Parts). Spelled p.active.shape (announced (decide_of p.active) p.active.shape c.args.extender c.args.announce.now (state_of p))) c.self.view_is
+    (announced_spelled w.core.active.shape w.core.active.limits (state_of (parts_of w.core w.queue w.heard w.given w.failed)) sound.fit sound.spells c.args.extender c.args.announce.now))
 
 pub returns-then-not-is_of-clause-spelled : goal.returns-then-not-is_of-clause-spelled
 returns-then-not-is_of-clause-spelled c = none_asked _ _ c.empty.ensures.asks

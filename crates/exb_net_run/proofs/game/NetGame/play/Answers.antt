@@ -2,10 +2,10 @@ use Rattle.std.proofs.Common.{◌∙◌, List, sym, subst, arith}
 use Rattle.std.proofs.lemmas.Result.{err_from_is_err_and, on_err_weaker}
 use Rattle.exb_inputs.proofs.Outcomes.{if_err_map, if_ok_map, when_ok}
 use Rattle.exb_inputs.proofs.ShelvingLemmas.{counts_from}
-use Rattle.exb_outputs.specs.Plans.{Planned}
+use Rattle.exb_outputs.specs.Manifests.{Listed}
 use Rattle.exb_merge.specs.NetAgendas.{all_ids, programmes_in}
 use Rattle.exb_net.specs.Nets.{no_dones}
-use Rattle.exb_net_run.specs.Desks.{ArePlansApart, plans_in}
+use Rattle.exb_net_run.specs.Desks.{AreManifestsApart, manifests_in}
 use Rattle.exb_net_run.specs.Shelving.{IsOfCaptures, OnlyGoesOnAll}
 use Rattle.exb_net_run.proofs.Begun.{opened-can, opened-cut, opened-going, opened-more, opened-together, unopened-cut}
 use Rattle.exb_net_run.proofs.Paying.{falls_within, within_few}
@@ -24,7 +24,7 @@ pub note-requires-clause-ready : goal.note-requires-clause-ready
 note-requires-clause-ready g c = c.requires.begins.1.desks.ready
 
 pub note-requires-clause-apart : goal.note-requires-clause-apart
-note-requires-clause-apart g c = (let was = c.requires.begins.1.desks in subst (λ (qs : List Planned). ArePlansApart qs) (sym was.plans) was.apart)
+note-requires-clause-apart g c = (let was = c.requires.begins.1.desks in subst (λ (qs : List Listed). AreManifestsApart qs) (sym was.manifests) was.apart)
 
 pub note-requires-clause-can : goal.note-requires-clause-can
 note-requires-clause-can g c =
@@ -53,7 +53,7 @@ play_on-requires-clause-going g c =
     let more = opened-more S.tells r (S.file c.args.shelf.now) (S.ids c.args.shelf.now) c.args.self.now ps t.1 c.open.new.self o came c.opened_nets_are_new.ensures c.opened_nets_run.ensures in (
       r,
       opened-going S.tells r (S.file c.args.shelf.now) (S.ids c.args.shelf.now) c.args.self.now ps t.1 c.open.new.self o came c.opened_nets_are_new.ensures c.opened_nets_run.ensures c.agendas_stay.ensures.told c.note.new.self
-          (S.file c.note.new.shelf) (S.ids c.note.new.shelf) (noted.playing r.net o.dones (no_dones r.net) o.playing) noted.ready (noted.noted (no_dones r.net) o.dones together more t.1.noted) noted.plans noted.came noted.only,
+          (S.file c.note.new.shelf) (S.ids c.note.new.shelf) (noted.playing r.net o.dones (no_dones r.net) o.playing) noted.ready (noted.noted (no_dones r.net) o.dones together more t.1.noted) noted.manifests noted.came noted.only,
     )
 
 pub play_on-requires-clause-budget : goal.play_on-requires-clause-budget
@@ -76,7 +76,7 @@ returns-clause-done g c tells = if_ok_map c.play_on.result
     let more = opened-more S.tells r (S.file c.args.shelf.now) (S.ids c.args.shelf.now) c.args.self.now ps begin c.open.new.self o came c.opened_nets_are_new.ensures c.opened_nets_run.ensures in
     played r
     (opened-going S.tells r (S.file c.args.shelf.now) (S.ids c.args.shelf.now) c.args.self.now ps begin c.open.new.self o came c.opened_nets_are_new.ensures c.opened_nets_run.ensures c.agendas_stay.ensures.told c.note.new.self
-    (S.file c.note.new.shelf) (S.ids c.note.new.shelf) (noted.playing r.net o.dones (no_dones r.net) o.playing) noted.ready (noted.noted (no_dones r.net) o.dones together more begin.noted) noted.plans noted.came noted.only))
+    (S.file c.note.new.shelf) (S.ids c.note.new.shelf) (noted.playing r.net o.dones (no_dones r.net) o.playing) noted.ready (noted.noted (no_dones r.net) o.dones together more begin.noted) noted.manifests noted.came noted.only))
     (c.play_on.ensures.done tells)
 
 pub returns-then-is_err-clause-cut : goal.returns-then-is_err-clause-cut
@@ -110,7 +110,7 @@ returns-clause-cut g c = λ t. on_err_weaker c.play_on.result
     let more = opened-more S.tells r (S.file c.args.shelf.now) (S.ids c.args.shelf.now) c.args.self.now ps begin c.open.new.self o came c.opened_nets_are_new.ensures c.opened_nets_run.ensures in
     cut r
     (opened-going S.tells r (S.file c.args.shelf.now) (S.ids c.args.shelf.now) c.args.self.now ps begin c.open.new.self o came c.opened_nets_are_new.ensures c.opened_nets_run.ensures c.agendas_stay.ensures.told c.note.new.self
-    (S.file c.note.new.shelf) (S.ids c.note.new.shelf) (noted.playing r.net o.dones (no_dones r.net) o.playing) noted.ready (noted.noted (no_dones r.net) o.dones together more begin.noted) noted.plans noted.came noted.only))
+    (S.file c.note.new.shelf) (S.ids c.note.new.shelf) (noted.playing r.net o.dones (no_dones r.net) o.playing) noted.ready (noted.noted (no_dones r.net) o.dones together more begin.noted) noted.manifests noted.came noted.only))
     (c.play_on.ensures.cut t)
 
 pub returns-in_err-note-clause-never : goal.returns-in_err-note-clause-never
@@ -131,7 +131,7 @@ returns-clause-never g c tells = if_err_map c.play_on.result
     let more = opened-more S.tells r (S.file c.args.shelf.now) (S.ids c.args.shelf.now) c.args.self.now ps begin c.open.new.self o came c.opened_nets_are_new.ensures c.opened_nets_run.ensures in
     never change r
     (opened-going S.tells r (S.file c.args.shelf.now) (S.ids c.args.shelf.now) c.args.self.now ps begin c.open.new.self o came c.opened_nets_are_new.ensures c.opened_nets_run.ensures c.agendas_stay.ensures.told c.note.new.self
-    (S.file c.note.new.shelf) (S.ids c.note.new.shelf) (noted.playing r.net o.dones (no_dones r.net) o.playing) noted.ready (noted.noted (no_dones r.net) o.dones together more begin.noted) noted.plans noted.came noted.only))
+    (S.file c.note.new.shelf) (S.ids c.note.new.shelf) (noted.playing r.net o.dones (no_dones r.net) o.playing) noted.ready (noted.noted (no_dones r.net) o.dones together more begin.noted) noted.manifests noted.came noted.only))
     (c.play_on.ensures.never tells)
 
 pub returns-then-is_err-clause-only : goal.returns-then-is_err-clause-only
@@ -140,14 +140,14 @@ returns-then-is_err-clause-only g c = net-goes-none _ _ _ _ _
 pub returns-in_err-note-clause-only : goal.returns-in_err-note-clause-only
 returns-in_err-note-clause-only g c =
     let S = g.S.Shelf in
-    net-goes-writing S.tells (plans_in c.args.self.now.desks.items) (all_ids (programmes_in c.args.agenda.now)) _ _ _ _ _ _ (net-goes-none S.tells (plans_in c.args.self.now.desks.items) (all_ids (programmes_in c.args.agenda.now)) (S.file c.args.shelf.now) (S.ids c.args.shelf.now))
+    net-goes-writing S.tells (manifests_in c.args.self.now.desks.items) (all_ids (programmes_in c.args.agenda.now)) _ _ _ _ _ _ (net-goes-none S.tells (manifests_in c.args.self.now.desks.items) (all_ids (programmes_in c.args.agenda.now)) (S.file c.args.shelf.now) (S.ids c.args.shelf.now))
     c.in_err-note.ensures.only
 
 pub returns-clause-only : goal.returns-clause-only
 returns-clause-only g c =
     let S = g.S.Shelf in
-    net-goes-then S.tells (plans_in c.args.self.now.desks.items) (all_ids (programmes_in c.args.agenda.now)) _ _ _ _ _ _ c.in_ok-note.ensures.only
-    (subst (λ (qs : List Planned). OnlyGoesOnAll S.tells qs (all_ids (programmes_in c.args.agenda.now)) (S.file c.note.new.shelf) (S.file c.play_on.new.shelf) (S.ids c.note.new.shelf) (S.ids c.play_on.new.shelf)) c.in_ok-note.ensures.plans c.play_on.ensures.only)
+    net-goes-then S.tells (manifests_in c.args.self.now.desks.items) (all_ids (programmes_in c.args.agenda.now)) _ _ _ _ _ _ c.in_ok-note.ensures.only
+    (subst (λ (qs : List Listed). OnlyGoesOnAll S.tells qs (all_ids (programmes_in c.args.agenda.now)) (S.file c.note.new.shelf) (S.file c.play_on.new.shelf) (S.ids c.note.new.shelf) (S.ids c.play_on.new.shelf)) c.in_ok-note.ensures.manifests c.play_on.ensures.only)
 
 pub returns-in_err-note-clause-changed : goal.returns-in_err-note-clause-changed
 returns-in_err-note-clause-changed g c name p at =

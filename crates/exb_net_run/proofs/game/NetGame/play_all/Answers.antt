@@ -7,8 +7,8 @@ use Rattle.exb_merge.specs.Streams.{Stream}
 use Rattle.exb_inputs.specs.Shelving.{OnlyReads}
 use Rattle.exb_inputs.proofs.Outcomes.{some_at}
 use Rattle.exb_inputs.proofs.ShelvingLemmas.{counts_as, counts_from, fewer_same, fewer_then}
-use Rattle.exb_outputs.specs.Plans.{Planned}
-use Rattle.exb_net_run.specs.Desks.{OnlyWritesAll, plans_in}
+use Rattle.exb_outputs.specs.Manifests.{Listed}
+use Rattle.exb_net_run.specs.Desks.{OnlyWritesAll, manifests_in}
 use Rattle.exb_net_run.specs.Shelving.{IsOfCaptures}
 use Rattle.exb_net_run.proofs.Awaited.{all-told, cut-read, few-orders, is-due, ports-on, ready-on, rests-on, seconds-few, within-paid}
 use Rattle.exb_net_run.proofs.Ending.{can-end}
@@ -22,7 +22,7 @@ events-init g c = record {
   going = λ r start. start;
   budget = c.requires.budget;
   same = refl;
-  plans = refl;
+  manifests = refl;
   only = net-goes-none _ _ _ _ _;
   ports = λ b q has. has;
   faults = fewer_same _ _ refl;
@@ -88,7 +88,7 @@ events-preserved g c =
     let order = λ (t : S.tells). subst (λ (o : Option NetNext). (streams : List (List Stream)) → AreAllReplays (S.file c.events.shelf) (S.ids c.events.shelf) old streams → IsFirstOf old streams o ps (λ rest. AreAllReplays (S.file c.next_due.new.shelf) (S.ids c.next_due.new.shelf) ps rest))
     c.in-Some.is (c.in_ok-due.ensures.order t) in
     let of = rests-on c.args.rests.now old d ps comes inv.rests in
-    let plans = plans_in c.args.self.now.desks.items in
+    let manifests = manifests_in c.args.self.now.desks.items in
     let mine = all_ids (programmes_in c.args.agenda.now) in
     record {
       agenda = c.agendas_stay.ensures.stays (S.ids c.next_due.new.shelf) (S.ids c.turn.new.shelf) c.next_due.new.agenda (kept-all (S.ids c.next_due.new.shelf) (S.ids c.turn.new.shelf) c.turn.ensures.only.kept (all_ids ps)) c.in_ok-due.ensures.agenda;
@@ -100,12 +100,12 @@ events-preserved g c =
       budget = c.in_ok-turn.ensures.budget ps
           (within-paid c.events.self.net.nodes.items (λ x. (goal.Fate-dyn g (x.world.fate.vtable, x.world.fate.value)).left x.world.fate.value) c.args.rests.now old d ps comes inv.rests inv.budget);
       same = comes.ids ∙ inv.same;
-      plans = c.turn.ensures.plans ∙ inv.plans;
+      manifests = c.turn.ensures.manifests ∙ inv.manifests;
       only =
-          net-goes-writing S.tells plans mine _ _ _ _ _ _
-          (net-goes-reading S.tells plans mine _ _ _ _ _ _ inv.only
+          net-goes-writing S.tells manifests mine _ _ _ _ _ _
+          (net-goes-reading S.tells manifests mine _ _ _ _ _ _ inv.only
           (subst (λ (ks : List ℕ). OnlyReads ks (S.file c.events.shelf) (S.file c.next_due.new.shelf) (S.ids c.events.shelf) (S.ids c.next_due.new.shelf)) inv.same c.next_due.ensures.reads))
-          (subst (λ (qs : List Planned). OnlyWritesAll S.tells qs (S.file c.next_due.new.shelf) (S.file c.turn.new.shelf) (S.ids c.next_due.new.shelf) (S.ids c.turn.new.shelf)) inv.plans c.turn.ensures.only);
+          (subst (λ (qs : List Listed). OnlyWritesAll S.tells qs (S.file c.next_due.new.shelf) (S.file c.turn.new.shelf) (S.ids c.next_due.new.shelf) (S.ids c.turn.new.shelf)) inv.manifests c.turn.ensures.only);
       ports = λ b q has. inv.ports b q (ports-on old d ps comes b q has);
       faults = fewer_then _ _ _ (fewer_then _ _ _ inv.faults c.next_due.ensures.faults.none_fell) c.turn.ensures.faults.none_fell;
       none_counted = c.in_ok-turn.ensures.faults.once ∙ c.in_ok-due.ensures.faults.once ∙ inv.none_counted;
@@ -185,26 +185,26 @@ pub returns-in_err-due-clause-only : goal.returns-in_err-due-clause-only
 returns-in_err-due-clause-only g c =
     let S = g.S.Shelf in
     let inv = c.events.invariant in
-    net-goes-reading S.tells (plans_in c.args.self.now.desks.items) (all_ids (programmes_in c.args.agenda.now)) _ _ _ _ _ _ inv.only
+    net-goes-reading S.tells (manifests_in c.args.self.now.desks.items) (all_ids (programmes_in c.args.agenda.now)) _ _ _ _ _ _ inv.only
     (subst (λ (ks : List ℕ). OnlyReads ks (S.file c.events.shelf) (S.file c.next_due.new.shelf) (S.ids c.events.shelf) (S.ids c.next_due.new.shelf)) inv.same c.next_due.ensures.reads)
 
 pub returns-clause-only : goal.returns-clause-only
 returns-clause-only g c =
     let S = g.S.Shelf in
     let inv = c.events.invariant in
-    net-goes-reading S.tells (plans_in c.args.self.now.desks.items) (all_ids (programmes_in c.args.agenda.now)) _ _ _ _ _ _ inv.only
+    net-goes-reading S.tells (manifests_in c.args.self.now.desks.items) (all_ids (programmes_in c.args.agenda.now)) _ _ _ _ _ _ inv.only
     (subst (λ (ks : List ℕ). OnlyReads ks (S.file c.events.shelf) (S.file c.next_due.new.shelf) (S.ids c.events.shelf) (S.ids c.next_due.new.shelf)) inv.same c.next_due.ensures.reads)
 
 pub returns-in_err-turn-clause-only : goal.returns-in_err-turn-clause-only
 returns-in_err-turn-clause-only g c =
     let S = g.S.Shelf in
     let inv = c.events.invariant in
-    let plans = plans_in c.args.self.now.desks.items in
+    let manifests = manifests_in c.args.self.now.desks.items in
     let mine = all_ids (programmes_in c.args.agenda.now) in
-    net-goes-writing S.tells plans mine _ _ _ _ _ _
-    (net-goes-reading S.tells plans mine _ _ _ _ _ _ inv.only
+    net-goes-writing S.tells manifests mine _ _ _ _ _ _
+    (net-goes-reading S.tells manifests mine _ _ _ _ _ _ inv.only
     (subst (λ (ks : List ℕ). OnlyReads ks (S.file c.events.shelf) (S.file c.next_due.new.shelf) (S.ids c.events.shelf) (S.ids c.next_due.new.shelf)) inv.same c.next_due.ensures.reads))
-    (subst (λ (qs : List Planned). OnlyWritesAll S.tells qs (S.file c.next_due.new.shelf) (S.file c.turn.new.shelf) (S.ids c.next_due.new.shelf) (S.ids c.turn.new.shelf)) inv.plans c.turn.ensures.only)
+    (subst (λ (qs : List Listed). OnlyWritesAll S.tells qs (S.file c.next_due.new.shelf) (S.file c.turn.new.shelf) (S.ids c.next_due.new.shelf) (S.ids c.turn.new.shelf)) inv.manifests c.turn.ensures.only)
 
 pub returns-in_err-due-clause-changed : goal.returns-in_err-due-clause-changed
 returns-in_err-due-clause-changed g c name p at =

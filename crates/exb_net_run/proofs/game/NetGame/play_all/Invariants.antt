@@ -3,7 +3,7 @@ use Rattle.std.specs.Prelude.{None}
 use Rattle.exb_merge.specs.NetAgendas.{IsAgenda, IsOfBridge, all_ids, left_of_all, programmes_in}
 use Rattle.exb_merge.specs.Replays.{HasPort, standings}
 use Rattle.exb_shelf.specs.Shelf.{NoFewer}
-use Rattle.exb_net_run.specs.Desks.{plans_in}
+use Rattle.exb_net_run.specs.Desks.{manifests_in}
 use Rattle.exb_net_run.specs.Shelving.{OnlyGoesOnAll}
 use Rattle.exb_net_run.specs.UnderWay.{AreOfRests, IsGoing, IsWithin, NetRun}
 use Rattle.exb_net_run.proofs.game.NetGame.play_all.Given as goal
@@ -17,8 +17,8 @@ invariant-events g l =
       going : (r : NetRun) → IsGoing S.tells r (S.file l.fn.shelf) (S.ids l.fn.shelf) None l.fn.self (programmes_in l.fn.agenda) → IsGoing S.tells r (S.file l.shelf) (S.ids l.shelf) l.last l.self (programmes_in l.agenda);
       budget : IsWithin l.self.net.nodes.items (λ x. (goal.Fate-dyn g (x.world.fate.vtable, x.world.fate.value)).left x.world.fate.value) (programmes_in l.agenda);
       same : all_ids (programmes_in l.agenda) ≡ all_ids (programmes_in l.fn.agenda);
-      plans : plans_in l.self.desks.items ≡ plans_in l.fn.self.desks.items;
-      only : OnlyGoesOnAll S.tells (plans_in l.fn.self.desks.items) (all_ids (programmes_in l.fn.agenda)) (S.file l.fn.shelf) (S.file l.shelf) (S.ids l.fn.shelf) (S.ids l.shelf);
+      manifests : manifests_in l.self.desks.items ≡ manifests_in l.fn.self.desks.items;
+      only : OnlyGoesOnAll S.tells (manifests_in l.fn.self.desks.items) (all_ids (programmes_in l.fn.agenda)) (S.file l.fn.shelf) (S.file l.shelf) (S.ids l.fn.shelf) (S.ids l.shelf);
       ports : (b q : ℕ) → IsOfBridge (programmes_in l.agenda) b (λ m. HasPort q (standings m.captures)) → IsOfBridge (programmes_in l.fn.agenda) b (λ m. HasPort q (standings m.captures));
       faults : NoFewer (S.faults l.fn.shelf) (S.faults l.shelf);
       none_counted : S.faults l.shelf ≡ S.faults l.fn.shelf;

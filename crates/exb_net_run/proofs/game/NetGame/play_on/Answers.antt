@@ -2,9 +2,9 @@ use Rattle.std.proofs.Common.{◌∙◌, List, Err, ap, sym, subst}
 use Rattle.std.proofs.lemmas.Result.{err_from_is_err_and, on_err_weaker}
 use Rattle.exb_inputs.proofs.Outcomes.{if_err_map, if_ok_both, if_ok_map}
 use Rattle.exb_inputs.proofs.ShelvingLemmas.{counts_from}
-use Rattle.exb_outputs.specs.Plans.{Planned}
+use Rattle.exb_outputs.specs.Manifests.{Listed}
 use Rattle.exb_merge.specs.NetAgendas.{all_ids, programmes_in}
-use Rattle.exb_net_run.specs.Desks.{ArePlansApart, OnlyWritesAll, plans_in}
+use Rattle.exb_net_run.specs.Desks.{AreManifestsApart, OnlyWritesAll, manifests_in}
 use Rattle.exb_net_run.specs.Shelving.{IsOfCaptures}
 use Rattle.exb_net_run.proofs.Ending.{ended, ended-cut}
 use Rattle.exb_net_run.proofs.Shelves.{err-own, net-goes-writing, writing-changed-all, writing-never, writing-play}
@@ -13,8 +13,8 @@ use Rattle.exb_net_run.proofs.game.NetGame.play_on.Goals as goal
 pub end-requires-clause-apart : goal.end-requires-clause-apart
 end-requires-clause-apart g c =
     let was = c.requires.going.1.is.desks in
-    let all = c.in_ok-play_all.ensures.plans ∙ was.plans in
-    subst (λ (qs : List Planned). ArePlansApart qs) (sym all) was.apart
+    let all = c.in_ok-play_all.ensures.manifests ∙ was.manifests in
+    subst (λ (qs : List Listed). AreManifestsApart qs) (sym all) was.apart
 
 pub returns-clause-done : goal.returns-clause-done
 returns-clause-done g c tells =
@@ -53,8 +53,8 @@ returns-clause-never g c tells = if_err_map c.end.result (λ fault causes change
 pub returns-clause-only : goal.returns-clause-only
 returns-clause-only g c =
     let S = g.S.Shelf in
-    net-goes-writing S.tells (plans_in c.args.self.now.desks.items) (all_ids (programmes_in c.args.agenda.now)) _ _ _ _ _ _ c.in_ok-play_all.ensures.only
-    (subst (λ (qs : List Planned). OnlyWritesAll S.tells qs (S.file c.play_all.new.shelf) (S.file c.end.new.shelf) (S.ids c.play_all.new.shelf) (S.ids c.end.new.shelf)) c.in_ok-play_all.ensures.plans c.end.ensures.only)
+    net-goes-writing S.tells (manifests_in c.args.self.now.desks.items) (all_ids (programmes_in c.args.agenda.now)) _ _ _ _ _ _ c.in_ok-play_all.ensures.only
+    (subst (λ (qs : List Listed). OnlyWritesAll S.tells qs (S.file c.play_all.new.shelf) (S.file c.end.new.shelf) (S.ids c.play_all.new.shelf) (S.ids c.end.new.shelf)) c.in_ok-play_all.ensures.manifests c.end.ensures.only)
 
 pub returns-in_err-play_all-clause-changed : goal.returns-in_err-play_all-clause-changed
 returns-in_err-play_all-clause-changed g c name p at =

@@ -1,9 +1,9 @@
 use Rattle.std.proofs.Common.{◌+◌, ℕ, List, ap, sym, subst, ◌∙◌}
 use Rattle.std.proofs.lemmas.Result.{on_err_weaker}
 use Rattle.exb_inputs.proofs.Outcomes.{on_ok_by, when_ok}
-use Rattle.exb_outputs.specs.Plans.{Planned}
+use Rattle.exb_outputs.specs.Manifests.{Listed}
 use Rattle.exb_wiring.specs.Playing.{pass}
-use Rattle.exb_net_run.specs.Desks.{ArePlansApart}
+use Rattle.exb_net_run.specs.Desks.{AreManifestsApart}
 use Rattle.exb_net_run.specs.UnderWay.{came_by}
 use Rattle.exb_net_run.proofs.Going.{are-more, can-note-all, cut-after, cut-noted, go-together, going-after}
 use Rattle.exb_net_run.proofs.Paying.{falls_paid, falls_within, given_within, paid_at, paid_few}
@@ -69,7 +69,7 @@ pub note-requires-clause-ready : goal.note-requires-clause-ready
 note-requires-clause-ready g c = c.requires.due.1.1.1.0.ready
 
 pub note-requires-clause-apart : goal.note-requires-clause-apart
-note-requires-clause-apart g c = (let was = c.requires.due.1.1.1.0.going.is.desks in subst (λ (qs : List Planned). ArePlansApart qs) (sym was.plans) was.apart)
+note-requires-clause-apart g c = (let was = c.requires.due.1.1.1.0.going.is.desks in subst (λ (qs : List Listed). AreManifestsApart qs) (sym was.manifests) was.apart)
 
 pub note-requires-clause-can : goal.note-requires-clause-can
 note-requires-clause-can g c =
@@ -101,7 +101,7 @@ returns-clause-told g c =
     let together = go-together S.tells r (S.file c.args.shelf.now) (S.ids c.args.shelf.now) c.args.seconds second c.args.self.now c.args.due ps p turned.e turned.one turned.more c.give.new.net turned.playing c.steps_tell_passed.ensures in
     let more = are-more S.tells r (S.file c.args.shelf.now) (S.ids c.args.shelf.now) c.args.seconds second c.args.self.now c.args.due ps p turned.e turned.one turned.more c.give.new.net turned.playing in
     going-after S.tells r (S.file c.args.shelf.now) (S.ids c.args.shelf.now) c.args.seconds second c.args.self.now c.args.due ps p turned.e turned.one turned.more c.agendas_stay.ensures.told c.note.new.self (S.file c.note.new.shelf) (S.ids c.note.new.shelf)
-    (get _ c.note.ensures.playing r.net turned.e dones turned.playing) c.note.ensures.ready (get _ c.note.ensures.noted dones turned.e together more p.going.is.noted) c.note.ensures.plans
+    (get _ c.note.ensures.playing r.net turned.e dones turned.playing) c.note.ensures.ready (get _ c.note.ensures.noted dones turned.e together more p.going.is.noted) c.note.ensures.manifests
     (get _ c.note.ensures.came ∙ when_ok c.give.result given c.give.ensures.came ∙ ap (λ (k : ℕ). k + came_by c.args.due.next) came) c.note.ensures.only)
 
 pub returns-clause-budget : goal.returns-clause-budget

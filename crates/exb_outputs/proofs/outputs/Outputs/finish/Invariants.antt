@@ -10,11 +10,11 @@ abbrev pub invariant-loop-at : goal.invariant-loop-at
 invariant-loop-at g l =
     let S = g.S.Shelf in
     record {
-      ready : IsReady l.plan (S.ids l.shelf) l.self;
+      ready : IsReady l.manifest (S.ids l.shelf) l.self;
       empty : (j : ℕ) → j < l.at → slice_index_or (pieces_of l.self) j [] ≡ [];
-      texts : S.tells → (orig : Files) (text : Output → List ℕ) → HasTexts l.plan (pieces_of l.fn.self) orig (S.file l.fn.shelf) text
-          → HasTexts l.plan (pieces_of l.self) orig (S.file l.shelf) text;
-      only : OnlyWrites S.tells l.plan (S.file l.fn.shelf) (S.file l.shelf) (S.ids l.fn.shelf) (S.ids l.shelf);
+      texts : S.tells → (orig : Files) (text : Output → List ℕ) → HasTexts l.manifest (pieces_of l.fn.self) orig (S.file l.fn.shelf) text
+          → HasTexts l.manifest (pieces_of l.self) orig (S.file l.shelf) text;
+      only : OnlyWrites S.tells l.manifest (S.file l.fn.shelf) (S.file l.shelf) (S.ids l.fn.shelf) (S.ids l.shelf);
       faults : NoFewer (S.faults l.fn.shelf) (S.faults l.shelf);
       counted : S.faults l.shelf ≡ S.faults l.fn.shelf;
     }

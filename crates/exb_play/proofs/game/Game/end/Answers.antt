@@ -9,8 +9,8 @@ returns-in_err-line-clause-cut g c = λ t.
     let e = err_from_is_err_and c.from_residual-in_err-line.result c.from_residual-in_err-line.ensures.1 in
     rw e.1
     (λ orig text p.
-    let whole = with_end text c.args.plan.now c.args.self.now.counted.ports c.args.self.now.outputs in
-    cut_whole c.args.plan.now orig (g.S.Shelf.file c.finish.new.shelf) whole (c.in_ok-finish.ensures.texts t orig whole (c.in_ok-write_end.ensures.texts t orig text p)))
+    let whole = with_end text c.args.manifest.now c.args.self.now.counted.ports c.args.self.now.outputs in
+    cut_whole c.args.manifest.now orig (g.S.Shelf.file c.finish.new.shelf) whole (c.in_ok-finish.ensures.texts t orig whole (c.in_ok-write_end.ensures.texts t orig text p)))
 
 pub returns-in_err-finish-clause-faults : goal.returns-in_err-finish-clause-faults
 returns-in_err-finish-clause-faults g c =

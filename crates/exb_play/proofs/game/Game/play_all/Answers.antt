@@ -27,13 +27,13 @@ seconds_since-seconds-requires g c =
     let S = g.S.Shelf in
     let run = c.requires.playing.0 in
     let got = some_at _ c.in_ok-second.field-0 c.in-Some.second c.in-Some.is c.in_ok-second.ensures.gathered in
-    seconds-fit S.tells (mode_of c.args.schedule) run c.args.plan.now (S.file c.events.shelf) (S.file c.gather.new.shelf) (S.ids c.events.shelf) (S.ids c.gather.new.shelf)
+    seconds-fit S.tells (mode_of c.args.schedule) run c.args.manifest.now (S.file c.events.shelf) (S.file c.gather.new.shelf) (S.ids c.events.shelf) (S.ids c.gather.new.shelf)
     (network_of c.events.self.world) c.events.self.counted c.events.self.outputs c.events.last c.events.feed.programme c.in-Some.second c.gather.new.self (c.events.invariant.goes_on run c.requires.playing.1) got c.in_ok-second.ensures.feed.programme
 
 pub go_on-requires-clause-ready : goal.go_on-requires-clause-ready
 go_on-requires-clause-ready g c =
     let S = g.S.Shelf in
-    ready-read c.args.plan.now (S.ids c.events.shelf) (S.ids c.gather.new.shelf) c.events.self.outputs c.events.feed.programme.captures.sources.items c.events.invariant.ready
+    ready-read c.args.manifest.now (S.ids c.events.shelf) (S.ids c.gather.new.shelf) c.events.self.outputs c.events.feed.programme.captures.sources.items c.events.invariant.ready
     c.events.invariant.feed.programme.opened.each c.gather.ensures.reads.reads
 
 pub go_on-requires-clause-playing : goal.go_on-requires-clause-playing
@@ -44,7 +44,7 @@ go_on-requires-clause-playing g c =
       run,
       (
         c.in-Some.second,
-        can-go-on S.tells (mode_of c.args.schedule) run c.args.plan.now (S.file c.events.shelf) (S.file c.gather.new.shelf) (S.ids c.events.shelf) (S.ids c.gather.new.shelf)
+        can-go-on S.tells (mode_of c.args.schedule) run c.args.manifest.now (S.file c.events.shelf) (S.file c.gather.new.shelf) (S.ids c.events.shelf) (S.ids c.gather.new.shelf)
             (network_of c.events.self.world) c.events.self.counted c.events.self.outputs c.events.last c.events.feed.programme _ _ c.in-Some.second c.gather.new.self (c.events.invariant.goes_on run c.requires.playing.1) got c.gather.ensures.reads
             c.events.invariant.taken c.seconds_since-seconds.ensures,
       ),
@@ -70,15 +70,15 @@ events-preserved g c =
       feed = feed-written (S.ids c.gather.new.shelf) (S.ids c.go_on.new.shelf) c.gather.new.self c.go_on.ensures.only.kept c.in_ok-second.ensures.feed;
       goes_on = λ run start.
           c.in_ok-go_on.ensures.told run c.in-Some.second
-          (can-go-on S.tells (mode_of c.args.schedule) run c.args.plan.now (S.file c.events.shelf) (S.file c.gather.new.shelf) (S.ids c.events.shelf) (S.ids c.gather.new.shelf)
+          (can-go-on S.tells (mode_of c.args.schedule) run c.args.manifest.now (S.file c.events.shelf) (S.file c.gather.new.shelf) (S.ids c.events.shelf) (S.ids c.gather.new.shelf)
           (network_of c.events.self.world) c.events.self.counted c.events.self.outputs c.events.last c.events.feed.programme _ _ c.in-Some.second c.gather.new.self (inv.goes_on run start) got c.gather.ensures.reads
           inv.taken c.seconds_since-seconds.ensures);
       taken = c.taken-taken-in-Some.ensures;
       budget = c.in_ok-go_on.ensures.budget;
       same = same ∙ inv.same;
       only =
-          goes-writing S.tells c.args.plan.now (ids_in c.args.feed.now.programme.captures) _ _ _ _ _ _
-          (goes-reading S.tells c.args.plan.now (ids_in c.args.feed.now.programme.captures) _ _ _ _ _ _ inv.only
+          goes-writing S.tells c.args.manifest.now (ids_in c.args.feed.now.programme.captures) _ _ _ _ _ _
+          (goes-reading S.tells c.args.manifest.now (ids_in c.args.feed.now.programme.captures) _ _ _ _ _ _ inv.only
           (subst (λ (mine : List ℕ). OnlyReads mine (S.file c.events.shelf) (S.file c.gather.new.shelf) (S.ids c.events.shelf) (S.ids c.gather.new.shelf)) inv.same c.gather.ensures.reads))
           c.go_on.ensures.only;
       ports = λ q has. inv.ports q (ports-all c.events.feed.programme c.gather.new.self.programme (got.first ∷ got.more) got.comes q has);
@@ -94,7 +94,7 @@ events-smaller g c =
 pub returns-clause-ready : goal.returns-clause-ready
 returns-clause-ready g c =
     let S = g.S.Shelf in
-    ready-read c.args.plan.now (S.ids c.events.shelf) (S.ids c.gather.new.shelf) c.events.self.outputs c.events.feed.programme.captures.sources.items c.events.invariant.ready
+    ready-read c.args.manifest.now (S.ids c.events.shelf) (S.ids c.gather.new.shelf) c.events.self.outputs c.events.feed.programme.captures.sources.items c.events.invariant.ready
     c.events.invariant.feed.programme.opened.each c.gather.ensures.reads.reads
 
 pub returns-clause-few : goal.returns-clause-few
@@ -110,27 +110,27 @@ returns-clause-few g c =
 pub returns-clause-counted : goal.returns-clause-counted
 returns-clause-counted g c =
     let p = c.events.invariant.goes_on c.requires.playing.0 c.requires.playing.1 in
-    counts-of c.args.plan.now c.events.self.counted.ports p.is.told p.is.passed p.is.counted.ports
+    counts-of c.args.manifest.now c.events.self.counted.ports p.is.told p.is.passed p.is.counted.ports
 
 pub returns-clause-sent : goal.returns-clause-sent
 returns-clause-sent g c =
     let run = c.requires.playing.0 in
     let p = c.events.invariant.goes_on run c.requires.playing.1 in
-    counted_of c.args.plan.now c.events.self.outputs (λ q. left_at q p.is.gone)
+    counted_of c.args.manifest.now c.events.self.outputs (λ q. left_at q p.is.gone)
     (sizes-fit (mode_of c.args.schedule) run.input p.so_far (network_of c.events.self.world) p.is.told p.is.passed p.is.gone p.is.lines c.runs_are_few.ensures c.runs_are_under_way.ensures
     (let most = p.next.few_bytes in omega (arith, most)) p.is.played) p.is.sent
 
 pub returns-clause-told : goal.returns-clause-told
 returns-clause-told g c t run start =
     let S = g.S.Shelf in
-    all-played S.tells (mode_of c.args.schedule) run c.args.plan.now (S.file c.events.shelf) (S.file c.gather.new.shelf) (S.ids c.events.shelf) (network_of c.events.self.world) c.events.self.counted c.events.self.outputs c.events.last
+    all-played S.tells (mode_of c.args.schedule) run c.args.manifest.now (S.file c.events.shelf) (S.file c.gather.new.shelf) (S.ids c.events.shelf) (network_of c.events.self.world) c.events.self.counted c.events.self.outputs c.events.last
     c.events.feed.programme t (c.events.invariant.goes_on run start) (none_at c.in_ok-second.field-0 c.in_default.is (c.in_ok-second.ensures.end t)) c.gather.ensures.reads.files
     c.runs_are_few.ensures c.runs_are_under_way.ensures
 
 pub returns-clause-kept : goal.returns-clause-kept
 returns-clause-kept g c t run start =
     let S = g.S.Shelf in
-    all-kept S.tells (mode_of c.args.schedule) run c.args.plan.now (S.file c.events.shelf) (S.ids c.events.shelf) (network_of c.events.self.world) c.events.self.counted c.events.self.outputs c.events.last
+    all-kept S.tells (mode_of c.args.schedule) run c.args.manifest.now (S.file c.events.shelf) (S.ids c.events.shelf) (network_of c.events.self.world) c.events.self.counted c.events.self.outputs c.events.last
     c.events.feed.programme t (c.events.invariant.goes_on run start) (none_at c.in_ok-second.field-0 c.in_default.is (c.in_ok-second.ensures.end t))
 
 pub returns-in_err-second-clause-cut : goal.returns-in_err-second-clause-cut
@@ -139,7 +139,7 @@ returns-in_err-second-clause-cut g c = λ t.
     rw e.1
     (λ run start.
     let S = g.S.Shelf in
-    cut-reading S.tells (mode_of c.args.schedule) run c.args.plan.now (S.file c.events.shelf) (S.file c.gather.new.shelf) (S.ids c.events.shelf) (network_of c.events.self.world) c.events.self.counted c.events.self.outputs c.events.last
+    cut-reading S.tells (mode_of c.args.schedule) run c.args.manifest.now (S.file c.events.shelf) (S.file c.gather.new.shelf) (S.ids c.events.shelf) (network_of c.events.self.world) c.events.self.counted c.events.self.outputs c.events.last
     c.events.feed.programme t (c.events.invariant.goes_on run start) c.gather.ensures.reads.files)
 
 pub returns-in_err-go_on-clause-cut : goal.returns-in_err-go_on-clause-cut
@@ -150,7 +150,7 @@ returns-in_err-go_on-clause-cut g c = λ t.
     let S = g.S.Shelf in
     let got = some_at _ c.in_ok-second.field-0 c.in-Some.second c.in-Some.is c.in_ok-second.ensures.gathered in
     c.in_err-go_on.ensures.cut t run c.in-Some.second
-    (can-go-on S.tells (mode_of c.args.schedule) run c.args.plan.now (S.file c.events.shelf) (S.file c.gather.new.shelf) (S.ids c.events.shelf) (S.ids c.gather.new.shelf)
+    (can-go-on S.tells (mode_of c.args.schedule) run c.args.manifest.now (S.file c.events.shelf) (S.file c.gather.new.shelf) (S.ids c.events.shelf) (S.ids c.gather.new.shelf)
     (network_of c.events.self.world) c.events.self.counted c.events.self.outputs c.events.last c.events.feed.programme _ _ c.in-Some.second c.gather.new.self (c.events.invariant.goes_on run start) got c.gather.ensures.reads
     c.events.invariant.taken c.seconds_since-seconds.ensures))
 
@@ -166,15 +166,15 @@ pub returns-in_err-second-clause-only : goal.returns-in_err-second-clause-only
 returns-in_err-second-clause-only g c =
     let S = g.S.Shelf in
     let inv = c.events.invariant in
-    goes-reading S.tells c.args.plan.now (ids_in c.args.feed.now.programme.captures) _ _ _ _ _ _ inv.only
+    goes-reading S.tells c.args.manifest.now (ids_in c.args.feed.now.programme.captures) _ _ _ _ _ _ inv.only
     (subst (λ (mine : List ℕ). OnlyReads mine (S.file c.events.shelf) (S.file c.gather.new.shelf) (S.ids c.events.shelf) (S.ids c.gather.new.shelf)) inv.same c.gather.ensures.reads)
 
 pub returns-in_err-go_on-clause-only : goal.returns-in_err-go_on-clause-only
 returns-in_err-go_on-clause-only g c =
     let S = g.S.Shelf in
     let inv = c.events.invariant in
-    goes-writing S.tells c.args.plan.now (ids_in c.args.feed.now.programme.captures) _ _ _ _ _ _
-    (goes-reading S.tells c.args.plan.now (ids_in c.args.feed.now.programme.captures) _ _ _ _ _ _ inv.only
+    goes-writing S.tells c.args.manifest.now (ids_in c.args.feed.now.programme.captures) _ _ _ _ _ _
+    (goes-reading S.tells c.args.manifest.now (ids_in c.args.feed.now.programme.captures) _ _ _ _ _ _ inv.only
     (subst (λ (mine : List ℕ). OnlyReads mine (S.file c.events.shelf) (S.file c.gather.new.shelf) (S.ids c.events.shelf) (S.ids c.gather.new.shelf)) inv.same c.gather.ensures.reads))
     c.go_on.ensures.only
 
@@ -182,7 +182,7 @@ pub returns-clause-only : goal.returns-clause-only
 returns-clause-only g c =
     let S = g.S.Shelf in
     let inv = c.events.invariant in
-    goes-reading S.tells c.args.plan.now (ids_in c.args.feed.now.programme.captures) _ _ _ _ _ _ inv.only
+    goes-reading S.tells c.args.manifest.now (ids_in c.args.feed.now.programme.captures) _ _ _ _ _ _ inv.only
     (subst (λ (mine : List ℕ). OnlyReads mine (S.file c.events.shelf) (S.file c.gather.new.shelf) (S.ids c.events.shelf) (S.ids c.gather.new.shelf)) inv.same c.gather.ensures.reads)
 
 -- ---- of which port a capture has changed, and what was counted

@@ -7,7 +7,7 @@ use Rattle.exb_model.specs.History.{◌then◌}
 use Rattle.exb_model.specs.Texts.{summary_line}
 use Rattle.exb_schedule.specs.Worlds.{network_of}
 use Rattle.exb_text.specs.Tallies.{counts_of}
-use Rattle.exb_outputs.specs.Plans.{output_name, kind_at, output_count}
+use Rattle.exb_outputs.specs.Manifests.{output_name, kind_at, output_count}
 use Rattle.exb_writers.specs.Texts.{output_text, text_so_far}
 use Rattle.exb_play.specs.Playing.{mode_of}
 use Rattle.exb_writers.specs.Telling.{with_end}
@@ -23,7 +23,7 @@ use Rattle.exb_play.proofs.game.Game.play_on.Goals as goal
 pub returns-clause-done : goal.returns-clause-done
 returns-clause-done g c tells =
     let S = g.S.Shelf in
-    let plan = c.args.plan.now in
+    let manifest = c.args.manifest.now in
     let m = mode_of c.args.schedule in
     let n = network_of c.play_all.new.self.world in
     if_ok_both c.end.result (λ line says texts run timely start.
@@ -37,31 +37,31 @@ returns-clause-done g c tells =
     record {
       history = [] then t.told;
       lines = t.lines;
-      legal = legal m i plan t.tree c.is_tree.ensures timely way law n t.told t.passed t.gone t.lines t.played;
+      legal = legal m i manifest t.tree c.is_tree.ensures timely way law n t.told t.passed t.gone t.lines t.played;
       back = record {
         valid = t.played.plays.valid;
         numbers = numbers-then t.told t.numbers;
-        moments = moments-fit m i ([] then t.told) (legal m i plan t.tree c.is_tree.ensures timely way law n t.told t.passed t.gone t.lines t.played) (c.in_ok-play_all.ensures.kept tells run start);
+        moments = moments-fit m i ([] then t.told) (legal m i manifest t.tree c.is_tree.ensures timely way law n t.told t.passed t.gone t.lines t.played) (c.in_ok-play_all.ensures.kept tells run start);
       };
       bytes = t.bytes;
-      eager = eagerly m i plan t.tree c.is_tree.ensures timely way law n t.told t.passed t.gone t.lines t.played c.runs_write_eagerly.ensures;
-      trace = λ on. trace m i plan t.tree c.is_tree.ensures timely way law n t.told t.passed t.gone t.lines t.played c.runs_tell_legally.ensures (t.tracing ∙ on);
-      outputs = weaker run.before (S.file c.end.new.shelf) (output_count plan) (output_name plan) (λ j bytes. bytes ≡ with_end (text_so_far t.told t.gone t.lines []) plan ports outs (kind_at plan j))
-          (λ j bytes. bytes ≡ output_text i ([] then t.told) t.lines (kind_at plan j)) (texts run.before (text_so_far t.told t.gone t.lines []) (t.texts tells))
+      eager = eagerly m i manifest t.tree c.is_tree.ensures timely way law n t.told t.passed t.gone t.lines t.played c.runs_write_eagerly.ensures;
+      trace = λ on. trace m i manifest t.tree c.is_tree.ensures timely way law n t.told t.passed t.gone t.lines t.played c.runs_tell_legally.ensures (t.tracing ∙ on);
+      outputs = weaker run.before (S.file c.end.new.shelf) (output_count manifest) (output_name manifest) (λ j bytes. bytes ≡ with_end (text_so_far t.told t.gone t.lines []) manifest ports outs (kind_at manifest j))
+          (λ j bytes. bytes ≡ output_text i ([] then t.told) t.lines (kind_at manifest j)) (texts run.before (text_so_far t.told t.gone t.lines []) (t.texts tells))
           (λ j bytes low is.
-          is ∙ end_written t.told t.gone t.lines plan ports outs (kind_at plan j)
-          ∙ texts-whole m i plan t.tree c.is_tree.ensures timely way law n t.told t.passed t.gone t.lines t.played c.play_all.new.self.counted.ports c.play_all.new.self.outputs t.counted.ports t.sent all.room c.counts_go_on.ensures c.runs_say_passed.ensures j low);
-      says = says ∙ ap summary_line (t.counted.tally ∙ counts-end m i plan t.tree c.is_tree.ensures timely way law n t.told t.passed t.gone t.lines t.played);
+          is ∙ end_written t.told t.gone t.lines manifest ports outs (kind_at manifest j)
+          ∙ texts-whole m i manifest t.tree c.is_tree.ensures timely way law n t.told t.passed t.gone t.lines t.played c.play_all.new.self.counted.ports c.play_all.new.self.outputs t.counted.ports t.sent all.room c.counts_go_on.ensures c.runs_say_passed.ensures j low);
+      says = says ∙ ap summary_line (t.counted.tally ∙ counts-end m i manifest t.tree c.is_tree.ensures timely way law n t.told t.passed t.gone t.lines t.played);
     }) c.end.ensures.line (c.end.ensures.texts tells)
 
 pub returns-clause-only : goal.returns-clause-only
-returns-clause-only g c = goes-writing g.S.Shelf.tells c.args.plan.now _ _ _ _ _ _ _ c.in_ok-play_all.ensures.only c.end.ensures.only
+returns-clause-only g c = goes-writing g.S.Shelf.tells c.args.manifest.now _ _ _ _ _ _ _ c.in_ok-play_all.ensures.only c.end.ensures.only
 
 pub returns-clause-cut : goal.returns-clause-cut
 returns-clause-cut g c = λ t. on_err_weaker c.end.result
     (λ cut run start.
     let S = g.S.Shelf in
-    cut_at_end S.tells (mode_of c.args.schedule) run c.args.plan.now (S.file c.play_all.new.shelf) (S.file c.end.new.shelf) (network_of c.play_all.new.self.world) c.play_all.new.self.counted c.play_all.new.self.outputs t
+    cut_at_end S.tells (mode_of c.args.schedule) run c.args.manifest.now (S.file c.play_all.new.shelf) (S.file c.end.new.shelf) (network_of c.play_all.new.self.world) c.play_all.new.self.counted c.play_all.new.self.outputs t
     (c.in_ok-play_all.ensures.told t run start).is c.play_all.new.self.counted.ports cut)
     (c.end.ensures.cut t)
 

@@ -25,7 +25,7 @@ note-requires-clause-frames g c =
     let n = network_of c.args.self.now.world in
     let i = c.requires.opened.0.input in
     let is = c.requires.opened.1 in
-    frames-fit (mode_of c.args.schedule) i c.args.plan.now [] n n.log.events n.log.passed [] n.log.left n.log.lines c.runs_are_under_way.ensures is.tree c.is_tree.ensures tt is.played
+    frames-fit (mode_of c.args.schedule) i c.args.manifest.now [] n n.log.events n.log.passed [] n.log.left n.log.lines c.runs_are_under_way.ensures is.tree c.is_tree.ensures tt is.played
 
 pub note-requires-clause-can : goal.note-requires-clause-can
 note-requires-clause-can g c =
@@ -34,7 +34,7 @@ note-requires-clause-can g c =
     let i = c.requires.opened.0.input in
     let is = c.requires.opened.1 in
     let follows : CanFollow i [] = record { kept = tt; few_arrivals = omega arith; few_commands = omega arith } in
-    can-count m i c.args.plan.now [] n c.args.self.now.counted [] n.log.events [] n.log.passed [] n.log.left n.log.lines c.steps_tell_passed.ensures c.runs_are_few.ensures follows is.played is.counted
+    can-count m i c.args.manifest.now [] n c.args.self.now.counted [] n.log.events [] n.log.passed [] n.log.left n.log.lines c.steps_tell_passed.ensures c.runs_are_few.ensures follows is.played is.counted
     none_together
 
 pub play_on-requires-clause-feed : goal.play_on-requires-clause-feed
@@ -46,7 +46,7 @@ play_on-requires-clause-playing g c =
     let note = c.in_ok-note.ensures in
     let run = c.requires.opened.0 in (
       run,
-      opened-playing S.tells (mode_of c.args.schedule) run c.args.plan.now (S.file c.args.shelf.now) (S.ids c.args.shelf.now) (network_of c.args.self.now.world) c.args.self.now.counted c.args.self.now.outputs c.args.feed.now.programme c.requires.opened.1
+      opened-playing S.tells (mode_of c.args.schedule) run c.args.manifest.now (S.file c.args.shelf.now) (S.ids c.args.shelf.now) (network_of c.args.self.now.world) c.args.self.now.counted c.args.self.now.outputs c.args.feed.now.programme c.requires.opened.1
           (S.file c.note.new.shelf) (S.ids c.note.new.shelf) (network_of c.note.new.self.world) c.note.new.self.counted c.note.new.self.outputs note.world note.same note.quiet note.tally note.ports note.texts note.sent
           note.only.others note.only.kept c.told_by_types.ensures.numbers c.told_by_types.ensures.bytes,
     )
@@ -57,7 +57,7 @@ returns-clause-done g c tells = if_ok_map c.play_on.result
     let S = g.S.Shelf in
     let note = c.in_ok-note.ensures in
     played run is.timely
-    (opened-playing S.tells (mode_of c.args.schedule) run c.args.plan.now (S.file c.args.shelf.now) (S.ids c.args.shelf.now) (network_of c.args.self.now.world) c.args.self.now.counted c.args.self.now.outputs c.args.feed.now.programme is
+    (opened-playing S.tells (mode_of c.args.schedule) run c.args.manifest.now (S.file c.args.shelf.now) (S.ids c.args.shelf.now) (network_of c.args.self.now.world) c.args.self.now.counted c.args.self.now.outputs c.args.feed.now.programme is
     (S.file c.note.new.shelf) (S.ids c.note.new.shelf) (network_of c.note.new.self.world) c.note.new.self.counted c.note.new.self.outputs note.world note.same note.quiet note.tally note.ports note.texts note.sent
     note.only.others note.only.kept c.told_by_types.ensures.numbers c.told_by_types.ensures.bytes))
     (c.play_on.ensures.done tells)
@@ -68,12 +68,12 @@ returns-in_err-note-clause-cut g c = λ t.
     rw e.1
     (λ run is.
     let S = g.S.Shelf in
-    let plan = c.args.plan.now in
+    let manifest = c.args.manifest.now in
     let m = mode_of c.args.schedule in
     let n = network_of c.args.self.now.world in
-    cut_amid m run plan (S.file c.note.new.shelf) [] (segments m run.input) n [] n.log.events n.log.passed [] n.log.left [] n.log.lines is.tree refl is.tracing is.played
+    cut_amid m run manifest (S.file c.note.new.shelf) [] (segments m run.input) n [] n.log.events n.log.passed [] n.log.left [] n.log.lines is.tree refl is.tracing is.played
     (c.in_err-note.ensures.cut t run.before (text_so_far [] [] [] [])
-    (kinds_same plan run.before (S.file c.args.shelf.now) (pieces_of c.args.self.now.outputs) first_text (text_so_far [] [] [] []) text-first (is.texts t))))
+    (kinds_same manifest run.before (S.file c.args.shelf.now) (pieces_of c.args.self.now.outputs) first_text (text_so_far [] [] [] []) text-first (is.texts t))))
 
 pub returns-clause-cut : goal.returns-clause-cut
 returns-clause-cut g c = λ t. on_err_weaker c.play_on.result
@@ -81,7 +81,7 @@ returns-clause-cut g c = λ t. on_err_weaker c.play_on.result
     let S = g.S.Shelf in
     let note = c.in_ok-note.ensures in
     cut run
-    (opened-playing S.tells (mode_of c.args.schedule) run c.args.plan.now (S.file c.args.shelf.now) (S.ids c.args.shelf.now) (network_of c.args.self.now.world) c.args.self.now.counted c.args.self.now.outputs c.args.feed.now.programme is
+    (opened-playing S.tells (mode_of c.args.schedule) run c.args.manifest.now (S.file c.args.shelf.now) (S.ids c.args.shelf.now) (network_of c.args.self.now.world) c.args.self.now.counted c.args.self.now.outputs c.args.feed.now.programme is
     (S.file c.note.new.shelf) (S.ids c.note.new.shelf) (network_of c.note.new.self.world) c.note.new.self.counted c.note.new.self.outputs note.world note.same note.quiet note.tally note.ports note.texts note.sent
     note.only.others note.only.kept c.told_by_types.ensures.numbers c.told_by_types.ensures.bytes))
     (c.play_on.ensures.cut t)
@@ -92,7 +92,7 @@ returns-clause-never g c tells = if_err_map c.play_on.result
     let S = g.S.Shelf in
     let note = c.in_ok-note.ensures in
     never change run
-    (opened-playing S.tells (mode_of c.args.schedule) run c.args.plan.now (S.file c.args.shelf.now) (S.ids c.args.shelf.now) (network_of c.args.self.now.world) c.args.self.now.counted c.args.self.now.outputs c.args.feed.now.programme is
+    (opened-playing S.tells (mode_of c.args.schedule) run c.args.manifest.now (S.file c.args.shelf.now) (S.ids c.args.shelf.now) (network_of c.args.self.now.world) c.args.self.now.counted c.args.self.now.outputs c.args.feed.now.programme is
     (S.file c.note.new.shelf) (S.ids c.note.new.shelf) (network_of c.note.new.self.world) c.note.new.self.counted c.note.new.self.outputs note.world note.same note.quiet note.tally note.ports note.texts note.sent
     note.only.others note.only.kept c.told_by_types.ensures.numbers c.told_by_types.ensures.bytes))
     (c.play_on.ensures.never tells)
@@ -100,7 +100,7 @@ returns-clause-never g c tells = if_err_map c.play_on.result
 pub returns-clause-only : goal.returns-clause-only
 returns-clause-only g c =
     let S = g.S.Shelf in
-    goes-then S.tells c.args.plan.now _ _ _ _ _ _ _ (goes-writing S.tells c.args.plan.now _ _ _ _ _ _ _ (goes-none S.tells c.args.plan.now _ (S.file c.args.shelf.now) (S.ids c.args.shelf.now)) c.in_ok-note.ensures.only) c.play_on.ensures.only
+    goes-then S.tells c.args.manifest.now _ _ _ _ _ _ _ (goes-writing S.tells c.args.manifest.now _ _ _ _ _ _ _ (goes-none S.tells c.args.manifest.now _ (S.file c.args.shelf.now) (S.ids c.args.shelf.now)) c.in_ok-note.ensures.only) c.play_on.ensures.only
 
 pub returns-clause-faults : goal.returns-clause-faults
 returns-clause-faults g c = counts_from c.play_on.result _ _ _ c.in_ok-note.ensures.faults.once c.play_on.ensures.faults

@@ -30,7 +30,7 @@ note-requires-clause-frames g c =
     let ok = sym c.is_err.ensures.value ∙ c.if-is_err.false in
     let v = network_of c.play_segment.new.world in
     let after = when_ok c.play_segment.result ok c.play_segment.ensures.plays i can.so_far can.next is.told is.passed is.gone is.lines can.segment (quiet-played m i can.so_far n is.told is.passed is.gone is.lines is.quiet is.played) in
-    frames-fit m i c.args.plan.now (can.so_far ++ can.next ∷ []) v (is.told ++ v.log.events) (is.passed ++ v.log.passed) is.gone v.log.left (is.lines ++ v.log.lines)
+    frames-fit m i c.args.manifest.now (can.so_far ++ can.next ∷ []) v (is.told ++ v.log.events) (is.passed ++ v.log.passed) is.gone v.log.left (is.lines ++ v.log.lines)
     c.runs_are_under_way.ensures is.tree c.is_tree.ensures can.follows.kept after
 
 pub note-requires-clause-can : goal.note-requires-clause-can
@@ -43,7 +43,7 @@ note-requires-clause-can g c =
     let ok = sym c.is_err.ensures.value ∙ c.if-is_err.false in
     let v = network_of c.play_segment.new.world in
     let after = when_ok c.play_segment.result ok c.play_segment.ensures.plays i can.so_far can.next is.told is.passed is.gone is.lines can.segment (quiet-played m i can.so_far n is.told is.passed is.gone is.lines is.quiet is.played) in
-    can-count m i c.args.plan.now (can.so_far ++ can.next ∷ []) v c.args.self.now.counted is.told v.log.events is.passed v.log.passed is.gone v.log.left (is.lines ++ v.log.lines)
+    can-count m i c.args.manifest.now (can.so_far ++ can.next ∷ []) v c.args.self.now.counted is.told v.log.events is.passed v.log.passed is.gone v.log.left (is.lines ++ v.log.lines)
     c.steps_tell_passed.ensures c.runs_are_few.ensures can.follows after is.counted (played_together c.steps_tell_passed.ensures m i can.so_far n is.told is.passed is.gone is.lines is.played)
 
 pub returns-clause-told : goal.returns-clause-told
@@ -51,7 +51,7 @@ returns-clause-told g c = on_ok_by c.note.result (λ get run so_far s segment is
     let S = g.S.Shelf in
     let m = mode_of c.args.schedule in
     let n = network_of c.args.self.now.world in
-    let plan = c.args.plan.now in
+    let manifest = c.args.manifest.now in
     let ok = sym c.is_err.ensures.value ∙ c.if-is_err.false in
     let v = network_of c.play_segment.new.world in
     let more = v.log.events in
@@ -69,29 +69,29 @@ returns-clause-told g c = on_ok_by c.note.result (λ get run so_far s segment is
       tracing = (get _ c.note.ensures.same).tracing ∙ (when_ok c.play_segment.result ok c.play_segment.ensures.same).tracing ∙ is.tracing;
       numbers = All-append IsOfNumbers is.told more is.numbers c.told_by_types.ensures.numbers;
       bytes = All-append HasBytes is.lines new is.bytes c.told_by_types.ensures.bytes;
-      counted = counted-on plan c.args.self.now.counted c.note.new.self.counted is.told more is.passed v.log.passed is.gone left (get _ c.note.ensures.tally) (get _ c.note.ensures.ports)
+      counted = counted-on manifest c.args.self.now.counted c.note.new.self.counted is.told more is.passed v.log.passed is.gone left (get _ c.note.ensures.tally) (get _ c.note.ensures.ports)
           (played_together c.steps_tell_passed.ensures m run.input so_far n is.told is.passed is.gone is.lines is.played) is.counted;
       texts = λ tells.
-          kinds_same plan run.before (S.file c.note.new.shelf) (pieces_of c.note.new.self.outputs) _ (text_so_far (is.told ++ more) (is.gone ++ all_left left) (is.lines ++ new) [])
+          kinds_same manifest run.before (S.file c.note.new.shelf) (pieces_of c.note.new.self.outputs) _ (text_so_far (is.told ++ more) (is.gone ++ all_left left) (is.lines ++ new) [])
           (text-more is.told more is.gone left is.lines new) (get _ (c.note.ensures.texts tells) run.before (text_so_far is.told is.gone is.lines []) (is.texts tells));
-      sent = sent_as plan c.note.new.self.outputs (sent_with (λ q. left_at q is.gone) left) (λ q. left_at q (is.gone ++ all_left left)) (λ q. sym (left_at-append q is.gone (all_left left)))
+      sent = sent_as manifest c.note.new.self.outputs (sent_with (λ q. left_at q is.gone) left) (λ q. left_at q (is.gone ++ all_left left)) (λ q. sym (left_at-append q is.gone (all_left left)))
           (get _ c.note.ensures.sent (λ q. left_at q is.gone) is.sent);
       quiet = get _ c.note.ensures.quiet;
     })
 
 pub returns-then-is_err-clause-cut : goal.returns-then-is_err-clause-cut
 returns-then-is_err-clause-cut g c = λ t run so_far rest s segments_are segment is.
-    cut_before g.S.Shelf.tells (mode_of c.args.schedule) run c.args.plan.now (g.S.Shelf.file c.args.shelf.now) (network_of c.args.self.now.world) c.args.self.now.counted c.args.self.now.outputs so_far (s ∷ rest) t is segments_are
+    cut_before g.S.Shelf.tells (mode_of c.args.schedule) run c.args.manifest.now (g.S.Shelf.file c.args.shelf.now) (network_of c.args.self.now.world) c.args.self.now.counted c.args.self.now.outputs so_far (s ∷ rest) t is segments_are
 
 pub returns-clause-cut : goal.returns-clause-cut
 returns-clause-cut g c = λ t. on_err_weaker c.note.result
     (λ cut run so_far rest s segments_are segment is.
     let m = mode_of c.args.schedule in
     let n = network_of c.args.self.now.world in
-    let plan = c.args.plan.now in
+    let manifest = c.args.manifest.now in
     let ok = sym c.is_err.ensures.value ∙ c.if-is_err.false in
     let v = network_of c.play_segment.new.world in
     let after = when_ok c.play_segment.result ok c.play_segment.ensures.plays run.input so_far s is.told is.passed is.gone is.lines segment (quiet-played m run.input so_far n is.told is.passed is.gone is.lines is.quiet is.played) in
-    cut_amid m run plan (g.S.Shelf.file c.note.new.shelf) (so_far ++ s ∷ []) rest v is.told v.log.events (is.passed ++ v.log.passed) is.gone v.log.left is.lines v.log.lines is.tree
+    cut_amid m run manifest (g.S.Shelf.file c.note.new.shelf) (so_far ++ s ∷ []) rest v is.told v.log.events (is.passed ++ v.log.passed) is.gone v.log.left is.lines v.log.lines is.tree
     (segments_are ∙ sym (append_assoc so_far (s ∷ []) rest)) ((when_ok c.play_segment.result ok c.play_segment.ensures.same).tracing ∙ is.tracing) after (cut run.before (text_so_far is.told is.gone is.lines []) (is.texts t)))
     (c.note.ensures.cut t)

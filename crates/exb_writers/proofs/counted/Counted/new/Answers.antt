@@ -6,7 +6,7 @@ use Rattle.exb_writers.proofs.counted.Counted.new.Goals as goal
 
 pub returns : goal.returns
 returns c =
-    let plan = c.args.plan.now in
-    let asked : plan.options.counters ≡ true = sym (ap (λ (o : Options). o.counters) c.options.ensures) ∙ asked_for c.options.result.counters c.if-not-options.false in
-    counted-none plan _ c.new-tally.ensures
-    (ports-new plan c.in_ok-ports.ports asked (λ q low out. c.in_ok-ports.ensures.ports q low (ap (λ (t : Shape). is_external t q) (sym c.requires.tree) ∙ out)) c.in_ok-ports.ensures.counts)
+    let manifest = c.args.manifest.now in
+    let asked : manifest.options.counters ≡ true = sym (ap (λ (o : Options). o.counters) c.options.ensures) ∙ asked_for c.options.result.counters c.if-not-options.false in
+    counted-none manifest _ c.new-tally.ensures
+    (ports-new manifest c.in_ok-ports.ports asked (λ q low out. c.in_ok-ports.ensures.ports q low (ap (λ (t : Shape). is_external t q) (sym c.requires.tree) ∙ out)) c.in_ok-ports.ensures.counts)

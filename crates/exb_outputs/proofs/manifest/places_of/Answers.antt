@@ -1,7 +1,7 @@
 use Rattle.std.proofs.Common.{rules, ◌≡◌, ◌++◌, ◌∷◌, [], length, ap, ◌∙◌, arith}
 use Rattle.std.specs.Prelude.{ℕ}
 use Rattle.exb_outputs.proofs.Places.{places_begin, places_more, places_end, places_low}
-use Rattle.exb_outputs.proofs.plan.places_of.Goals as goal
+use Rattle.exb_outputs.proofs.manifest.places_of.Goals as goal
 
 pub ports-init : goal.ports-init
 ports-init c = places_begin c.args.tree.now c.new-ports.result.items c.new-places.result.items c.new-ports.ensures.items c.new-places.ensures.items

@@ -1,9 +1,9 @@
 use Rattle.std.proofs.Common.{◌∙◌}
 use Rattle.exb_config.specs.Tables.{bridge_of}
 use Rattle.exb_plan.specs.Spaces.{held_by}
-use Rattle.exb_control.proofs.Kept.{new_fabric}
+use Rattle.exb_control.proofs.Kept.{new_active}
 use Rattle.exb_control.proofs.GroupUses.{counted_placed, first_counted}
-use Rattle.exb_control.proofs.fabric.Fabric.new.Goals as goal
+use Rattle.exb_control.proofs.active_config.ActiveConfig.new.Goals as goal
 
 pub invariant_of-result : goal.invariant_of-result
 invariant_of-result c =
@@ -12,8 +12,8 @@ invariant_of-result c =
     let shape = c.in_ok-tree.ensures ∙ c.in_ok-new.ensures in
     let rows = rw c.deref.ensures at c.in_ok-uses.ensures.rows in
     record {
-      fabric =
-          new_fabric c.args.setup.now c.requires c.in_ok-tree.tree.value shape c.in_ok-config.config c.in_ok-spaces.spaces
+      active =
+          new_active c.args.setup.now c.requires c.in_ok-tree.tree.value shape c.in_ok-config.config c.in_ok-spaces.spaces
           c.in_ok-config.ensures.config c.in_ok-config.ensures.pvids has first;
       uses = record {
         counted =

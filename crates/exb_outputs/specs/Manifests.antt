@@ -10,7 +10,7 @@ use Rattle.exb_words.specs.declared.asked.Options.{Options}
 use Rattle.exb_words.specs.Kinds.{is_asked, kinds_behind, place_behind, port_of}
 
 -- a tree, what the names of all files begin with, and what is asked for
-pub record Planned : Type 0 where
+pub record Listed : Type 0 where
   pub tree : Shape
   pub prefix : List ℕ
   pub options : Options
@@ -27,32 +27,32 @@ IsMade o t k = IsMadeAt o t k (port_of k)
 -- ---- places
 
 -- how many captures there are
-abbrev pub port_count : Planned → ℕ
-port_count plan = length (external_ports plan.tree)
+abbrev pub port_count : Listed → ℕ
+port_count manifest = length (external_ports manifest.tree)
 
 -- and how many files
-abbrev pub output_count : Planned → ℕ
-output_count plan = port_count plan + length (kinds_behind plan.options)
+abbrev pub output_count : Listed → ℕ
+output_count manifest = port_count manifest + length (kinds_behind manifest.options)
 
 -- the port of capture j, counted from 0
-abbrev pub port_at : Planned → ℕ → ℕ
-port_at plan j = slice_index (external_ports plan.tree) j
+abbrev pub port_at : Listed → ℕ → ℕ
+port_at manifest j = slice_index (external_ports manifest.tree) j
 
 -- the kind of file j, counted from 0: the captures come first
-abbrev pub kind_at : Planned → ℕ → Output
-kind_at plan j = if nat_lt j (port_count plan) then output.Capture (port_at plan j) else get_or (kinds_behind plan.options) (j - port_count plan) output.Journal
+abbrev pub kind_at : Listed → ℕ → Output
+kind_at manifest j = if nat_lt j (port_count manifest) then output.Capture (port_at manifest j) else get_or (kinds_behind manifest.options) (j - port_count manifest) output.Journal
 
 -- the place of port q among the external ports of a tree
 abbrev pub place_in : Shape → ℕ → ℕ
 place_in tree q = length (filter (is_external tree) (below q))
 
 -- the place of the file of a kind: that of its port, or one behind the captures
-abbrev pub place_at : Planned → Output → Option ℕ → ℕ
-place_at plan o (Some q) = place_in plan.tree q
-place_at plan o None = port_count plan + place_behind plan.options o
+abbrev pub place_at : Listed → Output → Option ℕ → ℕ
+place_at manifest o (Some q) = place_in manifest.tree q
+place_at manifest o None = port_count manifest + place_behind manifest.options o
 
-abbrev pub place_of : Planned → Output → ℕ
-place_of plan o = place_at plan o (port_of o)
+abbrev pub place_of : Listed → Output → ℕ
+place_of manifest o = place_at manifest o (port_of o)
 
 -- a row with the external ports of a tree in order, and a table with the place of each port
 pub record ArePlaced (tree : Shape) (row table : List ℕ) : Type 0 where
@@ -62,9 +62,9 @@ pub record ArePlaced (tree : Shape) (row table : List ℕ) : Type 0 where
 
 -- ---- names
 -- the name of file j, counted from 0
-abbrev pub output_name : Planned → ℕ → List ℕ
-output_name plan j = file_name plan.prefix (kind_at plan j)
+abbrev pub output_name : Listed → ℕ → List ℕ
+output_name manifest j = file_name manifest.prefix (kind_at manifest j)
 
 -- no file but the outputs has changed
-abbrev pub OnlyPlanned : Planned → Files → Files → Type 0
-OnlyPlanned plan old new = (m : List ℕ) → ((j : ℕ) → j < output_count plan → m ≢ output_name plan j) → new m ≡ old m
+abbrev pub OnlyListed : Listed → Files → Files → Type 0
+OnlyListed manifest old new = (m : List ℕ) → ((j : ℕ) → j < output_count manifest → m ≢ output_name manifest j) → new m ≡ old m

@@ -3,7 +3,7 @@ ghost use Rattle.std.specs.Prelude.{◌≡◌, ◌<◌, ◌≤◌, ◌+◌, ◌+
 ghost use Rattle.exb_model.specs.Setup.{IsValid, shape_of};
 ghost use Rattle.exb_model.specs.Tree.{IsTree};
 ghost use Rattle.exb_words.specs.Kinds.{place_behind};
-ghost use Rattle.exb_outputs.specs.Plans.{ArePlaced, kind_at, output_count, place_in, port_at, port_count};
+ghost use Rattle.exb_outputs.specs.Manifests.{ArePlaced, kind_at, output_count, place_in, port_at, port_count};
 
 use exb_model::memory::NoMemory;
 use exb_model::port::PortId;
@@ -30,7 +30,7 @@ struct Places {
 /// What a run writes: the capture of each external port of a tree in port order, and then the other kinds that are asked for, in
 /// their order.
 #[derive(Drop)]
-pub struct Plan {
+pub struct Manifest {
     tree: Tree,
     places: Places,
     /// What each name of a file begins with.
@@ -39,10 +39,10 @@ pub struct Plan {
     kinds: Kinds,
 }
 
-impl Model for Plan {
-    ghost use Rattle.exb_outputs.specs.Plans.{ArePlaced, Planned};
+impl Model for Manifest {
+    ghost use Rattle.exb_outputs.specs.Manifests.{ArePlaced, Listed};
 
-    ghost Value = { Planned };
+    ghost Value = { Listed };
 
     ghost view = { λ p. record { tree = p.tree; prefix = p.prefix; options = p.kinds } };
 
@@ -73,24 +73,24 @@ fn places_of(alloc: Global, tree: &Tree) -> Result<Places, NoMemory>
     Ok(Places { ports, places })
 }
 
-impl Plan {
+impl Manifest {
     /// What a run of a setup writes under a prefix.
     pub fn new(
         alloc: Global,
         setup: &Setup,
         prefix: &str,
         options: Options,
-    ) -> Result<Plan, NoMemory>
+    ) -> Result<Manifest, NoMemory>
         requires { IsValid setup.now }
-        ensures tree { IfOk result (λ plan. plan.tree ≡ shape_of setup.now) }
-        ensures prefix { IfOk result (λ plan. plan.prefix ≡ prefix.now) }
-        ensures options { IfOk result (λ plan. plan.options ≡ options) }
+        ensures tree { IfOk result (λ manifest. manifest.tree ≡ shape_of setup.now) }
+        ensures prefix { IfOk result (λ manifest. manifest.prefix ≡ prefix.now) }
+        ensures options { IfOk result (λ manifest. manifest.options ≡ options) }
     {
         let tree = Tree::new(alloc, setup)?;
         let places = places_of(alloc, &tree)?;
         let prefix = Text::from_str(alloc, prefix)?;
         let kinds = Kinds::new(alloc, options)?;
-        Ok(Plan {
+        Ok(Manifest {
             tree,
             places,
             prefix,

@@ -5,7 +5,7 @@ use Rattle.exb_network.specs.declared.log.Left.{Left}
 use Rattle.exb_network.specs.Rows.{ports_in}
 use Rattle.exb_network.specs.Worlds.{if_tracing, row_outs}
 use Rattle.exb_network.proofs.Leaving.{row_leaves}
-use Rattle.exb_network.proofs.sending.leave.Goals as goal
+use Rattle.exb_network.proofs.sending.leave_extender.Goals as goal
 
 pub returns : goal.returns
 returns c =

@@ -8,7 +8,7 @@ ghost use Rattle.exb_plans.specs.declared.change.Change.{Change};
 ghost use Rattle.exb_changing.specs.Beginning.{first_held};
 ghost use Rattle.exb_changing.specs.Deciding.{bridge_after, release, decide};
 ghost use Rattle.exb_config.specs.Pvids.{HasPvids};
-ghost use Rattle.exb_control.specs.Fabrics.{bridge_at_end, held_at_end};
+ghost use Rattle.exb_control.specs.ActiveConfigs.{bridge_at_end, held_at_end};
 ghost use Rattle.exb_plans.specs.Held.{in_spaces};
 
 use crate::beginning::first_spaces;
@@ -34,7 +34,7 @@ use std::rc::Rc;
 /// The controlling bridge's configuration, the channels and groups that it holds for its extenders, and the
 /// change at work, if there is one.
 #[derive(Drop)]
-pub struct Fabric {
+pub struct ActiveConfig {
     alloc: Global,
     /// Copies share it.
     tree: Rc<Tree>,
@@ -50,15 +50,15 @@ pub struct Fabric {
     stage: Stage,
 }
 
-impl Model for Fabric {
-    ghost use Rattle.exb_control.specs.Fabrics.{Fabric, fabric_of};
+impl Model for ActiveConfig {
+    ghost use Rattle.exb_control.specs.ActiveConfigs.{ActiveConfig, active_config_of};
     ghost use Rattle.exb_control.specs.GroupUses.{IsKept};
 
-    ghost Value = { Fabric };
+    ghost Value = { ActiveConfig };
 
-    ghost view = { λ f. fabric_of f.tree.value f.channels f.groups f.config f.spaces f.stage };
+    ghost view = { λ f. active_config_of f.tree.value f.channels f.groups f.config f.spaces f.stage };
 
-    ghost invariant = { λ f. IsKept (fabric_of f.tree.value f.channels f.groups f.config f.spaces f.stage) f.uses };
+    ghost invariant = { λ f. IsKept (active_config_of f.tree.value f.channels f.groups f.config f.spaces f.stage) f.uses };
 }
 
 // A tree that copies share.
@@ -122,13 +122,13 @@ fn free_numbers(stage: &Stage, tree: &Tree, spaces: &mut Spaces)
     }
 }
 
-impl Fabric {
-    ghost use Rattle.exb_control.specs.Fabrics.{IsFabric, IsPrepared, IsInForce, bridge_in, held_in, stage_of, cause_of, held_after};
+impl ActiveConfig {
+    ghost use Rattle.exb_control.specs.ActiveConfigs.{IsActiveConfig, IsPrepared, IsInForce, bridge_in, held_in, stage_of, cause_of, held_after};
     ghost use Rattle.exb_changing.specs.Fitting.{Fits};
 
     /// The bridge of a setup: its local external ports are present, and the commands of its start are applied. The
     /// cascade ports of its extenders have channels, in port order.
-    pub fn new(alloc: Global, setup: &Setup) -> Result<Fabric, NoMemory>
+    pub fn new(alloc: Global, setup: &Setup) -> Result<ActiveConfig, NoMemory>
         requires { IsValid setup.now }
         ensures shape { IfOk result (λ made. made.shape ≡ shape_of setup.now) }
         ensures limits { IfOk result (λ made. made.limits ≡ limits_of setup.now) }
@@ -140,7 +140,7 @@ impl Fabric {
         let uses = GroupUses::new(alloc, &tree, setup.groups)?;
         let spaces = first_spaces(alloc, &tree, setup.channels, setup.groups)?;
         let config = Config::first(alloc, &tree, setup)?;
-        Ok(Fabric {
+        Ok(ActiveConfig {
             alloc,
             tree,
             channels: setup.channels,
@@ -240,7 +240,7 @@ impl Fabric {
     }
 
     /// A copy in which the change at work is done to its end.
-    pub fn copy_at_rest(&self) -> Result<Fabric, NoMemory>
+    pub fn copy_at_rest(&self) -> Result<ActiveConfig, NoMemory>
         ensures shape { IfOk result (λ made. made.shape ≡ self.now.shape) }
         ensures limits { IfOk result (λ made. made.limits ≡ self.now.limits) }
         ensures stage { IfOk result (λ made. made.stage ≡ Stage.AtRest) }
@@ -258,7 +258,7 @@ impl Fabric {
         )?;
         free_numbers(&self.stage, &self.tree, &mut spaces);
         let config = config_at_end(&self.stage, &self.config)?;
-        Ok(Fabric {
+        Ok(ActiveConfig {
             alloc: self.alloc,
             tree,
             channels: self.channels,
@@ -270,9 +270,9 @@ impl Fabric {
         })
     }
 
-    /// What holds of every fabric, as a fact for whoever calls it. It does nothing.
-    pub fn is_fabric(&self)
-        ensures { IsFabric self.now }
+    /// What holds of every active configuration, as a fact for whoever calls it. It does nothing.
+    pub fn is_active_config(&self)
+        ensures { IsActiveConfig self.now }
     {
         let _ = &self.tree;
     }

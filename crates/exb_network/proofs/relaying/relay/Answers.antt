@@ -1,6 +1,6 @@
 use Rattle.exb_network.specs.Arrivals.{arrival_of}
 use Rattle.exb_network.proofs.Coming.{came_can, came_does, came_sends, on_ok_any, on_ok_two}
-use Rattle.exb_network.proofs.relaying.learn.Goals as goal
+use Rattle.exb_network.proofs.relaying.relay.Goals as goal
 
 pub returns-in-Ok-clause-does : goal.returns-in-Ok-clause-does
 returns-in-Ok-clause-does c =
@@ -12,10 +12,10 @@ returns-in-Ok-clause-does c =
 pub returns-in-Ok-clause-sends : goal.returns-in-Ok-clause-sends
 returns-in-Ok-clause-sends c =
     on_ok_any c.tell.result
-    (came_sends c.args.site.now c.args.core.now c.frame.new.self (arrival_of c.args.arrived.now) c.frame.new.out c.requires.at c.in-Ok.ensures.ok c.is_fabric.ensures.tree)
+    (came_sends c.args.site.now c.args.core.now c.frame.new.self (arrival_of c.args.arrived.now) c.frame.new.out c.requires.at c.in-Ok.ensures.ok c.is_active_config.ensures.tree)
 
 pub returns-in-Ok-clause-can : goal.returns-in-Ok-clause-can
 returns-in-Ok-clause-can c =
     on_ok_any c.tell.result
-    (came_can c.args.site.now c.args.core.now c.frame.new.self (arrival_of c.args.arrived.now) c.frame.new.out c.requires.at c.in-Ok.ensures.ok c.is_fabric.ensures.tree
-    (c.spaces_number.ensures c.args.core.now.control.fabric.spaces) c.are_bytes.ensures)
+    (came_can c.args.site.now c.args.core.now c.frame.new.self (arrival_of c.args.arrived.now) c.frame.new.out c.requires.at c.in-Ok.ensures.ok c.is_active_config.ensures.tree
+    (c.spaces_number.ensures c.args.core.now.control.active.spaces) c.are_bytes.ensures)

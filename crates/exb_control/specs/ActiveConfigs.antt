@@ -18,22 +18,22 @@ use Rattle.exb_control.specs.declared.stage.Stage.TheVariants.{AtRest, Prepared,
 use Rattle.exb_changing.specs.Fitting.{Fits, HasExternals}
 use Rattle.exb_changing.specs.Deciding.{Outcome, Refused, Ready, bridge_after, release}
 
-pub record Fabric : Type 0 where
+pub record ActiveConfig : Type 0 where
   pub shape : Shape
   pub limits : Limits
   pub config : Tables
   pub spaces : Spaces
   pub stage : Stage
 
-abbrev pub fabric_of : Shape → ℕ → ℕ → Tables → Spaces → Stage → Fabric
-fabric_of t channels groups config spaces stage =
+abbrev pub active_config_of : Shape → ℕ → ℕ → Tables → Spaces → Stage → ActiveConfig
+active_config_of t channels groups config spaces stage =
     record { shape = t; limits = record { channels = channels; groups = groups }; config = config; spaces = spaces; stage = stage }
 
 -- ---- what is in force
-abbrev pub bridge_in : Fabric → Bridge
+abbrev pub bridge_in : ActiveConfig → Bridge
 bridge_in v = bridge_of v.config
 
-abbrev pub held_in : Fabric → Held
+abbrev pub held_in : ActiveConfig → Held
 held_in v = in_spaces v.shape (held_by v.spaces)
 
 -- ---- what was decided
@@ -83,7 +83,7 @@ held_at_end AtRest h = h
 held_at_end (Prepared j x) h = release x h
 held_at_end (InForce j x) h = release x h
 
--- ---- what holds of every fabric
+-- ---- what holds of every active configuration
 -- a change has at most so many requests in each phase
 pub record IsShort (x : Change) : Type 0 where
   pub prepare : length x.prepare ≤ 2 ^ 20
@@ -96,7 +96,7 @@ HoldsIn t b h (Prepared j x) = IsShort x × Fits t j × HoldsNeeded t (bridge_af
 HoldsIn t b h (InForce j x) = IsShort x × HoldsNeeded t b (release x h)
 
 -- what the type keeps of its value
-pub record IsFabric (v : Fabric) : Type 0 where
+pub record IsActiveConfig (v : ActiveConfig) : Type 0 where
   pub tree : IsTree v.shape
   pub channels : v.limits.channels ≤ 4094
   pub groups : v.limits.groups ≤ 12288

@@ -4,26 +4,26 @@ use Rattle.exb_config.specs.Tables.{bridge_of}
 use Rattle.exb_plan.proofs.WholePlans.{alike_has}
 use Rattle.exb_control.specs.declared.stage.Stage.TheVariants.{AtRest}
 use Rattle.exb_plan.specs.Spaces.{held_by}
-use Rattle.exb_control.specs.Fabrics.{Fabric, fabric_of, held_at_end}
+use Rattle.exb_control.specs.ActiveConfigs.{ActiveConfig, active_config_of, held_at_end}
 use Rattle.exb_plans.specs.Held.{in_spaces}
 use Rattle.exb_control.specs.GroupUses.{AreUses, IsKept}
 use Rattle.exb_control.proofs.Kept.{ended}
 use Rattle.exb_control.proofs.GroupUses.{ended_uses}
-use Rattle.exb_control.proofs.fabric.Fabric.copy_at_rest.Goals as goal
+use Rattle.exb_control.proofs.active_config.ActiveConfig.copy_at_rest.Goals as goal
 
 pub invariant_of-result : goal.invariant_of-result
 invariant_of-result c =
-    let f : Fabric = fabric_of c.self.inside.tree.value c.self.inside.channels c.self.inside.groups c.self.inside.config c.self.inside.spaces c.self.inside.stage in
+    let f : ActiveConfig = active_config_of c.self.inside.tree.value c.self.inside.channels c.self.inside.groups c.self.inside.config c.self.inside.spaces c.self.inside.stage in
     let same : c.in_ok-tree.tree.value ≡ f.shape = c.in_ok-tree.ensures.cases in
     let has = rw c.deref.ensures at c.in_ok-spaces.ensures.spaces in
     let copied = rw c.deref.ensures at c.in_ok-spaces.ensures.held in
     let held = rw c.deref-2.ensures at c.free_numbers.ensures.held in
-    let is = c.self.invariant.fabric in
+    let is = c.self.invariant.active in
     let effect = c.in_ok-config.ensures.config in
     let kept = held ∙ ap (held_at_end f.stage) copied in
-    subst (λ (t : Shape). IsKept (fabric_of t f.limits.channels f.limits.groups c.in_ok-config.config c.free_numbers.new.spaces AtRest) c.in_ok-uses.uses) (sym same)
+    subst (λ (t : Shape). IsKept (active_config_of t f.limits.channels f.limits.groups c.in_ok-config.config c.free_numbers.new.spaces AtRest) c.in_ok-uses.uses) (sym same)
     (record {
-      fabric =
+      active =
           ended f is c.in_ok-config.config c.in_ok-config.ensures.pvids effect
           c.free_numbers.new.spaces (alike_has f.shape f.limits c.in_ok-spaces.spaces c.free_numbers.new.spaces c.free_numbers.ensures.alike has) kept;
       uses =
