@@ -1,5 +1,5 @@
 //! The line of a port.
-ghost use Rattle.std.specs.Prelude.{◌≡◌, ◌++◌, OnOk};
+ghost use Rattle.std.specs.Prelude.{◌≡◌, ◌++◌, OnOk, OnErr};
 ghost use Rattle.exb_counters.specs.Counters.{count_line};
 
 use crate::Counts5;

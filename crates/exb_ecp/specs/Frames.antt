@@ -1,5 +1,5 @@
 -- ECP frames: what a header says, and its one spelling.
-use Rattle.std.specs.Prelude.{◌≡◌, ℕ, ◌+◌, ◌*◌, ◌/◌, ◌%◌, ◌<◌, ◌≤◌, ◌==◌, ◌&&◌, ◌++◌, Bool, List, [], drop, length, Result, Ok, Err, nat_le, nat_lt, if◌then◌else◌}
+use Rattle.std.specs.Prelude.{◌≡◌, ℕ, ◌+◌, ◌*◌, ◌/◌, ◌%◌, ◌<◌, ◌≤◌, ◌==◌, ◌&&◌, ◌++◌, Bool, List, [], ◌∷◌, drop, length, Result, Ok, Err, nat_le, nat_lt, if◌then◌else◌}
 use Rattle.exb_model.specs.declared.address.Mac.{Mac}
 use Rattle.exb_model.specs.Frames.{control_address, is_control_frame, number_at, two_bytes}
 use Rattle.exb_ecp.specs.declared.pdu.Pdu.{Pdu}

@@ -17,6 +17,7 @@ pub struct BudgetFate {
 }
 
 impl Model for BudgetFate {
+    ghost use Rattle.std.specs.Prelude.{◌<◌, ◌^◌};
     ghost use Rattle.exb_fate.specs.Fates.{Budget};
 
     ghost Value = { Budget };

@@ -1,5 +1,5 @@
 -- The records of what is left are the one at its front and those behind it.
-use Rattle.std.proofs.Common.{◌≡◌, ◌<◌, ◌≤◌, ◌+◌, ℕ, zero, suc, List, [], ◌∷◌, length, drop, Result, Ok, Err, refl, ap, ◌∙◌, arith, length-drop}
+use Rattle.std.proofs.Common.{◌≡◌, ◌<◌, ◌≤◌, ◌+◌, ℕ, zero, suc, List, [], ◌∷◌, length, drop, Some, Result, Ok, Err, refl, ap, ◌∙◌, arith, length-drop}
 use Rattle.exb_model.specs.Input.{Record}
 use Rattle.exb_flat_pcap.specs.declared.format.Form.{Form}
 use Rattle.exb_flat_pcap.specs.declared.reader.PcapFault.{PcapFault}

@@ -1,14 +1,14 @@
 -- What a definition went through, where it comes to an answer.
 use Rattle.std.proofs.Common.{◌≡◌, ℕ, ◌+◌, ◌≤◌, Bool, true, false, List, [], length, Option, Some, None, Result, Ok, Err, refl, ap, subst, arith}
-use Rattle.std.specs.Prelude.{ℤ, pos, negsuc, ◌&&◌, nat_le, if◌then◌else◌}
+use Rattle.std.specs.Prelude.{ℤ, pos, negsuc, ◌&&◌, nat_le, if◌then◌else◌, option_and_then}
 use Rattle.std.proofs.lemmas.Bool.{leb-true, and_parts}
-use Rattle.toml.specs.Data.{Data, string, integer, boolean, array, table, Members, get_member}
+use Rattle.toml.specs.Data.{Data, string, integer, boolean, array, table, Items, no_items, item, Members, get_member}
 use Rattle.exb_model.specs.declared.setup.Verdict.{Verdict}
 use Rattle.exb_keys.specs.declared.faults.KeyFault.{KeyFault}
 use Rattle.exb_keys.specs.declared.faults.KeyFault.TheVariants as fault
-use Rattle.exb_keys.specs.Faults.{Refusal, ◌>>=◌}
+use Rattle.exb_keys.specs.Faults.{Refusal, at, ◌>>=◌}
 use Rattle.exb_keys.specs.Words.{fate_of}
-use Rattle.exb_keys.specs.Keys.{number, number_in, seconds, fate, counted, placed, keyed, key_at}
+use Rattle.exb_keys.specs.Keys.{number, number_in, seconds, fate, counted, placed, keyed, key_at, each}
 
 pub record Went {A B : Type 0} (r : Result A Refusal) (f : A → Result B Refusal) (y : B) : Type 0 where
   pub passed : A

@@ -1,6 +1,7 @@
 //! Where a key stands, and its name as it is printed.
-ghost use Rattle.std.specs.Prelude.{◌≡◌, ◌++◌, IfOk, string_bytes};
-ghost use Rattle.exb_keys.specs.Faults.{IsFault, place_text};
+ghost use Rattle.std.specs.Prelude.{◌≡◌, ◌++◌, IfOk, string_bytes, Ok, Err};
+ghost use Rattle.exb_keys.specs.Faults.{Gives, IsFault, place_text};
+ghost use Rattle.exb_keys.specs.Keys.{placed};
 
 use crate::faults::{KeyFault, TopoFault};
 use exb_model::memory::NoMemory;

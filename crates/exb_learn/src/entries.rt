@@ -1,5 +1,5 @@
 //! Where each address was seen last in each VLAN.
-ghost use Rattle.std.specs.Prelude.{◌≡◌, ◌+◌, ◌≤◌, is_some, length, if◌then◌else◌};
+ghost use Rattle.std.specs.Prelude.{◌≡◌, ◌+◌, ◌≤◌, ◌<◌, is_some, length, if◌then◌else◌};
 ghost use Rattle.std.specs.List.{position_or_len};
 ghost use Rattle.std.specs.Map.{keys_of, lookup};
 ghost use Rattle.indexmap.specs.IndexMap.{insert_entry, spare, IsUnique};

@@ -1,5 +1,5 @@
 //! The learned entries.
-ghost use Rattle.std.specs.Prelude.{◌≡◌, ◌+◌, ◌<◌, ◌≤◌, ◌^◌, false, OnOk, OnErr};
+ghost use Rattle.std.specs.Prelude.{◌≡◌, ℕ, ◌+◌, ◌<◌, ◌≤◌, ◌^◌, false, OnOk, OnErr};
 ghost use Rattle.exb_model.specs.Frames.{is_group};
 ghost use Rattle.exb_learn.specs.Entries.{table_of, look_of};
 ghost use Rattle.exb_learn.specs.Calls.{See, Tick, Forget, empty_table, after_call};

@@ -1,6 +1,6 @@
 //! The frames that arrive.
 ghost use Rattle.std.specs.Prelude.{◌≡◌, ◌<◌, ◌++◌, ◌∷◌, [], map, IfOk, OnOk};
-ghost use Rattle.exb_made.specs.Draws.{Adds};
+ghost use Rattle.exb_made.specs.Draws.{Adds, drawn};
 ghost use Rattle.exb_made.specs.Site.{site_ports};
 ghost use Rattle.exb_made.specs.Drawing.{station, time_of, destination, body, frame, frames};
 ghost use Rattle.exb_made.specs.Pieces.{frame_of};

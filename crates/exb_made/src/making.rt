@@ -1,5 +1,5 @@
 //! The whole input.
-ghost use Rattle.std.specs.Prelude.{◌≡◌, ◌≤◌, ◌^◌, [], All, AllPairs, Ok, map, length, sum_by, IfOk};
+ghost use Rattle.std.specs.Prelude.{◌≡◌, ◌≤◌, ◌^◌, [], All, AllPairs, Ok, map, length, sum_by, IfOk, OnOk};
 ghost use Rattle.exb_model.specs.Input.{given_by, tree_of};
 ghost use Rattle.exb_model.specs.Setup.{IsValid, NamesExternal};
 ghost use Rattle.exb_model.specs.Tree.{external_ports};

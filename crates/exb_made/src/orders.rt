@@ -1,6 +1,6 @@
 //! The commands that come later.
 ghost use Rattle.std.specs.Prelude.{◌≡◌, ◌<◌, OnOk};
-ghost use Rattle.exb_made.specs.Draws.{Adds};
+ghost use Rattle.exb_made.specs.Draws.{Adds, drawn};
 ghost use Rattle.exb_made.specs.Site.{site_ports, port_at};
 ghost use Rattle.exb_made.specs.Drawing.{membership_command, order, orders};
 

@@ -1,7 +1,7 @@
 //! The tree of a setup as two tables by device, and whether it is a tree.
 ghost use Rattle.std.specs.Prelude.{◌≡◌, ◌<◌, ◌≤◌, ◌≢◌, ◌↔◌, ℕ, IsTrue, All, length, slice_index};
 ghost use Rattle.exb_model.specs.Ports.{port_in};
-ghost use Rattle.exb_model.specs.Tree.{IsTree, is_port, is_extender, is_cascade, is_external, is_cascade_under, cascades_under, top};
+ghost use Rattle.exb_model.specs.Tree.{HangsOn, IsTree, is_port, is_extender, is_cascade, is_external, is_cascade_under, cascades_under, top};
 ghost use Rattle.exb_model.specs.Setup.{InRange, IsPlace, port_at, shape_of};
 
 use crate::port::PortId;

@@ -14,7 +14,7 @@ impl Hash for Station {
     ghost use Rattle.std.specs.Prelude.{◌++◌};
     ghost use Rattle.std.proofs.Common.{rules};
     ghost use Rattle.std.specs.Hash as fed;
-    ghost use Rattle.std.specs.Cmp.Rules.{hashing};
+    ghost use Rattle.std.specs.Cmp.Rules.{comparing, hashing};
 
     ghost hash_input = { λ d. fed.u16 d.vid ++ fed.slice fed.u8 d.address.0 };
 

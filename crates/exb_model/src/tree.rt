@@ -1,5 +1,5 @@
 //! The tree of extenders below the bridge.
-ghost use Rattle.std.specs.Prelude.{◌≡◌, ℕ, ◌+◌, ◌≤◌, ◌&&◌, true, nat_lt, IfOk};
+ghost use Rattle.std.specs.Prelude.{◌≡◌, ℕ, ◌+◌, ◌<◌, ◌≤◌, ◌&&◌, true, nat_lt, length, slice_index, IfOk};
 ghost use Rattle.exb_model.specs.Masks.{bits_of};
 ghost use Rattle.exb_model.specs.Ports.{port_in};
 ghost use Rattle.exb_model.specs.Setup.{shape_of, IsValid};

@@ -1,5 +1,5 @@
 //! The tables of a tree beside its layout, by device (0 is the bridge, n is extender n) or by port.
-ghost use Rattle.std.specs.Prelude.{◌≡◌, ℕ, ◌<◌, length, slice_index, IfOk};
+ghost use Rattle.std.specs.Prelude.{◌≡◌, ℕ, ◌<◌, ◌≤◌, length, slice_index, IfOk};
 ghost use Rattle.exb_model.specs.Ports.{port_in};
 ghost use Rattle.exb_model.specs.Tree.{IsTree, path, by_depth, is_port, hangs_at_depth};
 ghost use Rattle.exb_model.specs.TreeTables.{IsHung, IsTopped};

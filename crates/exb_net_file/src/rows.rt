@@ -1,8 +1,9 @@
 //! The tables of the file of a net.
-ghost use Rattle.std.specs.Prelude.{None};
+ghost use Rattle.std.specs.Prelude.{◌≡◌, ◌==◌, ◌≤◌, nat_lt, IfOk, None, codes, length};
 ghost use Rattle.toml.specs.View.{view, items_view, table_view};
 ghost use Rattle.exb_keys.specs.Faults.{Gives, place_text};
 ghost use Rattle.exb_keys.specs.Keys.{text, key_at, each, same_state};
+ghost use Rattle.exb_tables.specs.Commands.{count};
 ghost use Rattle.exb_topology.specs.Each.{refuse};
 ghost use Rattle.exb_net_file.specs.Rows.{name, end, bridge, bridge_item, bridges, wire, wire_item, wires};
 

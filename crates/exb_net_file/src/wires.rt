@@ -1,9 +1,10 @@
 //! The wires of a net, once the topologies of all bridges are read.
-ghost use Rattle.std.specs.Prelude.{◌≡◌, ◌==◌, ◌≤◌, ◌<◌, ◌++◌, ◌∷◌, ℕ, IfOk, IfSome, [], length, option_map, if◌then◌else◌, slice_index};
+ghost use Rattle.std.specs.Prelude.{◌≡◌, ◌==◌, ◌≤◌, ◌<◌, ◌++◌, ◌∷◌, ℕ, IfOk, IfSome, OnOk, Ok, Some, List, [], length, map, option_map, if◌then◌else◌, slice_index};
 ghost use Rattle.std.specs.Str.{bytes_eq};
 ghost use Rattle.exb_model.specs.Setup.{IsValid};
 ghost use Rattle.exb_keys.specs.Faults.{Gives, place_text};
 ghost use Rattle.exb_nets.specs.Nets.{ends_of};
+ghost use Rattle.exb_topology.specs.Each.{refuse};
 ghost use Rattle.exb_model.specs.Tree.{is_external};
 ghost use Rattle.exb_net_file.specs.Members.{tree_in};
 ghost use Rattle.exb_net_file.specs.Wires.{member_from, is_taken, has_capture, port_free, end_in, are_joined, wire_in, wires_from, wires_of};

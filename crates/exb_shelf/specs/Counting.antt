@@ -1,5 +1,5 @@
 -- What a shelf and a sink count: each fault that they answer, once.
-use Rattle.std.specs.Prelude.{◌+◌, ◌-◌, ◌^◌, ℕ, Result, Ok, Err, min}
+use Rattle.std.specs.Prelude.{◌≡◌, ◌+◌, ◌-◌, ◌^◌, ℕ, Result, Ok, Err, min}
 use Rattle.exb_shelf.specs.Shelf.{Faults}
 use Rattle.exb_shelf.specs.declared.shelf.OpenFault.{OpenFault}
 use Rattle.exb_shelf.specs.declared.shelf.OpenFault.TheVariants as open_fault

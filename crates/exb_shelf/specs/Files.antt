@@ -1,5 +1,6 @@
 -- What happens to files: which change, which stay, and what they hold then.
-use Rattle.std.specs.Prelude.{◌≡◌, ◌≢◌, ◌<◌, ◌≤◌, ◌++◌, ◌⊎◌, ℕ, List, [], Option, Some, length, take, unwrap_or}
+use Rattle.std.specs.Prelude.{◌≡◌, ◌≢◌, ◌<◌, ◌≤◌, ◌++◌, ◌⊎◌, ℕ, List, [], Option, Some, length, take, slice_index, unwrap_or}
+use Rattle.exb_model.specs.Frames.{IsBytes}
 
 -- files as a program sees them: the bytes of each name, none where there is no such file
 abbrev pub Files : Type 0

@@ -1,6 +1,6 @@
 //! The ids that a shelf has given.
 ghost use Rattle.std.specs.Prelude.{◌≡◌, ◌≢◌, ◌<◌, ◌+◌, ◌^◌, ℕ, true, false, length, take, IfOk, OnErr};
-ghost use Rattle.exb_shelf.specs.Shelf.{moved};
+ghost use Rattle.exb_shelf.specs.Shelf.{moved, no_id};
 ghost use Rattle.exb_shelf.specs.Entries.{id_at};
 
 use std::alloc::{AllocError, Global};

@@ -1,6 +1,6 @@
 //! The system's files and standard output. What they hold is not told.
 ghost use Rattle.std.specs.Prelude.{◌≡◌, ◌<◌, ◌≤◌, ℕ, [], None, length, IfOk};
-ghost use Rattle.exb_shelf.specs.Shelf.{no_id};
+ghost use Rattle.exb_shelf.specs.Shelf.{Faults, no_id};
 ghost use Rattle.exb_shelf.specs.System.{system_ids, system_faults, sink_faults};
 
 use crate::entries::{Entry, advance, give};

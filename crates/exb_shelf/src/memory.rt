@@ -1,11 +1,11 @@
 //! Files and a sink in memory, which tell what they hold and fail where they are told to.
-ghost use Rattle.std.specs.Prelude.{◌≡◌, ◌≢◌, ◌<◌, ◌≤◌, ◌+◌, ◌++◌, ◌↔◌, [], ℕ, List, None, true, false, length, take, drop, IfOk, OnOk, OnErr, IsErrOf, IsSome, IsTrue, Contains};
+ghost use Rattle.std.specs.Prelude.{◌≡◌, ◌≢◌, ◌<◌, ◌≤◌, ◌+◌, ◌^◌, ◌++◌, ◌↔◌, [], ℕ, List, None, true, false, length, take, drop, IfOk, OnOk, OnErr, IsErrOf, IsSome, IsTrue, Contains};
 ghost use Rattle.std.specs.Option.{option_copied};
 ghost use Rattle.exb_model.specs.Frames.{IsBytes};
 ghost use Rattle.exb_shelf.specs.Files.{SameFiles, Puts, bytes_of};
-ghost use Rattle.exb_shelf.specs.Shelf.{IsReading, IsWriting, reading, writing, moved, no_id, Rose, NoFewer};
+ghost use Rattle.exb_shelf.specs.Shelf.{Faults, IsReading, IsWriting, reading, writing, moved, no_id, Rose, NoFewer};
 ghost use Rattle.exb_shelf.specs.Counting.{one_more, after_open, after_read, after_write, after_print};
-ghost use Rattle.exb_shelf.specs.Memory.{files_of, ids_of, faults_of, calls_of, failing_of, text_of, sink_faults_of, sink_calls_of, sink_failing_of};
+ghost use Rattle.exb_shelf.specs.Memory.{file_in, files_of, ids_of, faults_of, calls_of, failing_of, text_of, sink_faults_of, sink_calls_of, sink_failing_of};
 
 use crate::{OpenFault, ScratchShelf, Shelf, ShelfFault, Sink};
 use exb_model::memory::NoMemory;

@@ -1,5 +1,5 @@
 //! Whole files and texts, through calls that take pieces.
-ghost use Rattle.std.specs.Prelude.{◌≡◌, ◌≢◌, ◌<◌, ◌≤◌, ◌+◌, ◌++◌, [], ℕ, List, Some, None, length, take, drop, IfOk, OnOk, OnErr, IsErrOf};
+ghost use Rattle.std.specs.Prelude.{◌≡◌, ◌≢◌, ◌<◌, ◌≤◌, ◌+◌, ◌++◌, [], ℕ, List, true, Some, None, length, take, drop, IfOk, OnOk, OnErr, IsErrOf};
 ghost use Rattle.exb_shelf.specs.Files.{bytes_of, SameFiles, Puts, Adds, AddsFront, AppendsFront, BreaksOff};
 ghost use Rattle.exb_shelf.specs.Counting.{after_read, after_reading, after_write, after_print};
 ghost use Rattle.exb_shelf.specs.Reading.{unopened, unread};

@@ -1,5 +1,5 @@
 //! Files in memory. They fail for want of memory alone.
-ghost use Rattle.std.specs.Prelude.{◌≡◌, ◌<◌, ◌≤◌, ◌+◌, ◌^◌, ◌++◌, ◌↔◌, [], ℕ, List, None, length, take, drop, OnOk, OnErr};
+ghost use Rattle.std.specs.Prelude.{◌≡◌, ◌<◌, ◌≤◌, ◌+◌, ◌^◌, ◌++◌, ◌↔◌, [], ℕ, List, None, length, take, drop, IfOk, OnOk, OnErr};
 ghost use Rattle.std.specs.Option.{option_copied};
 ghost use Rattle.exb_shelf.specs.Files.{SameFiles, Puts, bytes_of};
 ghost use Rattle.exb_shelf.specs.Shelf.{no_id};

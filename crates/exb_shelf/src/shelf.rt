@@ -1,5 +1,5 @@
 //! The two traits through which all input and output goes.
-ghost use Rattle.std.specs.Prelude.{◌≡◌, ◌≢◌, ◌<◌, ◌≤◌, ◌++◌, ◌↔◌, [], ℕ, true, false, List, None, length, take, drop, IfOk, OnOk, OnErr, IsErrOf, IsSome};
+ghost use Rattle.std.specs.Prelude.{◌≡◌, ◌≢◌, ◌<◌, ◌≤◌, ◌+◌, ◌++◌, ◌↔◌, [], ℕ, true, false, List, Option, None, length, take, drop, IfOk, OnOk, OnErr, IsErrOf, IsSome};
 ghost use Rattle.exb_model.specs.Frames.{IsBytes};
 ghost use Rattle.exb_shelf.specs.Files.{Files, SameFiles, Puts, bytes_of};
 ghost use Rattle.exb_shelf.specs.Counting.{after_open, after_read, after_write, after_print};

@@ -1,5 +1,5 @@
 -- What the commands of a file keep to: they are few, their seconds never fall, and all letters of fates together are few.
-use Rattle.std.proofs.Common.{◌≡◌, ℕ, zero, suc, ◌+◌, ◌≤◌, true, false, List, [], ◌∷◌, ◌++◌, length, All, Option, Some, None, Result, Ok, Err, map, refl, subst, arith}
+use Rattle.std.proofs.Common.{◌≡◌, ℕ, zero, suc, ◌+◌, ◌<◌, ◌≤◌, Bool, true, false, List, [], ◌∷◌, ◌++◌, length, All, Option, Some, None, Result, Ok, Err, map, refl, sym, ap, subst, ◌∙◌, arith}
 use Rattle.std.specs.Prelude.{nat_le, if◌then◌else◌, codes}
 use Rattle.std.specs.List.{AllPairs, sum_by}
 use Rattle.std.proofs.lemmas.Bool.{leb-true}
@@ -11,7 +11,7 @@ use Rattle.exb_keys.specs.declared.faults.KeyFault.TheVariants as fault
 use Rattle.exb_keys.specs.Faults.{Refusal, at, ◌>>=◌, in_element}
 use Rattle.exb_keys.specs.Keys.{seconds, fate, key_at, only, table_of, elements, each}
 use Rattle.exb_keys.specs.Documents.{document}
-use Rattle.exb_keys.proofs.Went.{went, seconds_rise, letters_few}
+use Rattle.exb_keys.proofs.Went.{Went, went, seconds_rise, letters_few}
 use Rattle.exb_tables.specs.declared.schema.Schema.TheVariants as schema
 use Rattle.exb_model.specs.declared.setup.ExtenderSetup.{ExtenderSetup}
 use Rattle.exb_tables.specs.declared.rows.BridgeTable.{BridgeTable}

@@ -1,7 +1,8 @@
 //! Commands of a topology file.
 ghost use Rattle.std.specs.Prelude.{◌≡◌, ◌≤◌, ◌+◌, IfOk, length, codes};
+ghost use Rattle.toml.specs.Data.{get_member};
 ghost use Rattle.toml.specs.View.{view, items_view, table_view};
-ghost use Rattle.exb_keys.specs.Faults.{Gives, place_text};
+ghost use Rattle.exb_keys.specs.Faults.{Gives, in_element, place_text};
 ghost use Rattle.exb_keys.specs.Keys.{each, key_at};
 ghost use Rattle.exb_tables.specs.Schemas.{has_op_key};
 ghost use Rattle.exb_tables.specs.Commands.{op_in, action, command, command_item, after_command, commands};

@@ -1,9 +1,9 @@
 //! The third pass: that ports are external ports of the tree, and that nothing is given twice.
-ghost use Rattle.std.specs.Prelude.{◌≡◌, ◌==◌, ◌++◌, ◌∷◌, [], List, IfOk, OnOk};
+ghost use Rattle.std.specs.Prelude.{◌≡◌, ◌==◌, ◌++◌, ◌∷◌, [], List, codes, IfOk, OnOk};
 ghost use Rattle.std.specs.List.{list_any};
 ghost use Rattle.std.specs.Str.{bytes_eq};
 ghost use Rattle.exb_model.specs.Tree.{Shape};
-ghost use Rattle.exb_keys.specs.Faults.{Gives, place_text};
+ghost use Rattle.exb_keys.specs.Faults.{Gives, place_text, in_element};
 ghost use Rattle.exb_topology.specs.Each.{each_ok, refuse};
 ghost use Rattle.exb_topology.specs.Checks.{port_ok, words_ok, port_table_ok, overlap, vlan_ok, vlans_ok, same_entry, static_ok, action_ok, command_ok, capture_key, capture_ok, output_names, file_ok};
 ghost use Rattle.exb_topology.specs.Given.{Knows};

@@ -1,5 +1,5 @@
 //! The commands of a topology, with its words resolved: those of the start, and those that come later.
-ghost use Rattle.std.specs.Prelude.{◌≡◌, ◌++◌, IfOk, OnOk, map, flat_map};
+ghost use Rattle.std.specs.Prelude.{◌≡◌, ◌++◌, ◌∷◌, [], IfOk, OnOk, map, flat_map};
 ghost use Rattle.exb_topology.specs.Checks.{listed};
 ghost use Rattle.exb_topology.specs.Seen.{seen, timed_view, set_vlan, put_static, set_pvid, set_accept, set_filter, set_isolated};
 ghost use Rattle.exb_topology.specs.Topologies.{port_start, vlan_start, vlans_start, static_start, deed, command_seen};

@@ -4,8 +4,8 @@ ghost use Rattle.std.specs.List.{list_any};
 ghost use Rattle.exb_model.specs.Tree.{Shape, top};
 ghost use Rattle.exb_model.specs.declared.setup.ExtenderSetup.{ExtenderSetup};
 ghost use Rattle.exb_model.specs.Setup.{InRange, IsValid, port_at, shape_of};
-ghost use Rattle.exb_keys.specs.Faults.{Gives};
-ghost use Rattle.exb_topology.specs.Each.{each_ok};
+ghost use Rattle.exb_keys.specs.Faults.{Gives, place_text};
+ghost use Rattle.exb_topology.specs.Each.{each_ok, refuse};
 ghost use Rattle.exb_topology.specs.Trees.{ports_of, has_port, hung, rooted, tree_ok, HasRanges};
 
 use crate::checks::refuse;
