@@ -4,11 +4,11 @@ use crate::site::{
     broom, chain, command, expect_log, put, put_names, put_word, start, topology_of, topology_with,
     tree_of,
 };
+use exb_changing::{Row, SetAt};
 use exb_config::Config;
 use exb_model::port_set::PortSet;
 use exb_model::tree::Tree;
 use exb_plan::{rows, sets};
-use exb_plans::{Row, SetAt};
 use exb_topology::Topology;
 use std::alloc::Global;
 use std::process::Abort;

@@ -1,3 +1,4 @@
+pub mod Planning
 pub mod FreshGroups
 pub mod Released
 pub mod Places

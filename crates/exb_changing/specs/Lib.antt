@@ -1,3 +1,4 @@
+pub mod Planning
 pub mod Deciding
 pub mod Machine
 pub mod Counting

@@ -7,12 +7,12 @@ use Rattle.exb_model.specs.declared.event.Event.{Event}
 use Rattle.exb_model.specs.declared.event.Event.TheVariants as event
 use Rattle.exb_model.specs.Configuration.{Bridge}
 use Rattle.exb_csp.specs.declared.message.Message.{Message}
-use Rattle.exb_session.specs.declared.asker.Taken.{Taken}
-use Rattle.exb_session.specs.declared.asker.Taken.TheVariants as taken
-use Rattle.exb_session.specs.Asking.{AskerState, asked, beaten, message_again, took}
+use Rattle.exb_csp.specs.declared.session.asker.Taken.{Taken}
+use Rattle.exb_csp.specs.declared.session.asker.Taken.TheVariants as taken
+use Rattle.exb_csp.specs.Session.Asking.{AskerState, asked, beaten, message_again, took}
 use Rattle.exb_csp.specs.declared.ask_at.AskAt.{AskAt}
-use Rattle.exb_plans.specs.declared.change.Change.{Change}
-use Rattle.exb_plans.specs.Held.{Held}
+use Rattle.exb_changing.specs.declared.planning.change.Change.{Change}
+use Rattle.exb_changing.specs.Planning.Held.{Held}
 use Rattle.exb_changing.specs.declared.asked.Asked.{Asked}
 use Rattle.exb_changing.specs.declared.job.Job.{Job}
 use Rattle.exb_changing.specs.declared.job.Job.TheVariants as job

@@ -7,11 +7,11 @@ use Rattle.std.specs.declared.result.Result.{Result}
 use Rattle.std.specs.declared.result.Result.TheVariants.{Ok, Err}
 use Rattle.exb_model.specs.declared.event.Event.{Event}
 use Rattle.exb_csp.specs.declared.message.Request.{Request}
-use Rattle.exb_session.specs.Asking.{AskerState, beaten, beaten_while}
+use Rattle.exb_csp.specs.Session.Asking.{AskerState, beaten, beaten_while}
 use Rattle.exb_learn.specs.Calls.{Table}
 use Rattle.exb_learn.specs.Entries.{table_of}
 use Rattle.exb_csp.specs.declared.ask_at.AskAt.{AskAt}
-use Rattle.exb_plans.specs.declared.change.Change.{Change}
+use Rattle.exb_changing.specs.declared.planning.change.Change.{Change}
 use Rattle.exb_changing.specs.declared.asked.Asked.{Asked}
 use Rattle.exb_changing.specs.declared.job.Job.{Job}
 use Rattle.exb_changing.specs.declared.job.Phase.{Phase}

@@ -7,11 +7,11 @@ use Rattle.exb_model.specs.Configuration.{Bridge}
 use Rattle.exb_config.specs.Tables.{Tables, bridge_of}
 use Rattle.exb_numbers.specs.Spaces.{Spaces}
 use Rattle.exb_config.specs.Pvids.{HasPvids}
-use Rattle.exb_plans.specs.declared.change.Decision.{Decision}
-use Rattle.exb_plans.specs.Held.{Held, HoldsNeeded, in_spaces}
+use Rattle.exb_changing.specs.declared.planning.change.Decision.{Decision}
+use Rattle.exb_changing.specs.Planning.Held.{Held, HoldsNeeded, in_spaces}
 use Rattle.exb_plan.specs.Spaces.{HasSpaces, held_by}
-use Rattle.exb_plans.specs.Laws.{IsBeginning, HoldsFirst}
-use Rattle.exb_plans.proofs.Beginning.{begins}
+use Rattle.exb_changing.specs.Planning.Laws.{IsBeginning, HoldsFirst}
+use Rattle.exb_changing.proofs.Planning.Beginning.{begins_held}
 use Rattle.exb_changing.specs.declared.job.Job.{Job}
 use Rattle.exb_control.specs.declared.stage.Stage.{Stage}
 use Rattle.exb_control.specs.declared.stage.Stage.TheVariants.{AtRest, Prepared, InForce}
@@ -32,7 +32,7 @@ new_active s valid t is config v start pvids has first = record {
   spaces = has;
   external = subst (λ (x : Shape). HasExternals x (bridge_of config)) (sym is) (subst (HasExternals (shape_of s)) (sym start) (start_external s valid));
   pvids = pvids;
-  holds = needed_placed t (bridge_of config) (held_by v) (begins t (bridge_of config) (held_by v) beginning);
+  holds = needed_placed t (bridge_of config) (held_by v) (begins_held t (bridge_of config) (held_by v) beginning);
 }
   where
     beginning : IsBeginning t (bridge_of config) (held_by v)

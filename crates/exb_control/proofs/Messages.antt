@@ -11,15 +11,14 @@ use Rattle.exb_csp.specs.declared.message.Body.{Body}
 use Rattle.exb_csp.specs.declared.message.Body.TheVariants as body
 use Rattle.exb_csp.specs.declared.message.Message.{Message}
 use Rattle.exb_csp.specs.declared.message.Request.{Request}
-use Rattle.exb_csp.specs.Kinds.{kind_of}
+use Rattle.exb_csp.specs.Kinds.{kind_of, same_kind}
 use Rattle.exb_csp.specs.Spelling.{IsSpelledRequest, HasSpelling}
-use Rattle.exb_session.specs.declared.asker.Taken.{Taken}
-use Rattle.exb_session.specs.declared.asker.Taken.TheVariants as taken
-use Rattle.exb_session.specs.Kinds.{same_kind}
-use Rattle.exb_session.specs.Asking.{AskerState, asked, took, took_body, beaten, message_again}
-use Rattle.exb_session.proofs.AskerLaws.{stays_sound, asks_spelled}
-use Rattle.exb_session.proofs.Fronts.{each_append, all_from}
-use Rattle.exb_plans.specs.declared.change.Change.{Change}
+use Rattle.exb_csp.specs.declared.session.asker.Taken.{Taken}
+use Rattle.exb_csp.specs.declared.session.asker.Taken.TheVariants as taken
+use Rattle.exb_csp.specs.Session.Asking.{AskerState, asked, took, took_body, beaten, message_again}
+use Rattle.exb_csp.proofs.Session.AskerLaws.{stays_sound, asks_spelled}
+use Rattle.exb_csp.proofs.Session.Fronts.{each_append, all_from}
+use Rattle.exb_changing.specs.declared.planning.change.Change.{Change}
 use Rattle.exb_changing.specs.declared.asked.Asked.{Asked}
 use Rattle.exb_changing.specs.declared.job.Job.{Job}
 use Rattle.exb_changing.specs.declared.job.Job.TheVariants as job

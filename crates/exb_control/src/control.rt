@@ -3,7 +3,7 @@ ghost use Rattle.std.specs.Prelude.{◌≡◌, ℕ, ◌+◌, ◌-◌, ◌<◌, �
 ghost use Rattle.std.specs.List.{All};
 ghost use Rattle.exb_model.specs.Setup.{IsValid, NamesExternal, shape_of, limits_of};
 ghost use Rattle.exb_model.specs.Tree.{is_extender, is_external, is_cascade};
-ghost use Rattle.exb_session.specs.Asking.{took};
+ghost use Rattle.exb_csp.specs.Session.Asking.{took};
 ghost use Rattle.exb_learn.specs.Calls.{empty_table};
 ghost use Rattle.exb_learn.specs.Entries.{table_of};
 
@@ -19,7 +19,7 @@ use crate::sessions::Sessions;
 use crate::turns::{give, take, wake};
 use crate::working::{Core, beat, outstanding};
 use exb_changing::Job;
-use exb_csp::Message;
+use exb_csp::{Message, Taken};
 use exb_learn::Learned;
 use exb_lldp::Announce;
 use exb_model::command::Command;
@@ -28,7 +28,6 @@ use exb_model::memory::NoMemory;
 use exb_model::port::PortId;
 use exb_model::setup::Setup;
 use exb_model::tree::Tree;
-use exb_session::Taken;
 use std::alloc::Global;
 use std::marker::Model;
 

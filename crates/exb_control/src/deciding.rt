@@ -5,7 +5,7 @@ ghost use Rattle.exb_model.specs.Setup.{Limits};
 ghost use Rattle.exb_config.specs.Tables.{bridge_of};
 ghost use Rattle.exb_numbers.specs.Spaces.{groups_at};
 ghost use Rattle.exb_plan.specs.Spaces.{HasSpaces, held_by};
-ghost use Rattle.exb_plans.specs.Held.{HoldsNeeded};
+ghost use Rattle.exb_changing.specs.Planning.Held.{HoldsNeeded};
 ghost use Rattle.exb_plan.specs.Working.{SpacesOf};
 ghost use Rattle.exb_plan.specs.Counted.{IsCounted};
 ghost use Rattle.exb_plan.specs.Decisions.{IfDecided};
@@ -14,7 +14,7 @@ ghost use Rattle.exb_changing.specs.Deciding.{cascade_asks, opening_asks, openin
 ghost use Rattle.exb_changing.specs.Fitting.{Fits};
 ghost use Rattle.exb_control.specs.ActiveConfigs.{decision_of, held_after};
 
-use exb_changing::Job;
+use exb_changing::{Change, Decision, Job};
 use exb_config::Config;
 use exb_csp::{AskAt, Request};
 use exb_model::command::Command;
@@ -26,7 +26,6 @@ use exb_model::tree::Tree;
 use exb_numbers::Spaces;
 use exb_plan::asks::put_create;
 use exb_plan::{GroupUses, plan};
-use exb_plans::{Change, Decision};
 use std::alloc::Global;
 
 // Asks that a port of an extender is created, if it is a cascade port.

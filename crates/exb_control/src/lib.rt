@@ -3,7 +3,7 @@
 //! `exb_changing` says. The control opens each extender once that was heard, lets ports go up, carries out commands one
 //! after another, relays frames and learns from them. Upwards it promises that each call is exactly a step of the
 //! machine of changes, with its events and messages, and that frames are relayed and learned as the configuration in
-//! force says. It stands on `exb_changing`, `exb_plan`, `exb_relay`, `exb_learn`, `exb_session`, `exb_lldp` and what these
+//! force says. It stands on `exb_changing`, `exb_plan`, `exb_relay`, `exb_learn`, `exb_csp`, `exb_lldp` and what these
 //! stand on.
 #![tactic(auto)]
 
@@ -28,7 +28,7 @@ mod working;
 pub use active_config::ActiveConfig;
 pub use control::{Control, ControlFault};
 pub use exb_changing::{Asked, Job};
+pub use exb_csp::Taken;
 pub use exb_relay::{Ingress, SendTo};
-pub use exb_session::Taken;
 pub use outbox::Outbox;
 pub use stage::Stage;

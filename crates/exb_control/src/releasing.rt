@@ -4,13 +4,13 @@ ghost use Rattle.exb_model.specs.Setup.{Limits};
 ghost use Rattle.exb_plan.specs.Spaces.{HasSpaces, held_by};
 ghost use Rattle.exb_plan.specs.Working.{IsAlike};
 ghost use Rattle.exb_changing.specs.Deciding.{release, without_channel, without_group};
-ghost use Rattle.exb_plans.specs.Held.{is_place, in_spaces};
+ghost use Rattle.exb_changing.specs.Planning.Held.{is_place, in_spaces};
 
+use exb_changing::{Change, Number};
 use exb_model::port::PortId;
 use exb_model::role::Role;
 use exb_model::tree::Tree;
 use exb_numbers::Spaces;
-use exb_plans::{Change, Number};
 
 /// Whether a bridge port has a space. Bridge ports are numbered from 1.
 pub(crate) fn is_place(tree: &Tree, bridge_port: u8) -> bool

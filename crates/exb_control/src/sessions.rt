@@ -1,11 +1,10 @@
 //! The bridge's ends of the sessions with its extenders.
 ghost use Rattle.std.specs.Prelude.{◌≡◌, ◌<◌, ◌^◌, IfOk, length, replicate};
-ghost use Rattle.exb_session.specs.Asking.{begun, asked, took, beaten, message_again};
+ghost use Rattle.exb_csp.specs.Session.Asking.{begun, asked, took, beaten, message_again};
 ghost use Rattle.exb_control.specs.Steps.{askers_of, put, due};
 
-use exb_csp::{Message, Request};
+use exb_csp::{Asker, Message, Request, Taken};
 use exb_model::memory::NoMemory;
-use exb_session::{Asker, Taken};
 use std::alloc::Global;
 use std::marker::Model;
 
@@ -20,7 +19,7 @@ pub(crate) struct Sessions {
 
 impl Model for Sessions {
     ghost use Rattle.std.specs.Prelude.{◌≡◌, List, length};
-    ghost use Rattle.exb_session.specs.Asking.{AskerState};
+    ghost use Rattle.exb_csp.specs.Session.Asking.{AskerState};
 
     ghost Value = { List AskerState };
 

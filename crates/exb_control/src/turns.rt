@@ -2,7 +2,7 @@
 ghost use Rattle.std.specs.Prelude.{◌≡◌, ◌++◌, ◌∷◌, [], ◌+◌, ◌*◌, ◌<◌, ◌^◌, ℕ, OnOk, IfOk, true, false, length};
 ghost use Rattle.exb_model.specs.Setup.{NamesExternal};
 ghost use Rattle.exb_learn.specs.Entries.{table_of};
-ghost use Rattle.exb_session.specs.Asking.{took};
+ghost use Rattle.exb_csp.specs.Session.Asking.{took};
 ghost use Rattle.exb_changing.specs.Fitting.{AreFit};
 ghost use Rattle.exb_changing.specs.Machine.{goes_on, wakes, answered};
 ghost use Rattle.exb_control.specs.Controls.{work_at, decide_of};
@@ -14,12 +14,11 @@ use crate::queue::Queue;
 use crate::stage::Stage;
 use crate::working::{Core, is_at_rest, proceed, start};
 use exb_changing::{Asked, Job};
-use exb_csp::Message;
+use exb_csp::{Message, Taken};
 use exb_model::command::Command;
 use exb_model::event::Event;
 use exb_model::list::List;
 use exb_model::memory::NoMemory;
-use exb_session::Taken;
 
 /// Starts the next job; false where the jobs that follow have to wait.
 fn turn(

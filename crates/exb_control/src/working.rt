@@ -12,14 +12,13 @@ ghost use Rattle.exb_control.specs.Soundness.{AreKnown, MayAsk, CanAsk, IsSteady
 use crate::active_config::ActiveConfig;
 use crate::sessions::Sessions;
 use crate::stage::Stage;
-use exb_changing::{Asked, Job};
+use exb_changing::{Asked, Change, Job};
 use exb_csp::AskAt;
 use exb_learn::Learned;
 use exb_model::command::Command;
 use exb_model::event::{Cause, Event};
 use exb_model::list::List;
 use exb_model::memory::NoMemory;
-use exb_plans::Change;
 
 /// The configuration with the change at work, the place of the outstanding request among those of its phase,
 /// the sessions, and what is learned.

@@ -5,3 +5,4 @@ pub mod Executing
 pub mod Spelled
 pub mod PlainLemmas
 pub mod AllLemmas
+pub mod Session

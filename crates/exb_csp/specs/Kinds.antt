@@ -57,3 +57,7 @@ is_length (Ask kind.RegisterMany) length = nat_le 20 length && nat_le length 640
 is_length (Ask kind.UnregisterMany) length = nat_le 4 length && nat_le length 128 && length % 2 == 0
 is_length (Answer kind.Open) length = length == 2
 is_length (Answer _) length = length == 1
+
+-- the kinds are the same
+abbrev pub same_kind : RequestKind → RequestKind → Bool
+same_kind a b = number_of a == number_of b

@@ -1,7 +1,9 @@
-//! What holds of every message, and of every extender that executes requests.
+//! What holds of every message, of every extender that executes requests, and of every session.
 
 ghost use Rattle.exb_csp.specs.Laws.{WrittenIsRead, ReadIsSpelled, MessagesAreShort, RefusedChangesNothing, RegisterSetsTheMask, UnregisterClearsTheRow, RegisterManyIsItsRows, UnregisterManyIsItsEcids, HasPairExactly, SomeBitExactly};
 ghost use Rattle.exb_csp.specs.AllLaws.{DoneAtEachPort, RefusedAtNoPort, RunsLayRows};
+ghost use Rattle.exb_csp.specs.Session.Asking.{StaysSound, AsksAreSpelled};
+ghost use Rattle.exb_csp.specs.Session.Runs.{EachRequestOnce, RequestsAreAnswered, MessagesAreNumbered, MessagesAreSpelled};
 
 /// What is written is read again as the same message.
 pub fn written_is_read()
@@ -67,4 +69,39 @@ pub fn refused_at_no_port()
 /// A run of Registers of one number at any extenders, each of them done, lays exactly their masks.
 pub fn runs_lay_rows()
     ensures { RunsLayRows }
+{}
+
+/// Over every list of asks, and of deliveries of any message sent so far, in any order and number: what
+/// is executed is a front of what was asked, each once and in order, and what the asker took as answers
+/// is a front of the stored responses, in order.
+pub fn each_request_once()
+    ensures { EachRequestOnce }
+{}
+
+/// Where nothing is lost, a request is executed when it comes, and the response that is stored, if it
+/// is one to such a request, is taken as its answer.
+pub fn requests_are_answered()
+    ensures { RequestsAreAnswered }
+{}
+
+/// Over every list of asks and deliveries, a request that was sent under serial k is the k-th that was
+/// asked, and an answer under serial k is the k-th response that was stored.
+pub fn messages_are_numbered()
+    ensures { MessagesAreNumbered }
+{}
+
+/// Where each request that is asked and each response that is stored can be spelled, so can each message.
+pub fn messages_are_spelled()
+    ensures { MessagesAreSpelled }
+{}
+
+/// Whatever an asker asks, takes and counts, it counts fewer than sixteen beats, and what it waits for has
+/// a serial.
+pub fn asker_stays_sound()
+    ensures { StaysSound }
+{}
+
+/// What an asker asks has a spelling where its request can be spelled, the first time and once more.
+pub fn asks_are_spelled()
+    ensures { AsksAreSpelled }
 {}

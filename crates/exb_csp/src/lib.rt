@@ -1,9 +1,16 @@
-//! The messages of the control protocol between the controlling bridge and its extenders: what the
-//! bridge asks, what an extender answers, and the bytes of both.
+//! The control protocol between the controlling bridge and its extenders: its messages, and the sessions in which they
+//! are asked and answered.
 //!
-//! `read` and `write` are exact in both directions. What executing a request does to an extender's
-//! tables, alone and among all extenders, is defined here for everyone above, with its laws in `laws` and a
-//! plain program of it in `plain`, whose constructor alone takes memory. The crate stands on `exb_model` and `arrayvec`.
+//! Messages: what the bridge asks, what an extender answers, and the bytes of both. `read` and `write` are exact in both
+//! directions. What executing a request does to an extender's tables, alone and among all extenders, is defined here for
+//! everyone above, with its laws in `laws` and a plain program of it in `plain`, whose constructor alone takes memory.
+//!
+//! Sessions (`session`, `specs/Session`): the bridge's end asks one request at a time and takes its answer; the extender's
+//! end executes each request once and answers it again where it comes again. Both are exact pure machines, and over every
+//! order in which their messages come, are lost or repeated, what is executed is a front of what was asked, and what is
+//! answered a front of what was stored. No call of either takes memory.
+//!
+//! The crate stands on `exb_model` and `arrayvec`.
 #![tactic(auto)]
 
 mod ask_at;
@@ -15,6 +22,7 @@ pub mod laws;
 mod message;
 pub mod plain;
 mod reading;
+mod session;
 mod writing;
 
 pub use ask_at::AskAt;
@@ -23,4 +31,5 @@ pub use fault::CspFault;
 pub use group_rows::{GroupRow, GroupRows};
 pub use message::{Body, Message, Request, RequestKind, Response};
 pub use reading::read;
+pub use session::{Answerer, Asker, Due, Taken};
 pub use writing::write;

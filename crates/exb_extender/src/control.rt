@@ -2,7 +2,7 @@
 ghost use Rattle.std.specs.Prelude.{◌≡◌, ◌↔◌, ◌≤◌, ◌<◌, ◌++◌, [], ◌∷◌, ◌==◌, ◌&&◌, ◌||◌, not, if◌then◌else◌, length, false, Ok, None, IsTrue};
 ghost use Rattle.exb_csp.specs.Execute.{ExtenderTables};
 ghost use Rattle.exb_ecp.specs.Machine.{new_state, beaten, beat_of, IsSound};
-ghost use Rattle.exb_session.specs.Answering.{fresh};
+ghost use Rattle.exb_csp.specs.Session.Answering.{fresh};
 ghost use Rattle.exb_extender.specs.Control.{state_with, state_in};
 ghost use Rattle.exb_extender.specs.ControlState.{IsInOrder};
 ghost use Rattle.exb_csp.specs.Reading.{read_message};
@@ -13,12 +13,11 @@ ghost use Rattle.exb_extender.specs.Sending.{IsNothing, own_sent};
 
 use crate::sends::Sends;
 use crate::tables::Tables;
-use exb_csp::{Body, Message, Request};
+use exb_csp::{Answerer, Body, Due, Message, Request};
 use exb_ecp::{Beat, Ecp, Pdu};
 use exb_lldp::Announce;
 use exb_model::address::Mac;
 use exb_model::buffers::ControlBuf;
-use exb_session::{Answerer, Due};
 use std::marker::Model;
 
 /// The ECP subtype of control messages.

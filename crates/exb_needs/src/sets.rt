@@ -3,14 +3,14 @@ ghost use Rattle.std.specs.Prelude.{◌≡◌, ◌==◌, ◌<◌, map, count_by,
 ghost use Rattle.exb_model.specs.Tree.{Shape};
 ghost use Rattle.exb_model.specs.Configuration.{Bridge};
 ghost use Rattle.exb_config.specs.Tables.{bridge_of};
-ghost use Rattle.exb_plans.specs.Sets.{sets_of, seen};
+ghost use Rattle.exb_changing.specs.Planning.Sets.{sets_of, seen};
 ghost use Rattle.exb_needs.specs.Needed.{greatest_below, sets_below};
 
+use exb_changing::SetAt;
 use exb_config::Config;
 use exb_model::memory::NoMemory;
 use exb_model::port::PortId;
 use exb_model::tree::Tree;
-use exb_plans::SetAt;
 use std::alloc::Global;
 
 /// How many of these sets are below a bridge port, which is numbered from 1.
@@ -27,7 +27,7 @@ fn sets_below(sets: &[SetAt], place: u8) -> u64
     requires { place < 64 }
     ensures { (t : Shape) (b : Bridge) → map seen sets.now ≡ sets_of t b → result ≡ sets_below t b place }
 {
-    exb_plans::laws::sets_of_each();
+    exb_changing::laws::sets_of_each();
     count_below(sets, place + 1) as u64
 }
 

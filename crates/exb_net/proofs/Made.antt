@@ -9,8 +9,8 @@ use Rattle.exb_model.specs.Setup.{IsValid, limits_of, shape_of}
 use Rattle.exb_model.specs.Tree.{external_ports}
 use Rattle.exb_network.specs.Networks.{Network}
 use Rattle.exb_network.specs.Worlds.{all_left}
-use Rattle.exb_resting.specs.Motion.Kept.{HasVid}
-use Rattle.exb_resting.specs.Rest.Settles.{beginning}
+use Rattle.exb_motion.specs.Kept.{HasVid}
+use Rattle.exb_motion.specs.Runs.Settles.{beginning}
 use Rattle.exb_schedule.specs.Worlds.{network_of}
 use Rattle.exb_nets.specs.declared.wires.NetSetup.{NetSetup}
 use Rattle.exb_nets.specs.declared.wires.Wire.{Wire}

@@ -17,8 +17,8 @@ use Rattle.exb_network.specs.Networks.{Network, IsStepped, bounds_of, tree_of, w
 use Rattle.exb_network.specs.Sites.{Site}
 use Rattle.exb_network.specs.Sites.{limits_in as limits_at}
 use Rattle.exb_network.specs.Worlds.{all_left}
-use Rattle.exb_resting.specs.Motion.Onward.{IsGiving}
-use Rattle.exb_resting.specs.Rest.Settles.{MayTakeAll}
+use Rattle.exb_motion.specs.Onward.{IsGiving}
+use Rattle.exb_motion.specs.Runs.Settles.{MayTakeAll}
 use Rattle.exb_schedule.specs.Moves.{IsMoved}
 use Rattle.exb_schedule.specs.Segments.{IsPlayedOut}
 use Rattle.exb_schedule.specs.Worlds.{network_of}

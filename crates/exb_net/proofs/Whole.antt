@@ -15,7 +15,7 @@ use Rattle.exb_network.specs.Networks.{Network, bounds_of, tree_of, world_of}
 use Rattle.exb_network.specs.Sites.{Site}
 use Rattle.exb_network.specs.Sites.{limits_in as limits_at}
 use Rattle.exb_network.specs.Worlds.{all_left}
-use Rattle.exb_resting.specs.Rest.Settles.{MayTakeAll}
+use Rattle.exb_motion.specs.Runs.Settles.{MayTakeAll}
 use Rattle.exb_schedule.specs.Moves.{IsMoved}
 use Rattle.exb_schedule.specs.Worlds.{network_of}
 use Rattle.exb_nets.specs.Nets.{Net, is_wired}

@@ -8,8 +8,7 @@ use Rattle.std.proofs.lemmas.List.Elements.{filter-append}
 use Rattle.exb_model.specs.Ports.{all_ports, below}
 use Rattle.exb_model.specs.Tree.{Shape, external_ports, is_external}
 use Rattle.exb_model.proofs.PortLemmas.{below-more}
-use Rattle.exb_machine.specs.Worlds.{Left}
-use Rattle.exb_resting.specs.Flight.Showing.{left_at}
+use Rattle.exb_machine.specs.Worlds.{Left, left_at}
 use Rattle.exb_nets.specs.declared.wires.End.{End}
 use Rattle.exb_nets.specs.declared.wires.Wire.{Wire}
 use Rattle.exb_nets.specs.Nets.{across, far_end, first_or, is_wired}

@@ -1,7 +1,6 @@
 -- The wired ports of a bridge, as the code keeps them.
 use Rattle.std.specs.Prelude.{ℕ, ◌==◌, if◌then◌else◌, List, [], ◌∷◌, Option, Some, None, flat_map}
-use Rattle.exb_machine.specs.Worlds.{Left}
-use Rattle.exb_resting.specs.Flight.Showing.{left_at}
+use Rattle.exb_machine.specs.Worlds.{Left, left_at}
 use Rattle.exb_nets.specs.declared.wires.End.{End}
 use Rattle.exb_nets.specs.declared.wires.Wire.{Wire}
 use Rattle.exb_nets.specs.Nets.{far_end}

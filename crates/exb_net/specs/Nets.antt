@@ -3,7 +3,7 @@ use Rattle.std.specs.Prelude.{◌≡◌, ℕ, ◌+◌, ◌≤◌, ◌<◌, true,
 use Rattle.exb_model.specs.declared.setup.Setup.{Setup}
 use Rattle.exb_machine.specs.Settling.{nothing}
 use Rattle.exb_machine.specs.Worlds.{Step}
-use Rattle.exb_resting.specs.Rest.Settles.{beginning}
+use Rattle.exb_motion.specs.Runs.Settles.{beginning}
 use Rattle.exb_nets.specs.declared.wires.NetSetup.{NetSetup}
 use Rattle.exb_nets.specs.Nets.{Net, IsNet, is_wired}
 use Rattle.exb_wiring.specs.Playing.{AreOpened, Between, Dones, Empties, Handles, MayPass, pass}

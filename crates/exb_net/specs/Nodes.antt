@@ -5,8 +5,8 @@ use Rattle.exb_model.specs.Input.{Arrival}
 use Rattle.exb_model.specs.Setup.{limits_of, shape_of}
 use Rattle.exb_model.specs.Tree.{external_ports}
 use Rattle.exb_machine.specs.Worlds.{Step, Arrive, Tick, Left}
-use Rattle.exb_resting.specs.Motion.Kept.{HasVid}
-use Rattle.exb_resting.specs.Rest.Settles.{beginning}
+use Rattle.exb_motion.specs.Kept.{HasVid}
+use Rattle.exb_motion.specs.Runs.Settles.{beginning}
 use Rattle.exb_network.specs.Networks.{Network, IsQuiet, IsSame, IsStepped, bounds_of, tree_of, world_of}
 use Rattle.exb_network.specs.Worlds.{all_left}
 use Rattle.exb_schedule.specs.Segments.{IsPlayedOut}

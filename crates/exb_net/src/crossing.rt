@@ -1,6 +1,6 @@
 //! Frames between bridges.
 ghost use Rattle.std.specs.Prelude.{◌≡◌, ◌-◌, ◌∷◌, ◌++◌, [], Some, OnOk, drop, length};
-ghost use Rattle.exb_resting.specs.Flight.Showing.{left_at};
+ghost use Rattle.exb_machine.specs.Worlds.{left_at};
 ghost use Rattle.exb_network.specs.Worlds.{all_left, copies_at, copies_of};
 ghost use Rattle.exb_nets.specs.NetHistory.{crosses};
 ghost use Rattle.exb_net.specs.Ends.{sent_over};

@@ -8,11 +8,10 @@ use Rattle.exb_model.specs.Texts.{Counts, with_left}
 use Rattle.exb_model.specs.Tree.{Shape, IsTree, external_ports, is_external}
 use Rattle.exb_counters.specs.Counting.{FitsCounts, nothing, plus_events}
 use Rattle.exb_machine.specs.Stepping.{Stepped}
-use Rattle.exb_machine.specs.Worlds.{Left as Leaving}
+use Rattle.exb_machine.specs.Worlds.{Left as Leaving, left_at}
 use Rattle.exb_network.specs.declared.log.Left.{Left}
 use Rattle.exb_network.specs.Networks.{Network}
 use Rattle.exb_network.specs.Worlds.{all_left, copies_of}
-use Rattle.exb_resting.specs.Flight.Showing.{left_at}
 use Rattle.exb_nets.specs.Nets.{Net}
 use Rattle.exb_text.specs.Tallies.{FitsTally, counts_of, nothing_counted}
 use Rattle.exb_wiring.specs.Playing.{tree_in}

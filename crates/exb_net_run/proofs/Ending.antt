@@ -15,7 +15,7 @@ use Rattle.exb_counters.specs.declared.counters.Counters.{Counters}
 use Rattle.exb_counters.specs.Counters.{count_text}
 use Rattle.exb_machine.specs.Runs.Passed.{passed_over}
 use Rattle.exb_machine.specs.Stepping.{Stepped}
-use Rattle.exb_resting.specs.Flight.Showing.{left_at}
+use Rattle.exb_machine.specs.Worlds.{left_at}
 use Rattle.exb_shelf.specs.Files.{Files}
 use Rattle.exb_shelf.specs.Shelf.{Id}
 use Rattle.exb_text.specs.declared.output.Output.{Output}

@@ -5,7 +5,7 @@ use Rattle.std.proofs.lemmas.Option.{slice_get-map, slice_get_within}
 use Rattle.exb_model.specs.FlatBridge.{flat}
 use Rattle.exb_model.specs.Input.{basis_of, tree_of}
 use Rattle.exb_model.specs.Tree.{is_external}
-use Rattle.exb_resting.specs.Flight.Showing.{left_at}
+use Rattle.exb_machine.specs.Worlds.{left_at}
 use Rattle.exb_nets.specs.Nets.{Net, IsNet}
 use Rattle.exb_nets.specs.NetHistory.{Due, Goes, openings}
 use Rattle.exb_nets.specs.Ending.{NetsHaveHistories}

@@ -14,7 +14,7 @@ use Rattle.exb_model.specs.Texts.{capture_header, capture_text, journal_text, re
 use Rattle.exb_model.specs.Traces.{trace_text}
 use Rattle.exb_model.specs.Tree.{Shape, is_external}
 use Rattle.exb_machine.specs.Stepping.{Stepped}
-use Rattle.exb_resting.specs.Flight.Showing.{left_at}
+use Rattle.exb_machine.specs.Worlds.{left_at}
 use Rattle.exb_net_file.specs.declared.members.NetMember.{NetMember}
 use Rattle.exb_net_file.specs.Members.{prefix_of, tree_in}
 use Rattle.exb_outputs.specs.Names.{IsCut}

@@ -4,7 +4,7 @@ use Rattle.exb_model.specs.Texts.{Counts}
 use Rattle.exb_machine.specs.Stepping.{Stepped}
 use Rattle.exb_network.specs.Networks.{Network}
 use Rattle.exb_network.specs.Worlds.{all_left}
-use Rattle.exb_resting.specs.Flight.Showing.{left_at}
+use Rattle.exb_machine.specs.Worlds.{left_at}
 use Rattle.exb_schedule.specs.Worlds.{network_of}
 use Rattle.exb_shelf.specs.Files.{Files}
 use Rattle.exb_shelf.specs.Shelf.{Id}

@@ -7,10 +7,9 @@ use Rattle.exb_model.specs.Setup.{NamesExternal}
 use Rattle.exb_model.specs.Tree.{IsTree, external_ports, is_external}
 use Rattle.exb_machine.specs.Allowing.{Can}
 use Rattle.exb_machine.specs.Stepping.{Stepped}
-use Rattle.exb_machine.specs.Worlds.{Left, Step, Arrive, Order}
+use Rattle.exb_machine.specs.Worlds.{Left, Step, Arrive, Order, left_at}
 use Rattle.exb_network.specs.Networks.{tree_of, world_of}
-use Rattle.exb_resting.specs.Flight.Showing.{left_at}
-use Rattle.exb_resting.specs.Rest.Playing.{counted_in}
+use Rattle.exb_motion.specs.Runs.Playing.{counted_in}
 use Rattle.exb_schedule.specs.Playing.{letters_in}
 use Rattle.exb_schedule.specs.Worlds.{network_of}
 use Rattle.exb_shelf.specs.Files.{Files}

@@ -1,22 +1,22 @@
 //! The plan of a change.
 ghost use Rattle.std.specs.Prelude.{◌≡◌, map, IfOk, OnOk, OnErr};
 ghost use Rattle.exb_model.specs.Setup.{Limits};
-ghost use Rattle.exb_plans.specs.Sets.{seen};
+ghost use Rattle.exb_changing.specs.Planning.Sets.{seen};
 ghost use Rattle.exb_plan.specs.Spaces.{held_by, HasSpaces};
-ghost use Rattle.exb_plans.specs.Plans.{own_channel, new_channel, with_channel, without_channel, freed_channel, number_of, prepare_with, cleanup_with};
-ghost use Rattle.exb_plans.specs.Making.{seen_group, IsAnyExtended};
+ghost use Rattle.exb_changing.specs.Planning.Plans.{own_channel, new_channel, with_channel, without_channel, freed_channel, number_of, prepare_with, cleanup_with};
+ghost use Rattle.exb_changing.specs.Planning.Making.{seen_group, IsAnyExtended};
 ghost use Rattle.exb_plan.specs.Working.{IsAlike, CanClaim, CanClaimUp, HasUp, SpacesOf, prepare_by, claimed_by, change_with};
 
 use crate::asks::{put_create, put_delete};
 use crate::claims::{claim_channel, claim_groups, free_channel, free_groups};
 use crate::group_asks::put_groups;
+use exb_changing::{Change, GroupAt, Number, SetAt, Step};
 use exb_csp::AskAt;
 use exb_model::list::List;
 use exb_model::memory::NoMemory;
 use exb_model::port::PortId;
 use exb_model::tree::Tree;
 use exb_numbers::Spaces;
-use exb_plans::{Change, GroupAt, Number, SetAt, Step};
 use std::alloc::Global;
 
 // The channel of a port that goes down; 0 where none does.

@@ -1,16 +1,16 @@
 //! What is asked for the rows of groups.
 ghost use Rattle.std.specs.Prelude.{◌≡◌, ℕ, ◌<◌, ◌++◌, map, IfOk, OnOk};
-ghost use Rattle.exb_plans.specs.Asks.{rows_at, group_asks};
-ghost use Rattle.exb_plans.specs.Making.{seen_group};
+ghost use Rattle.exb_changing.specs.Planning.Asks.{rows_at, group_asks};
+ghost use Rattle.exb_changing.specs.Planning.Making.{seen_group};
 ghost use Rattle.exb_plan.specs.Working.{row_of_covered, rows_of_covered};
 
 use crate::asks::put_messages;
+use exb_changing::{GroupAt, Step};
 use exb_csp::{AskAt, GroupRow};
 use exb_model::list::List;
 use exb_model::memory::NoMemory;
 use exb_model::port_set::PortSet;
 use exb_model::tree::Tree;
-use exb_plans::{GroupAt, Step};
 use std::alloc::Global;
 
 /// A group's number, and the ports with a port of its set in their subtree.

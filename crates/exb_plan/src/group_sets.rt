@@ -5,16 +5,16 @@ ghost use Rattle.exb_model.specs.Tree.{Shape};
 ghost use Rattle.exb_model.specs.Refusals.{all_vids, both_kinds};
 ghost use Rattle.exb_config.specs.Tables.{bridge_of};
 ghost use Rattle.exb_plan.specs.Branches.{AreBranches, IsAmong};
-ghost use Rattle.exb_plans.specs.Sets.{with_set_at, parts_below, sets_of, seen};
+ghost use Rattle.exb_changing.specs.Planning.Sets.{with_set_at, parts_below, sets_of, seen};
 
 use crate::branches::Branches;
 use crate::parts::put_kinds;
+use exb_changing::SetAt;
 use exb_config::Config;
 use exb_model::memory::NoMemory;
 use exb_model::port_set::PortSet;
 use exb_model::tree::Tree;
 use exb_model::vlan::Vid;
-use exb_plans::SetAt;
 use indexmap::IndexSet;
 use std::alloc::Global;
 

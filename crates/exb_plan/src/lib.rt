@@ -3,8 +3,8 @@
 //! groups that go and the sets that come, what the bridge asks of its extenders before the change takes effect and after
 //! it, which numbers it claims and which it frees. Which these are is told by what the command touches, the parts of the VLANs
 //! and static entries which it changes: how often each group's set is a part is counted, so no set of another VLAN is
-//! looked at. Upwards it promises exactly the rows, sets, lists, numbers and plans that `exb_plans` defines. It stands on
-//! `exb_plans`, `exb_numbers`, `exb_config`, `exb_csp` and `exb_model`.
+//! looked at. Upwards it promises exactly the rows, sets, lists, numbers and plans that `exb_changing` defines. It stands on
+//! `exb_changing`, `exb_numbers`, `exb_config`, `exb_csp` and `exb_model`.
 #![tactic(auto)]
 
 pub mod asks;

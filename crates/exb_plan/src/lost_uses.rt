@@ -3,11 +3,11 @@ ghost use Rattle.std.specs.Prelude.{◌≡◌, ℕ, ◌-◌, ◌≤◌, ◌<◌,
 ghost use Rattle.std.specs.List.{All};
 ghost use Rattle.exb_model.specs.Tree.{is_cascade};
 ghost use Rattle.exb_numbers.specs.Spaces.{has_space};
-ghost use Rattle.exb_plans.specs.Sets.{PortsAt, seen};
+ghost use Rattle.exb_changing.specs.Planning.Sets.{PortsAt, seen};
 ghost use Rattle.exb_plan.specs.Spaces.{held_by};
-ghost use Rattle.exb_plans.specs.Between.{group_at, gone_at, gone_groups};
+ghost use Rattle.exb_changing.specs.Planning.Between.{group_at, gone_at, gone_groups};
 ghost use Rattle.exb_plan.specs.Working.{IsPlaced};
-ghost use Rattle.exb_plans.specs.Making.{seen_group};
+ghost use Rattle.exb_changing.specs.Planning.Making.{seen_group};
 ghost use Rattle.exb_plan.specs.Rising.{is_among, IsRising};
 ghost use Rattle.exb_plan.specs.Recount.{AreOwn};
 ghost use Rattle.exb_plan.specs.LostUses.{is_left, AreGroups, AreLeft, AreInUse};
@@ -15,10 +15,10 @@ ghost use Rattle.exb_plan.specs.LostUses.{is_left, AreGroups, AreLeft, AreInUse}
 use crate::group_uses::GroupUses;
 use crate::groups::is_cascade;
 use crate::rising::put_rising;
+use exb_changing::{GroupAt, SetAt};
 use exb_model::memory::NoMemory;
 use exb_model::tree::Tree;
 use exb_numbers::Spaces;
-use exb_plans::{GroupAt, SetAt};
 use std::alloc::Global;
 
 // Puts the group of a part among rising numbers, if it is below that bridge port and has no use.

@@ -7,14 +7,14 @@ ghost use Rattle.exb_model.specs.Configuration.{Bridge};
 ghost use Rattle.exb_model.specs.Refusals.{Source, both_kinds};
 ghost use Rattle.exb_plan.specs.Branches.{AreBranches, IsPart, IsAmong};
 ghost use Rattle.exb_plan.specs.Parts.{has_ports, Adds};
-ghost use Rattle.exb_plans.specs.Sets.{parts_of, seen};
+ghost use Rattle.exb_changing.specs.Planning.Sets.{parts_of, seen};
 
 use crate::branches::Branches;
 use crate::view::View;
+use exb_changing::SetAt;
 use exb_model::memory::NoMemory;
 use exb_model::port_set::PortSet;
 use exb_model::vlan::{Kind, Vid};
-use exb_plans::SetAt;
 
 // Puts a part, if it has a port.
 fn put(parts: &mut Vec<SetAt>, part: SetAt) -> Result<(), NoMemory>

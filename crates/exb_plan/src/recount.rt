@@ -1,17 +1,17 @@
 //! How the uses of groups follow the parts that go and come.
 ghost use Rattle.std.specs.Prelude.{◌≡◌, ◌^◌, ℕ, ◌-◌, ◌<◌, [], ◌∷◌, Some, map, IsOk, OnOk};
 ghost use Rattle.std.specs.List.{All};
-ghost use Rattle.exb_plans.specs.Sets.{seen};
+ghost use Rattle.exb_changing.specs.Planning.Sets.{seen};
 ghost use Rattle.exb_plan.specs.Spaces.{held_by};
-ghost use Rattle.exb_plans.specs.Held.{group_in};
+ghost use Rattle.exb_changing.specs.Planning.Held.{group_in};
 ghost use Rattle.exb_plan.specs.Working.{IsPlaced};
 ghost use Rattle.exb_plan.specs.Counted.{count_at};
 ghost use Rattle.exb_plan.specs.Recount.{AreOwn, HavePlaces, HaveRowsOf, AreRaised, AreLowered, AreEnough, AreUnused};
 
 use crate::group_uses::GroupUses;
+use exb_changing::SetAt;
 use exb_model::memory::NoMemory;
 use exb_numbers::Spaces;
-use exb_plans::SetAt;
 
 // A use more of the group of a part's set, if it has one.
 fn raise(uses: &mut GroupUses, spaces: &Spaces, part: &SetAt) -> Result<(), NoMemory>

@@ -1,12 +1,12 @@
 //! The rows of a set of ports.
 ghost use Rattle.std.specs.Prelude.{◌≡◌, IfOk};
 ghost use Rattle.exb_model.specs.Ports.{port_in};
-ghost use Rattle.exb_plans.specs.Rows.{rows_of};
+ghost use Rattle.exb_changing.specs.Planning.Rows.{rows_of};
 
+use exb_changing::Row;
 use exb_model::memory::NoMemory;
 use exb_model::port_set::PortSet;
 use exb_model::tree::Tree;
-use exb_plans::Row;
 use std::alloc::Global;
 
 /// One row for each extender with a port of the set in its subtree, by depth and number: the ports whose

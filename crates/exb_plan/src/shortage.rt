@@ -3,17 +3,17 @@ ghost use Rattle.std.specs.Prelude.{◌≡◌, ◌^◌, ℕ, ◌+◌, ◌-◌, �
 ghost use Rattle.exb_model.specs.Tree.{is_cascade};
 ghost use Rattle.exb_model.specs.Setup.{Limits};
 ghost use Rattle.exb_numbers.specs.Spaces.{has_space};
-ghost use Rattle.exb_plans.specs.Sets.{PortsAt, seen};
+ghost use Rattle.exb_changing.specs.Planning.Sets.{PortsAt, seen};
 ghost use Rattle.exb_plan.specs.Working.{AreLimited};
-ghost use Rattle.exb_plans.specs.Making.{how_many, is_at, short_by, short_at};
+ghost use Rattle.exb_changing.specs.Planning.Making.{how_many, is_at, short_by, short_at};
 ghost use Rattle.exb_plan.specs.Counted.{used_at};
 
 use crate::group_uses::GroupUses;
 use crate::groups::is_cascade;
+use exb_changing::SetAt;
 use exb_model::event::Cause;
 use exb_model::tree::Tree;
 use exb_numbers::Spaces;
-use exb_plans::SetAt;
 
 // How many of the sets are below a bridge port.
 fn count_at(sets: &[SetAt], bridge_port: u8) -> u64

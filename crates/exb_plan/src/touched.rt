@@ -7,14 +7,15 @@ ghost use Rattle.exb_model.specs.Refusals.{both_kinds};
 ghost use Rattle.exb_config.specs.Tables.{bridge_of};
 ghost use Rattle.exb_plan.specs.Branches.{AreBranches, IsAmong};
 ghost use Rattle.exb_plan.specs.Parts.{has_ports, Adds};
-ghost use Rattle.exb_plans.specs.Sets.{seen};
-ghost use Rattle.exb_plans.specs.Touched.{has_port, sources_of_entry, touched_before, touched_after, parts_before as parts_touched_before, parts_after as parts_touched_after};
+ghost use Rattle.exb_changing.specs.Planning.Sets.{seen};
+ghost use Rattle.exb_changing.specs.Planning.Touched.{has_port, sources_of_entry, touched_before, touched_after, parts_before as parts_touched_before, parts_after as parts_touched_after};
 ghost use Rattle.exb_plan.specs.TouchedSources.{is_of, sources_of_vlans, vlans_touched, entry_touched};
 
 use crate::branches::Branches;
 use crate::parts::{put_kind, put_kinds};
 use crate::pending::Pending;
 use crate::view::View;
+use exb_changing::SetAt;
 use exb_config::Config;
 use exb_model::address::Mac;
 use exb_model::command::Command;
@@ -24,7 +25,6 @@ use exb_model::port_set::PortSet;
 use exb_model::rules::StaticAt;
 use exb_model::tree::Tree;
 use exb_model::vlan::Vid;
-use exb_plans::SetAt;
 use std::alloc::Global;
 
 // Puts the parts of a VLAN's members among some ports, in the kind in which a port of these is a member.

@@ -2,21 +2,21 @@
 ghost use Rattle.std.specs.Prelude.{◌≡◌, not, filter, map, IfOk};
 ghost use Rattle.std.specs.List.{All};
 ghost use Rattle.exb_config.specs.Tables.{bridge_of};
-ghost use Rattle.exb_plans.specs.Sets.{seen};
+ghost use Rattle.exb_changing.specs.Planning.Sets.{seen};
 ghost use Rattle.exb_plan.specs.Spaces.{held_by};
-ghost use Rattle.exb_plans.specs.Held.{HoldsNeeded};
+ghost use Rattle.exb_changing.specs.Planning.Held.{HoldsNeeded};
 ghost use Rattle.exb_plan.specs.Working.{IsPlaced, SpacesOf};
-ghost use Rattle.exb_plans.specs.Making.{has_group};
+ghost use Rattle.exb_changing.specs.Planning.Making.{has_group};
 ghost use Rattle.exb_plan.specs.TouchedSets.{AreTouched};
 
 use crate::group_sets::each_once;
 use crate::touched::{parts_after, parts_before};
+use exb_changing::SetAt;
 use exb_config::Config;
 use exb_model::command::Command;
 use exb_model::memory::NoMemory;
 use exb_model::tree::Tree;
 use exb_numbers::Spaces;
-use exb_plans::SetAt;
 use std::alloc::Global;
 
 /// What a command touches.

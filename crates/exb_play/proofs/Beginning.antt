@@ -12,7 +12,7 @@ use Rattle.exb_model.specs.Tree.{Shape, is_external}
 use Rattle.exb_merge.specs.declared.programme.Programme.{Programme}
 use Rattle.exb_merge.specs.declared.replays.Replays.{Replays}
 use Rattle.exb_merge.specs.Replays.{AreReplays, HasPort, Standing, ids_in, left_in, number_of, standings}
-use Rattle.exb_resting.specs.Motion.Playing.{IsTimely}
+use Rattle.exb_motion.specs.Playing.{IsTimely}
 use Rattle.exb_schedule.specs.Playing.{letters_in}
 use Rattle.exb_shelf.specs.Files.{Files}
 use Rattle.exb_shelf.specs.Shelf.{Id}

@@ -12,15 +12,14 @@ use Rattle.exb_model.specs.Learning.{learned}
 use Rattle.exb_model.specs.Texts.{capture_text, journal_text, record_text}
 use Rattle.exb_model.specs.Traces.{TraceLine}
 use Rattle.exb_model.specs.Tree.{Shape, is_external}
-use Rattle.exb_machine.specs.Worlds.{Left as Leaving}
-use Rattle.exb_resting.specs.Motion.Playing.{IsTimely}
+use Rattle.exb_machine.specs.Worlds.{Left as Leaving, left_at}
+use Rattle.exb_motion.specs.Playing.{IsTimely}
 use Rattle.exb_network.specs.Networks.{Network}
 use Rattle.exb_network.specs.Worlds.{all_left}
 use Rattle.exb_network.specs.declared.log.Left.{Left}
-use Rattle.exb_resting.specs.Rest.Playing.{HasWrittenFront, RunsWriteFronts}
+use Rattle.exb_motion.specs.Runs.Playing.{HasWrittenFront, RunsWriteFronts}
 use Rattle.exb_schedule.specs.Playing.{HasPlayed as IsPlayedBy}
 use Rattle.exb_shelf.specs.Files.{Files}
-use Rattle.exb_resting.specs.Flight.Showing.{left_at}
 use Rattle.exb_text.specs.declared.output.Output.{Output}
 use Rattle.exb_inputs.specs.declared.fault.Fault.{Fault}
 use Rattle.exb_writers.specs.declared.counted.Counted.{Counted}

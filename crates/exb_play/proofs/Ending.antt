@@ -15,12 +15,11 @@ use Rattle.exb_counters.specs.Counters.{count_text}
 use Rattle.exb_machine.specs.Runs.Passed.{passed_over}
 use Rattle.exb_wiring.specs.Counting.{CountsGoOn}
 use Rattle.exb_machine.specs.Telling.{all_told}
-use Rattle.exb_machine.specs.Worlds.{Left}
-use Rattle.exb_resting.specs.Motion.Playing.{IsTimely}
+use Rattle.exb_machine.specs.Worlds.{Left, left_at}
+use Rattle.exb_motion.specs.Playing.{IsTimely}
 use Rattle.exb_network.specs.Networks.{Network}
-use Rattle.exb_resting.specs.Rest.Playing.{HasWrittenIn, PlaysIn, RunsAreUnderWay, RunsSayPassed, RunsWriteEagerly, RunsWriteLegally}
+use Rattle.exb_motion.specs.Runs.Playing.{HasWrittenIn, PlaysIn, RunsAreUnderWay, RunsSayPassed, RunsWriteEagerly, RunsWriteLegally}
 use Rattle.exb_schedule.specs.Playing.{HasPlayed}
-use Rattle.exb_resting.specs.Flight.Showing.{left_at}
 use Rattle.exb_tracing.specs.Runs.{RunsTellLegally}
 use Rattle.exb_play.specs.Outputs.{IsTraceOf}
 use Rattle.exb_writers.specs.Texts.{output_text, text_so_far}

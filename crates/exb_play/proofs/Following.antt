@@ -23,7 +23,7 @@ use Rattle.exb_merge.specs.declared.programme.Programme.{Programme}
 use Rattle.exb_merge.specs.Programmes.{IsComing, IsProgramme, played_with}
 use Rattle.exb_merge.specs.Replays.{left_in}
 use Rattle.exb_network.specs.Networks.{Network, world_of, bounds_of as limits_in}
-use Rattle.exb_resting.specs.Rest.Playing.{RunsAreUnderWay, arrivals_in}
+use Rattle.exb_motion.specs.Runs.Playing.{RunsAreUnderWay, arrivals_in}
 use Rattle.exb_schedule.specs.declared.segment.Arrival.{Arrival as Given}
 use Rattle.exb_schedule.specs.Playing.{CanAll, CanFrom, HasPlayed, IsSegment, arrive, arrived, gives, letters_in, orders, tick}
 use Rattle.exb_shelf.specs.Files.{Files}

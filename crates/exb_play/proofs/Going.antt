@@ -17,8 +17,8 @@ use Rattle.exb_merge.specs.Programmes.{IsProgramme, played_with}
 use Rattle.exb_merge.specs.Replays.{ids_in}
 use Rattle.exb_network.specs.Networks.{Network, world_of, IsQuiet, IsSame}
 use Rattle.exb_network.specs.Worlds.{all_left}
-use Rattle.exb_resting.specs.Flight.Showing.{left_at}
-use Rattle.exb_resting.specs.Rest.Playing.{RunsAreFew, RunsAreUnderWay}
+use Rattle.exb_machine.specs.Worlds.{left_at}
+use Rattle.exb_motion.specs.Runs.Playing.{RunsAreFew, RunsAreUnderWay}
 use Rattle.exb_schedule.specs.declared.segment.Arrival.{Arrival}
 use Rattle.exb_schedule.specs.Playing.{HasPlayed, IsSegment, letters_in}
 use Rattle.exb_shelf.specs.Files.{Files, SameFiles}

@@ -13,8 +13,8 @@ use Rattle.exb_model.specs.Traces.{TraceLine}
 use Rattle.exb_model.specs.Tree.{Shape, is_external}
 use Rattle.exb_legal.specs.Inputs.{frames_in}
 use Rattle.exb_machine.specs.Telling.{all_told}
-use Rattle.exb_resting.specs.Flight.Showing.{left_at}
-use Rattle.exb_resting.specs.Motion.Playing.{IsTimely}
+use Rattle.exb_machine.specs.Worlds.{left_at}
+use Rattle.exb_motion.specs.Playing.{IsTimely}
 use Rattle.exb_tracing.specs.SoFar.{HasToldSoFar, IsHistorySoFar, IsTraceSoFar, RunsTellSoFar}
 use Rattle.exb_shelf.specs.Files.{Files}
 use Rattle.exb_text.specs.declared.output.Output.{Output}

@@ -7,12 +7,11 @@ use Rattle.exb_counters.specs.Counters.{octets_of}
 use Rattle.exb_counters.specs.Counting.{FitsCounts, nothing, plus_events}
 use Rattle.exb_machine.specs.Runs.Passed.{StepsTellPassed}
 use Rattle.exb_machine.specs.Stepping.{Stepped}
-use Rattle.exb_machine.specs.Worlds.{Left as Leaving}
+use Rattle.exb_machine.specs.Worlds.{Left as Leaving, left_at}
 use Rattle.exb_network.specs.declared.log.Left.{Left}
 use Rattle.exb_network.specs.Networks.{Network}
 use Rattle.exb_network.specs.Worlds.{all_left}
-use Rattle.exb_resting.specs.Flight.Showing.{left_at}
-use Rattle.exb_resting.specs.Rest.Playing.{RunsAreFew, RunsAreUnderWay, arrivals_in}
+use Rattle.exb_motion.specs.Runs.Playing.{RunsAreFew, RunsAreUnderWay, arrivals_in}
 use Rattle.exb_schedule.specs.Playing.{HasPlayed}
 use Rattle.exb_text.specs.Tallies.{counts_of, nothing_counted}
 use Rattle.exb_writers.specs.declared.counted.Counted.{Counted}

@@ -18,7 +18,7 @@ use Rattle.exb_model.proofs.LegalPlays.{all_arrivals}
 use Rattle.exb_legal.specs.Inputs.{IsInTime, RelayFits}
 use Rattle.exb_legal.specs.Reading.{Each}
 use Rattle.exb_legal.specs.TextLaws.{IsOfNumbers}
-use Rattle.exb_resting.specs.Rest.Playing.{arrivals_in}
+use Rattle.exb_motion.specs.Runs.Playing.{arrivals_in}
 use Rattle.exb_play.specs.Playing.{CanBeKept}
 
 -- ---- numbers

@@ -9,12 +9,11 @@ use Rattle.exb_model.specs.Setup.{NamesExternal}
 use Rattle.exb_model.specs.Texts.{counted}
 use Rattle.exb_model.specs.Traces.{TraceLine}
 use Rattle.exb_model.specs.Tree.{Shape}
-use Rattle.exb_machine.specs.Worlds.{Left}
+use Rattle.exb_machine.specs.Worlds.{Left, left_at}
 use Rattle.exb_network.specs.Networks.{Network, IsQuiet}
-use Rattle.exb_resting.specs.Rest.Playing.{arrivals_in}
+use Rattle.exb_motion.specs.Runs.Playing.{arrivals_in}
 use Rattle.exb_schedule.specs.Playing.{HasPlayed as IsPlayedBy}
 use Rattle.exb_shelf.specs.Files.{Files}
-use Rattle.exb_resting.specs.Flight.Showing.{left_at}
 use Rattle.exb_legal.specs.Spelled.{HasBytes}
 use Rattle.exb_legal.specs.TextLaws.{IsOfNumbers}
 use Rattle.exb_writers.specs.declared.counted.Counted.{Counted}

@@ -15,8 +15,8 @@ use Rattle.exb_merge.specs.Replays.{AreReplays, HasPort, ids_in, left_in, number
 use Rattle.exb_merge.specs.Streams.{Stream}
 use Rattle.exb_network.specs.Networks.{Network}
 use Rattle.exb_network.specs.Worlds.{all_left}
-use Rattle.exb_resting.specs.Motion.Playing.{IsTimely}
-use Rattle.exb_resting.specs.Rest.Playing.{arrivals_in}
+use Rattle.exb_motion.specs.Playing.{IsTimely}
+use Rattle.exb_motion.specs.Runs.Playing.{arrivals_in}
 use Rattle.exb_schedule.specs.declared.segment.Arrival.{Arrival}
 use Rattle.exb_schedule.specs.Playing.{CanAll, HasPlayed as IsPlayedBy, IsSegment, arrived, gives}
 use Rattle.exb_shelf.specs.Files.{Files}

@@ -10,7 +10,7 @@ ghost use Rattle.exb_legal.specs.Spelled.{HasBytes};
 ghost use Rattle.exb_legal.specs.TextLaws.{IsOfNumbers};
 ghost use Rattle.exb_machine.specs.Worlds.{Left as Leaving};
 ghost use Rattle.exb_merge.specs.Replays.{ids_in, HasPort, standings};
-ghost use Rattle.exb_resting.specs.Motion.Playing.{IsTimely};
+ghost use Rattle.exb_motion.specs.Playing.{IsTimely};
 ghost use Rattle.exb_network.specs.Networks.{world_of, IsQuiet, IsSame};
 ghost use Rattle.exb_network.specs.Worlds.{all_left};
 ghost use Rattle.exb_schedule.specs.Playing.{CanAll, HasPlayed as IsPlayedBy, IsSegment, gives, letters_in};
@@ -41,11 +41,11 @@ use exb_fate::Fate;
 use exb_inputs::Fault;
 use exb_machine::laws::steps_tell_passed;
 use exb_model::setup::Timed;
-use exb_outputs::{Manifest, Outputs};
-use exb_resting::laws::rest::{
+use exb_motion::laws::runs::{
     runs_are_few, runs_are_under_way, runs_say_passed, runs_write_eagerly, runs_write_fronts,
     runs_write_legally,
 };
+use exb_outputs::{Manifest, Outputs};
 use exb_schedule::{Arrival, World, WorldFault, count_left, eager, open, seeded};
 use exb_shelf::Shelf;
 use exb_tracing::laws::{runs_tell_legally, runs_tell_so_far};

@@ -10,9 +10,9 @@ use Rattle.exb_machine.specs.Settling.{Played, is_settled, round, run, settled_w
 use Rattle.exb_machine.specs.Stepping.{stepped}
 use Rattle.exb_machine.specs.Worlds.{World, Step, Arrive, Carry, Control, Lose, Beat, Tick, Order, Mark, next_beat}
 use Rattle.exb_network.specs.Networks.{Network, world_of, tree_of, bounds_of}
-use Rattle.exb_resting.specs.Rest.Rounds.{RoundsAreWhole}
-use Rattle.exb_resting.specs.Rest.Settles.{beginning}
-use Rattle.exb_resting.proofs.Rest.Steady.{beat_is_counted, step_stays}
+use Rattle.exb_resting.specs.Rounds.{RoundsAreWhole}
+use Rattle.exb_motion.specs.Runs.Settles.{beginning}
+use Rattle.exb_resting.proofs.Steady.{beat_is_counted, step_stays}
 use Rattle.exb_schedule.specs.Lasting.{SettlingCounts}
 use Rattle.exb_schedule.specs.Reached.{Reached}
 use Rattle.exb_schedule.specs.Rounds.{rounds_made}

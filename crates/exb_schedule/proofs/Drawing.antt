@@ -15,12 +15,12 @@ use Rattle.exb_machine.specs.Stepping.{stepped}
 use Rattle.exb_machine.specs.Worlds.{World, Step, Arrive, Tick, Order, at}
 use Rattle.exb_machine.specs.Runs.Laws.{IsMove}
 use Rattle.exb_flight.specs.Items.{Each}
-use Rattle.exb_resting.specs.Motion.Given.{Given, Came, Told, given_by, arrivals_of, commands_of}
-use Rattle.exb_resting.specs.Motion.Kept.{given_in}
-use Rattle.exb_resting.specs.Motion.Playing.{seconds_by, seconds_in, IsUnmarked}
+use Rattle.exb_motion.specs.Given.{Given, Came, Told, given_by, arrivals_of, commands_of}
+use Rattle.exb_motion.specs.Kept.{given_in}
+use Rattle.exb_motion.specs.Playing.{seconds_by, seconds_in, IsUnmarked}
 use Rattle.exb_network.specs.Networks.{Network, world_of, tree_of, bounds_of, IsStepped}
 use Rattle.exb_network.specs.Sites.{Site}
-use Rattle.exb_resting.specs.Rest.Settles.{MayTake}
+use Rattle.exb_motion.specs.Runs.Settles.{MayTake}
 use Rattle.exb_schedule.specs.declared.segment.Arrival.{Arrival}
 use Rattle.exb_schedule.specs.Drawing.{left_of, seconds_of, MayCome, MayComeAll, MayOrderAll, IsReady, HasDrawn, Keeps}
 use Rattle.exb_schedule.specs.Playing.{arrived, arrive, gives, orders, CanAll, CanFrom, IsSegment}

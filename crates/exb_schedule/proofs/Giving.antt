@@ -18,12 +18,12 @@ use Rattle.exb_machine.specs.Worlds.{World, Step, Tick}
 use Rattle.exb_machine.specs.Runs.Laws.{IsMove}
 use Rattle.exb_machine.specs.Runs.Sessions as machine
 use Rattle.exb_flight.specs.Items.{Each}
-use Rattle.exb_resting.specs.Motion.Given.{arrivals_of, commands_of}
-use Rattle.exb_resting.specs.Motion.Kept.{given_in}
-use Rattle.exb_resting.specs.Motion.Playing.{seconds_in, IsUnmarked, Gives, IsEager, nothing_given}
+use Rattle.exb_motion.specs.Given.{arrivals_of, commands_of}
+use Rattle.exb_motion.specs.Kept.{given_in}
+use Rattle.exb_motion.specs.Playing.{seconds_in, IsUnmarked, Gives, IsEager, nothing_given}
 use Rattle.exb_network.specs.Networks.{Network, world_of, tree_of, bounds_of, IsStepped}
 use Rattle.exb_network.specs.Sites.{Site, limits_in}
-use Rattle.exb_resting.specs.Rest.Settles.{MayTake}
+use Rattle.exb_motion.specs.Runs.Settles.{MayTake}
 use Rattle.exb_schedule.specs.declared.segment.Arrival.{Arrival}
 use Rattle.exb_schedule.specs.Moves.{HasRun}
 use Rattle.exb_schedule.specs.Playing.{arrived, arrive, gives, letters_in, orders, tick, CanAll, CanFrom, IsSegment}

@@ -11,7 +11,7 @@ use Rattle.exb_machine.specs.Worlds.{World, Way, Up, Down, Beat}
 use Rattle.exb_network.specs.Networks.{Network, world_of, tree_of, bounds_of, IsStepped}
 use Rattle.exb_network.specs.Sites.{Site, limits_in}
 use Rattle.exb_network.specs.Turns.{order_of}
-use Rattle.exb_resting.specs.Rest.Settles.{MayTake}
+use Rattle.exb_motion.specs.Runs.Settles.{MayTake}
 use Rattle.exb_schedule.specs.Moves.{HasGone}
 use Rattle.exb_schedule.specs.Rounds.{goes_along, goes_one_way, HasAsked, Leads}
 use Rattle.exb_schedule.proofs.Leading.{Play, gone_step, gone_world, leads_begin, leads_by, leads_end, leads_on, leads_same, run_step, then_end}

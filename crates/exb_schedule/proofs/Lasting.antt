@@ -11,24 +11,23 @@ use Rattle.exb_model.specs.Tree.{Shape, IsTree}
 use Rattle.exb_machine.specs.Allowing.{IsSettled}
 use Rattle.exb_machine.specs.Settling.{Played, round, run}
 use Rattle.exb_machine.specs.Stepping.{Stepped}
-use Rattle.exb_machine.specs.Worlds.{World, Step, Left}
+use Rattle.exb_machine.specs.Worlds.{World, Step, Left, left_at}
 use Rattle.exb_machine.specs.Runs.Laws.{IsMove}
 use Rattle.exb_machine.specs.Runs.Passed.{passed_over}
 use Rattle.exb_machine.specs.Runs.Sessions.{Each}
 use Rattle.exb_network.specs.Networks.{Network, world_of, tree_of, bounds_of}
 use Rattle.exb_network.specs.Sites.{Site, limits_in}
 use Rattle.exb_network.specs.Worlds.{all_left}
-use Rattle.exb_resting.specs.Flight.Promises.{IsClean}
-use Rattle.exb_resting.specs.Flight.Showing.{left_at}
-use Rattle.exb_resting.specs.Motion.Given.{Given, given_by, arrivals_of, basis_with}
-use Rattle.exb_resting.specs.Motion.Kept.{basis_of, given_in}
-use Rattle.exb_resting.specs.Motion.Onward.{IsGiving, IsOneEvent, StandsOwesNothing, told_of}
-use Rattle.exb_resting.specs.Motion.Stands.{Stands}
-use Rattle.exb_resting.specs.Rest.Costs.{costs}
-use Rattle.exb_resting.specs.Rest.Crossing.{IsAlone}
-use Rattle.exb_resting.specs.Rest.Rounds.{IsGoneThrough, IsWhole, RoundsAreWhole}
-use Rattle.exb_resting.specs.Rest.Settles.{MayTakeAll, reached_by}
-use Rattle.exb_resting.specs.Rest.Standing.{IsCopyOut, IsLasting, IsLastingWith, IsPlayedStanding, RunsLast, EventsLast, PlaysStand}
+use Rattle.exb_flying.specs.Promises.{IsClean}
+use Rattle.exb_motion.specs.Given.{Given, given_by, arrivals_of, basis_with}
+use Rattle.exb_motion.specs.Kept.{basis_of, given_in}
+use Rattle.exb_motion.specs.Onward.{IsGiving, IsOneEvent, StandsOwesNothing, told_of}
+use Rattle.exb_motion.specs.Stands.{Stands}
+use Rattle.exb_resting.specs.Costs.{costs}
+use Rattle.exb_motion.specs.Runs.Crossing.{IsAlone}
+use Rattle.exb_resting.specs.Rounds.{IsGoneThrough, IsWhole, RoundsAreWhole}
+use Rattle.exb_motion.specs.Runs.Settles.{MayTakeAll, reached_by}
+use Rattle.exb_motion.specs.Runs.Standing.{IsCopyOut, IsLasting, IsLastingWith, IsPlayedStanding, RunsLast, EventsLast, PlaysStand}
 use Rattle.exb_schedule.specs.Lasting.{EventsGoOn, PlayedStands, RoundsAreWholeOn, RunsStayStanding, SettledOwes}
 use Rattle.exb_schedule.specs.Moves.{HasRun, IsMoved}
 use Rattle.exb_schedule.specs.Reached.{Reached}

@@ -15,8 +15,8 @@ use Rattle.exb_machine.proofs.Words.{each_append}
 use Rattle.exb_network.specs.Networks.{Network, world_of, tree_of, bounds_of, IsSame, IsStepped}
 use Rattle.exb_network.specs.Sites.{Site, limits_in}
 use Rattle.exb_network.specs.Worlds.{all_left}
-use Rattle.exb_resting.specs.Rest.Costs.{costs}
-use Rattle.exb_resting.specs.Rest.Settles.{MayTake, MayTakeAll}
+use Rattle.exb_resting.specs.Costs.{costs}
+use Rattle.exb_motion.specs.Runs.Settles.{MayTake, MayTakeAll}
 use Rattle.exb_schedule.specs.Moves.{IsMoved, HasRun, HasGone}
 use Rattle.exb_schedule.specs.Rounds.{HasAsked, Leads}
 use Rattle.exb_schedule.proofs.Runs.{then_nothing, then_then, one_step, take_then}

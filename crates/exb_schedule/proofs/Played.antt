@@ -7,10 +7,9 @@ use Rattle.exb_model.specs.FlatBridge.{flat}
 use Rattle.exb_model.specs.History.{◌then◌}
 use Rattle.exb_model.specs.Input.{basis_of}
 use Rattle.exb_model.specs.LegalHistory.{Legal}
-use Rattle.exb_machine.specs.Worlds.{World, Left}
+use Rattle.exb_machine.specs.Worlds.{World, Left, left_at}
 use Rattle.exb_machine.specs.Runs.Passed.{passed_over}
-use Rattle.exb_resting.specs.Flight.Showing.{left_at}
-use Rattle.exb_resting.specs.Rest.Playing.{IsCopyOfAny, IsUnderWay, HasWritten, HasWrittenIn, RunsAreUnderWay, RunsSayPassed, RunsWriteEagerly, RunsWriteLegally, arrivals_in}
+use Rattle.exb_motion.specs.Runs.Playing.{IsCopyOfAny, IsUnderWay, HasWritten, HasWrittenIn, RunsAreUnderWay, RunsSayPassed, RunsWriteEagerly, RunsWriteLegally, arrivals_in}
 use Rattle.exb_schedule.specs.Laws.{PlayedIsUnderWay, PlayedSaysPassed, PlayedWritesEagerly, PlayedWritesLegally}
 
 pub played_is_under_way : RunsAreUnderWay → PlayedIsUnderWay

@@ -13,10 +13,10 @@ use Rattle.exb_machine.specs.Runs.Laws.{IsMove}
 use Rattle.exb_machine.specs.Runs.Sessions as machine
 use Rattle.exb_machine.proofs.Rounds.{run_then}
 use Rattle.exb_flight.specs.Items.{Each}
-use Rattle.exb_resting.specs.Motion.Kept.{HasVid, given_in}
-use Rattle.exb_resting.specs.Motion.Playing.{seconds_in, IsUnmarked, Plays, PlayAll, IsEager, marked_each, nothing_given}
-use Rattle.exb_resting.specs.Rest.Playing.{begin_of, AreOrdered, PlaysIn}
-use Rattle.exb_resting.specs.Rest.Settles.{MayTakeAll}
+use Rattle.exb_motion.specs.Kept.{HasVid, given_in}
+use Rattle.exb_motion.specs.Playing.{seconds_in, IsUnmarked, Plays, PlayAll, IsEager, marked_each, nothing_given}
+use Rattle.exb_motion.specs.Runs.Playing.{begin_of, AreOrdered, PlaysIn}
+use Rattle.exb_motion.specs.Runs.Settles.{MayTakeAll}
 use Rattle.exb_schedule.proofs.Runs.{take_then}
 
 -- ---- marks

@@ -9,12 +9,12 @@ use Rattle.exb_machine.specs.Allowing.{IsSettled}
 use Rattle.exb_machine.specs.Settling.{is_settled, planned_in, played_before, round, settled_within, Played}
 use Rattle.exb_machine.specs.Worlds.{World}
 use Rattle.exb_machine.proofs.Rounds.{settled_exactly}
-use Rattle.exb_resting.proofs.Motion.Setups.{setups_may_start}
+use Rattle.exb_motion.proofs.Setups.{setups_may_start}
 use Rattle.exb_network.specs.Networks.{Network, world_of, tree_of, bounds_of, IsSame}
 use Rattle.exb_network.specs.Sites.{Site, limits_in}
-use Rattle.exb_resting.specs.Rest.Costs.{costs}
-use Rattle.exb_resting.specs.Rest.Laws.{RoundsSpend}
-use Rattle.exb_resting.specs.Rest.Settles.{Settles, reached_by}
+use Rattle.exb_resting.specs.Costs.{costs}
+use Rattle.exb_resting.specs.Laws.{RoundsSpend}
+use Rattle.exb_motion.specs.Runs.Settles.{Settles, reached_by}
 use Rattle.exb_schedule.specs.Reached.{Reached}
 use Rattle.exb_schedule.specs.Rounds.{HasAsked, HasSettled, Leads, rounds_made}
 use Rattle.exb_schedule.proofs.Leading.{costs_then, same_then, leads_begin, leads_by, leads_end, leads_on, gone_world}

@@ -10,8 +10,8 @@ use Rattle.exb_link.specs.Words.{is_control}
 use Rattle.exb_machine.specs.Settling.{Direction, directions, gone_through, goes_through, is_settled, nothing, round, run, settled_within, through_all, Played, played_before}
 use Rattle.exb_machine.specs.Stepping.{words_on}
 use Rattle.exb_machine.specs.Worlds.{World, Way}
-use Rattle.exb_resting.specs.Rest.Costs.{costs}
-use Rattle.exb_resting.specs.Rest.Laws.{RoundsSpend, IsPassing}
+use Rattle.exb_resting.specs.Costs.{costs}
+use Rattle.exb_resting.specs.Laws.{RoundsSpend, IsPassing}
 use Rattle.exb_schedule.specs.Rounds.{rounds_made}
 
 no_verdicts : (n : ℕ) (way : Way) (k : ℕ) (xs : List Word) → (gone_through n way k xs []).verdicts ≡ []

@@ -6,7 +6,7 @@ use Rattle.exb_model.specs.Tree.{Shape}
 use Rattle.exb_machine.specs.Settling.{nothing, followed_by, run}
 use Rattle.exb_machine.specs.Stepping.{Stepped, stepped}
 use Rattle.exb_machine.specs.Worlds.{World, Step, Left, Line}
-use Rattle.exb_resting.specs.Rest.Settles.{MayTakeAll}
+use Rattle.exb_motion.specs.Runs.Settles.{MayTakeAll}
 
 pub then_nothing : (a : Stepped) → followed_by a (nothing a.world) ≡ a
 then_nothing a =

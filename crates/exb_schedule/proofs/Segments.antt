@@ -17,13 +17,13 @@ use Rattle.exb_machine.specs.Worlds.{World, Step, Mark, Left, first_world}
 use Rattle.exb_machine.proofs.Rounds.{run_then}
 use Rattle.exb_machine.specs.Runs.Laws.{IsMove}
 use Rattle.exb_machine.specs.Runs.Sessions.{Each}
-use Rattle.exb_resting.specs.Motion.Kept.{HasVid}
-use Rattle.exb_resting.specs.Motion.Playing.{Gives}
+use Rattle.exb_motion.specs.Kept.{HasVid}
+use Rattle.exb_motion.specs.Playing.{Gives}
 use Rattle.exb_network.specs.Networks.{Network, world_of, tree_of, bounds_of, IsQuiet, IsStepped}
 use Rattle.exb_network.specs.Sites.{Site, limits_in}
 use Rattle.exb_network.specs.Worlds.{all_left}
-use Rattle.exb_resting.specs.Rest.Playing.{begin_of}
-use Rattle.exb_resting.specs.Rest.Settles.{MayTake, MayTakeAll}
+use Rattle.exb_motion.specs.Runs.Playing.{begin_of}
+use Rattle.exb_motion.specs.Runs.Settles.{MayTake, MayTakeAll}
 use Rattle.exb_schedule.specs.Moves.{HasRun, HasGone, HasEnded}
 use Rattle.exb_schedule.specs.declared.segment.Arrival.{Arrival}
 use Rattle.exb_schedule.specs.Playing.{gives, HasPlayed, IsSegment}

@@ -16,13 +16,13 @@ use Rattle.exb_network.specs.declared.world.WorldFault.TheVariants as fault
 use Rattle.exb_network.specs.Networks.{Network, world_of, tree_of, bounds_of, IsStepped}
 use Rattle.exb_network.specs.Sites.{Site, limits_in}
 use Rattle.exb_network.specs.Worlds.{all_left}
-use Rattle.exb_resting.specs.Flight.Promises.{IsClean}
-use Rattle.exb_resting.specs.Motion.Events.{TellsOf, StepsTellSo}
-use Rattle.exb_resting.specs.Motion.Given.{Given, given_by}
-use Rattle.exb_resting.specs.Motion.Going.{SetupsGoOn}
-use Rattle.exb_resting.specs.Motion.Kept.{MayStart, MayDo, MayDoAll, Kept, SetupsMayStart, BeginsKept, StepsKeep, KeptStands, KeptIsClean, StandsGoOn, basis_of}
-use Rattle.exb_resting.specs.Motion.Stands.{Stands}
-use Rattle.exb_resting.specs.Rest.Settles.{MayTake, RunsStayLow, beginning, reached_by}
+use Rattle.exb_flying.specs.Promises.{IsClean}
+use Rattle.exb_motion.specs.Events.{TellsOf, StepsTellSo}
+use Rattle.exb_motion.specs.Given.{Given, given_by}
+use Rattle.exb_motion.specs.Going.{SetupsGoOn}
+use Rattle.exb_motion.specs.Kept.{MayStart, MayDo, MayDoAll, Kept, SetupsMayStart, BeginsKept, StepsKeep, KeptStands, KeptIsClean, StandsGoOn, basis_of}
+use Rattle.exb_motion.specs.Stands.{Stands}
+use Rattle.exb_motion.specs.Runs.Settles.{MayTake, RunsStayLow, beginning, reached_by}
 use Rattle.exb_schedule.specs.Reached.{IsReached}
 use Rattle.exb_schedule.specs.Standing.{HasCleanLinks, IsLeft, SetupsBeginStanding, StepsLeaveStanding}
 use Rattle.exb_schedule.proofs.Reaching.{ok_awake}

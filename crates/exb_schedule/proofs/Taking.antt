@@ -7,7 +7,7 @@ use Rattle.exb_link.specs.declared.word.Word.{Word}
 use Rattle.exb_link.specs.Words.{is_control, leading}
 use Rattle.exb_machine.specs.Worlds.{Way, Control, Lose}
 use Rattle.exb_network.specs.Networks.{Network, world_of, tree_of, IsStepped}
-use Rattle.exb_resting.specs.Rest.Settles.{MayTake}
+use Rattle.exb_motion.specs.Runs.Settles.{MayTake}
 use Rattle.exb_schedule.specs.Rounds.{HasTaken}
 use Rattle.exb_schedule.proofs.Leading.{run_nothing, run_step}
 

@@ -5,9 +5,9 @@ use Rattle.exb_model.specs.Setup.{NamesExternal}
 use Rattle.exb_model.specs.Tree.{Shape, is_external}
 use Rattle.exb_machine.specs.Worlds.{Step, at}
 use Rattle.exb_flight.specs.Items.{Each}
-use Rattle.exb_resting.specs.Motion.Given.{arrivals_of, commands_of}
-use Rattle.exb_resting.specs.Motion.Kept.{given_in}
-use Rattle.exb_resting.specs.Motion.Playing.{seconds_in, IsUnmarked}
+use Rattle.exb_motion.specs.Given.{arrivals_of, commands_of}
+use Rattle.exb_motion.specs.Kept.{given_in}
+use Rattle.exb_motion.specs.Playing.{seconds_in, IsUnmarked}
 use Rattle.exb_network.specs.Networks.{Network, world_of, tree_of}
 use Rattle.exb_schedule.specs.declared.rest.Rest.{Rest}
 use Rattle.exb_schedule.specs.declared.segment.Arrival.{Arrival}

@@ -12,20 +12,19 @@ use Rattle.exb_model.specs.Tree.{is_extender, is_external}
 use Rattle.exb_link.specs.declared.word.Word.{Word}
 use Rattle.exb_machine.specs.Allowing.{IsSettled}
 use Rattle.exb_machine.specs.Settling.{Direction, directions, round, run}
-use Rattle.exb_machine.specs.Worlds.{Way, Step, Left, next_beat}
+use Rattle.exb_machine.specs.Worlds.{Way, Step, Left, next_beat, left_at}
 use Rattle.exb_machine.specs.Runs.Laws.{IsMove}
 use Rattle.exb_machine.specs.Runs.Passed.{passed_over}
 use Rattle.exb_machine.specs.Runs.Sessions.{Each}
 use Rattle.exb_network.specs.Networks.{Network, world_of, tree_of, bounds_of}
 use Rattle.exb_network.specs.Worlds.{all_left}
-use Rattle.exb_resting.specs.Flight.Promises.{owed_at}
-use Rattle.exb_resting.specs.Flight.Showing.{left_at}
-use Rattle.exb_resting.specs.Motion.Given.{Given, given_by, arrivals_of, commands_of, basis_with}
-use Rattle.exb_resting.specs.Motion.Kept.{basis_of, given_in}
-use Rattle.exb_resting.specs.Motion.Onward.{IsGiving, told_of}
-use Rattle.exb_resting.specs.Rest.Playing.{arrivals_in}
-use Rattle.exb_resting.specs.Rest.Rounds.{IsGoneThrough, is_lost}
-use Rattle.exb_resting.specs.Rest.Standing.{IsCopyOut}
+use Rattle.exb_flying.specs.Promises.{owed_at}
+use Rattle.exb_motion.specs.Given.{Given, given_by, arrivals_of, commands_of, basis_with}
+use Rattle.exb_motion.specs.Kept.{basis_of, given_in}
+use Rattle.exb_motion.specs.Onward.{IsGiving, told_of}
+use Rattle.exb_motion.specs.Runs.Playing.{arrivals_in}
+use Rattle.exb_resting.specs.Rounds.{IsGoneThrough, is_lost}
+use Rattle.exb_motion.specs.Runs.Standing.{IsCopyOut}
 use Rattle.exb_schedule.specs.Moves.{HasRun, IsMoved}
 use Rattle.exb_schedule.specs.Playing.{HasPlayed}
 use Rattle.exb_schedule.specs.Reached.{Reached}

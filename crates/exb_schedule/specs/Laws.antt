@@ -6,9 +6,9 @@ use Rattle.exb_model.specs.Traces.{TraceLine}
 use Rattle.exb_machine.specs.Stepping.{Stepped}
 use Rattle.exb_machine.specs.Worlds.{Left}
 use Rattle.exb_machine.specs.Runs.Passed.{passed_over}
-use Rattle.exb_resting.specs.Motion.Playing.{IsTimely}
+use Rattle.exb_motion.specs.Playing.{IsTimely}
 use Rattle.exb_network.specs.Networks.{Network, world_of}
-use Rattle.exb_resting.specs.Rest.Playing.{IsUnderWay, HasWritten, HasWrittenIn}
+use Rattle.exb_motion.specs.Runs.Playing.{IsUnderWay, HasWritten, HasWrittenIn}
 use Rattle.exb_schedule.specs.Playing.{HasPlayed}
 
 -- where a network is, what was told and what has left

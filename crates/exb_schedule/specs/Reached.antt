@@ -3,9 +3,9 @@ use Rattle.std.specs.Prelude.{◌≡◌, false, List, All}
 use Rattle.exb_model.specs.declared.setup.Setup.{Setup}
 use Rattle.exb_model.specs.Setup.{IsValid, shape_of, limits_of}
 use Rattle.exb_machine.specs.Worlds.{Step}
-use Rattle.exb_resting.specs.Motion.Kept.{HasVid}
+use Rattle.exb_motion.specs.Kept.{HasVid}
 use Rattle.exb_network.specs.Networks.{Network, world_of, tree_of, bounds_of}
-use Rattle.exb_resting.specs.Rest.Settles.{MayTakeAll, beginning, reached_by}
+use Rattle.exb_motion.specs.Runs.Settles.{MayTakeAll, beginning, reached_by}
 
 -- It began with a valid setup, and came here by steps that may be made.
 pub record Reached (n : Network) : Type 0 where

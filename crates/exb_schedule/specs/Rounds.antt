@@ -11,7 +11,7 @@ use Rattle.exb_machine.specs.Worlds.{World, Way}
 use Rattle.exb_machine.specs.Runs.Sessions.{Each}
 use Rattle.exb_network.specs.Networks.{Network, world_of, tree_of, bounds_of}
 use Rattle.exb_network.specs.Turns.{order_of}
-use Rattle.exb_resting.specs.Rest.Costs.{cost_of, costs}
+use Rattle.exb_resting.specs.Costs.{cost_of, costs}
 use Rattle.exb_schedule.specs.declared.remaining.Remaining.{Remaining}
 use Rattle.exb_schedule.specs.Moves.{HasGone, HasRun}
 

@@ -7,9 +7,9 @@ use Rattle.exb_machine.specs.Worlds.{Step, Mark}
 use Rattle.exb_machine.specs.Runs.Laws.{IsMove}
 use Rattle.exb_machine.specs.Runs.Sessions as machine
 use Rattle.exb_flight.specs.Items.{Each}
-use Rattle.exb_resting.specs.Motion.Given.{arrivals_of, commands_of}
-use Rattle.exb_resting.specs.Motion.Kept.{given_in}
-use Rattle.exb_resting.specs.Motion.Playing.{seconds_in, IsUnmarked}
+use Rattle.exb_motion.specs.Given.{arrivals_of, commands_of}
+use Rattle.exb_motion.specs.Kept.{given_in}
+use Rattle.exb_motion.specs.Playing.{seconds_in, IsUnmarked}
 use Rattle.exb_network.specs.Networks.{Network, world_of, tree_of, bounds_of}
 use Rattle.exb_schedule.specs.declared.segment.Arrival.{Arrival}
 use Rattle.exb_schedule.specs.Drawing.{seconds_of}

@@ -7,12 +7,12 @@ use Rattle.exb_model.specs.Setup.{IsValid, limits_of, shape_of, start_of}
 use Rattle.exb_machine.specs.Worlds.{Step, Left, first_world}
 use Rattle.exb_network.specs.Networks.{Network, world_of, tree_of, bounds_of, IsStepped}
 use Rattle.exb_network.specs.Worlds.{all_left}
-use Rattle.exb_resting.specs.Flight.Promises.{IsClean}
-use Rattle.exb_resting.specs.Motion.Events.{TellsOf}
-use Rattle.exb_resting.specs.Motion.Given.{Given, given_by}
-use Rattle.exb_resting.specs.Motion.Kept.{HasVid}
-use Rattle.exb_resting.specs.Motion.Stands.{Stands}
-use Rattle.exb_resting.specs.Rest.Settles.{MayTake}
+use Rattle.exb_flying.specs.Promises.{IsClean}
+use Rattle.exb_motion.specs.Events.{TellsOf}
+use Rattle.exb_motion.specs.Given.{Given, given_by}
+use Rattle.exb_motion.specs.Kept.{HasVid}
+use Rattle.exb_motion.specs.Stands.{Stands}
+use Rattle.exb_motion.specs.Runs.Settles.{MayTake}
 use Rattle.exb_schedule.specs.Reached.{Reached}
 
 -- The network stands after what was given, what was told and what has left, from a configuration on.

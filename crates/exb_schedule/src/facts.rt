@@ -2,7 +2,7 @@
 ghost use Rattle.std.specs.Prelude.{All};
 ghost use Rattle.exb_machine.specs.Runs.Laws.{HasBytes};
 ghost use Rattle.exb_network.specs.Networks.{step_of};
-ghost use Rattle.exb_resting.specs.Motion.Kept.{HasVid, HasVidIn};
+ghost use Rattle.exb_motion.specs.Kept.{HasVid, HasVidIn};
 
 use exb_model::bytes::are_bytes;
 use exb_model::command::Command;

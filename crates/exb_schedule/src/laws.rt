@@ -3,14 +3,15 @@ ghost use Rattle.exb_schedule.specs.Lasting.{EventsGoOn, PlayedStands, RoundsAre
 ghost use Rattle.exb_schedule.specs.Laws.{PlayedIsUnderWay, PlayedSaysPassed, PlayedWritesEagerly, PlayedWritesLegally};
 ghost use Rattle.exb_schedule.specs.Standing.{SetupsBeginStanding, StepsLeaveStanding};
 
-use exb_resting::laws::motion::{
+use exb_motion::laws::motion::{
     begins_kept, kept_is_clean, kept_stands, setups_go_on, setups_may_start, stands_go_on,
     stands_owes_nothing, steps_keep, steps_tell_so,
 };
-use exb_resting::laws::rest::{
-    events_last, plays_stand, rounds_are_whole, runs_are_under_way, runs_last, runs_say_passed,
-    runs_stay_low, runs_write_eagerly, runs_write_legally,
+use exb_motion::laws::runs::{
+    events_last, plays_stand, runs_are_under_way, runs_last, runs_say_passed, runs_stay_low,
+    runs_write_eagerly, runs_write_legally,
 };
+use exb_resting::laws::rounds_are_whole;
 
 /// The network of a valid setup stands as it begins, with nothing given, told or left, and its links are clean.
 pub fn setups_begin_standing()

@@ -3,7 +3,7 @@
 //! The eager run plays one event after another, and settles after each; a seeded one draws the order within each second. Upwards it
 //! promises that what is told and what leaves, from the opening on, is what one VLAN bridge does over a history that the input
 //! allows, in the eager run over the eager one. It moves the network of `exb_network` by single steps alone, and stands on the laws
-//! of worlds in motion and of settling (`exb_resting`), and on the fates of `exb_fate`.
+//! of worlds in motion (`exb_motion`) and of settling (`exb_resting`), and on the fates of `exb_fate`.
 #![tactic(auto)]
 
 mod arriving;

@@ -3,9 +3,9 @@ ghost use Rattle.std.specs.Prelude.{All, ◌≡◌, ◌↔◌, true, false, IfOk
 ghost use Rattle.exb_model.specs.Setup.{IsValid, limits_of, shape_of, start_of};
 ghost use Rattle.exb_machine.specs.Allowing.{Can};
 ghost use Rattle.exb_machine.specs.Worlds.{first_world};
-ghost use Rattle.exb_resting.specs.Motion.Kept.{HasVid};
+ghost use Rattle.exb_motion.specs.Kept.{HasVid};
 ghost use Rattle.exb_network.specs.Networks.{world_of, tree_of, bounds_of, step_of, IsQuiet, IsSame, IsStepped};
-ghost use Rattle.exb_resting.specs.Rest.Settles.{MayTake};
+ghost use Rattle.exb_motion.specs.Runs.Settles.{MayTake};
 ghost use Rattle.exb_schedule.specs.Reached.{IsReached};
 
 use crate::facts::{brings_bytes, brings_vlan, name_vlans};

@@ -6,7 +6,7 @@ ghost use Rattle.exb_machine.specs.Allowing.{Can, IsSettled};
 ghost use Rattle.exb_machine.specs.Worlds.{Mark, Order};
 ghost use Rattle.exb_network.specs.Networks.{world_of, tree_of, bounds_of, IsSame, IsStepped};
 ghost use Rattle.exb_network.specs.Worlds.{all_left};
-ghost use Rattle.exb_resting.specs.Rest.Settles.{MayTake};
+ghost use Rattle.exb_motion.specs.Runs.Settles.{MayTake};
 ghost use Rattle.exb_schedule.specs.Moves.{HasEnded, HasRun};
 ghost use Rattle.exb_schedule.specs.Playing.{gives, letters_in, orders, CanAll, HasPlayed, PlaysOn};
 ghost use Rattle.exb_schedule.specs.Segments.{IsPlayedOut};

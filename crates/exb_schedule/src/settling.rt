@@ -9,8 +9,9 @@ ghost use Rattle.exb_schedule.specs.Worlds.{network_of};
 
 use crate::delivery::round;
 use crate::world::World;
+use exb_motion::laws::runs::settles;
 use exb_network::WorldFault;
-use exb_resting::laws::rest::{rounds_spend, settles};
+use exb_resting::laws::rounds_spend;
 
 /// Makes rounds until nothing is left to be done, and answers how many, a number that stays at 2^64 - 1: at most 64 for each verdict
 /// other than Pass that the fate may still give, for each exchange that is planned, and for one more.

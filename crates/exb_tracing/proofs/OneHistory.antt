@@ -17,7 +17,7 @@ use Rattle.exb_model.specs.Tree.{Shape, opening_ports}
 use Rattle.exb_model.proofs.LegalPlays.{all_arrivals}
 use Rattle.exb_legal.specs.Reading.{Each}
 use Rattle.exb_flight.specs.Items as items
-use Rattle.exb_resting.proofs.Motion.InFile.{IsNumberedIn, segments_numbered}
+use Rattle.exb_motion.proofs.InFile.{IsNumberedIn, segments_numbered}
 use Rattle.exb_legal.specs.Entries.{history_in, IsFound, IsRecorded}
 use Rattle.exb_legal.specs.TextLaws.{IsOfNumbers}
 use Rattle.exb_tracing.specs.TextLaws.{InputsReadBack, InputsHaveOneHistory}

@@ -14,18 +14,17 @@ use Rattle.exb_relay.specs.Laws.{SendsAreWords, SendsLeaveAsFlat}
 use Rattle.exb_changing.specs.Runs.Journal.{StepsTell}
 use Rattle.exb_machine.specs.Allowing.{IsSettled}
 use Rattle.exb_machine.specs.Stepping.{Stepped, stepped}
-use Rattle.exb_machine.specs.Worlds.{World, Step, Arrive, Carry, Control, Lose, Beat, Tick, Order, Mark, Left}
+use Rattle.exb_machine.specs.Worlds.{World, Step, Arrive, Carry, Control, Lose, Beat, Tick, Order, Mark, Left, left_at}
 use Rattle.exb_machine.specs.Runs.Sessions.{Each}
 use Rattle.exb_machine.specs.Runs.Written.{StepsStayWritten}
-use Rattle.exb_resting.specs.Flight.Showing.{left_at}
-use Rattle.exb_resting.specs.Motion.Given.{arrivals_of}
-use Rattle.exb_resting.specs.Motion.Kept.{given_in as given_of}
-use Rattle.exb_resting.specs.Motion.Marks.{SettledIsOrderly}
-use Rattle.exb_resting.specs.Motion.Playing.{marked_each}
-use Rattle.exb_resting.specs.Rest.Playing.{begin_of}
-use Rattle.exb_resting.specs.Rest.Settles.{MayTakeAll}
-use Rattle.exb_resting.proofs.Rest.Playing.{start, settled, runs_write_legally}
-use Rattle.exb_resting.proofs.Rest.UnderWay.{all_given}
+use Rattle.exb_motion.specs.Given.{arrivals_of}
+use Rattle.exb_motion.specs.Kept.{given_in as given_of}
+use Rattle.exb_motion.specs.Marks.{SettledIsOrderly}
+use Rattle.exb_motion.specs.Playing.{marked_each}
+use Rattle.exb_motion.specs.Runs.Playing.{begin_of}
+use Rattle.exb_motion.specs.Runs.Settles.{MayTakeAll}
+use Rattle.exb_motion.proofs.Runs.Playing.{start, settled, runs_write_legally}
+use Rattle.exb_motion.proofs.Runs.UnderWay.{all_given}
 use Rattle.exb_legal.specs.Entering.{NamesRecord, Enters, IsStep, AreSteps}
 use Rattle.exb_tracing.specs.Laws.{given_in}
 use Rattle.exb_legal.specs.LegalTrace.{LegalTrace}

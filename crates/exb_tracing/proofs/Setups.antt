@@ -12,16 +12,16 @@ use Rattle.exb_machine.specs.Runs.Laws.{MayMakeAll, BeginsSound}
 use Rattle.exb_machine.specs.Runs.Written.{StepsStayWritten}
 use Rattle.exb_flight.specs.Facts.{CleanUp}
 use Rattle.exb_flight.specs.Items.{Word as Datum, Each}
-use Rattle.exb_resting.specs.Flight.Promises.{IsClean}
-use Rattle.exb_resting.proofs.Flight.Carrying.{data_first, link_there}
-use Rattle.exb_resting.specs.Motion.Kept.{MayStart, MayDoAll, basis_of}
-use Rattle.exb_resting.proofs.Motion.Going.{runs_go_on}
-use Rattle.exb_resting.proofs.Motion.Keeping.{kept_pvids}
-use Rattle.exb_resting.proofs.Motion.Rising.{record_of}
-use Rattle.exb_resting.proofs.Motion.Setups.{setups_may_start}
-use Rattle.exb_resting.proofs.Motion.Standing.{kept_is_clean}
-use Rattle.exb_resting.specs.Rest.Settles.{MayTakeAll, beginning}
-use Rattle.exb_resting.proofs.Rest.Settles.{IsRun, step_run, begins, runs_stay_low}
+use Rattle.exb_flying.specs.Promises.{IsClean}
+use Rattle.exb_flying.proofs.Carrying.{data_first, link_there}
+use Rattle.exb_motion.specs.Kept.{MayStart, MayDoAll, basis_of}
+use Rattle.exb_motion.proofs.Going.{runs_go_on}
+use Rattle.exb_motion.proofs.Keeping.{kept_pvids}
+use Rattle.exb_motion.proofs.Rising.{record_of}
+use Rattle.exb_motion.proofs.Setups.{setups_may_start}
+use Rattle.exb_motion.proofs.Standing.{kept_is_clean}
+use Rattle.exb_motion.specs.Runs.Settles.{MayTakeAll, beginning}
+use Rattle.exb_motion.proofs.Runs.Settles.{IsRun, step_run, begins, runs_stay_low}
 use Rattle.exb_tracing.specs.Laws.{BeginsTraced, BeginsServing, RunsStayTraced, SettledIsLegal, StaysReady, given_in}
 use Rattle.exb_machine.specs.Telling.{all_told}
 use Rattle.exb_tracing.specs.Ready.{AreHeld}

@@ -23,29 +23,28 @@ use Rattle.exb_machine.specs.Allowing.{IsSettled}
 use Rattle.exb_machine.specs.Settling.{run}
 use Rattle.exb_machine.specs.Stepping.{Stepped}
 use Rattle.exb_machine.specs.Telling.{all_told}
-use Rattle.exb_machine.specs.Worlds.{Step}
+use Rattle.exb_machine.specs.Worlds.{Step, left_at}
 use Rattle.exb_machine.specs.Runs.Written.{StepsStayWritten}
 use Rattle.exb_flight.specs.Items.{Each}
 use Rattle.exb_legal.specs.Entries.{journal_of}
 use Rattle.exb_legal.specs.Inputs.{frames_in, frames_out}
 use Rattle.exb_legal.specs.LegalTrace.{LegalTrace}
-use Rattle.exb_resting.specs.Flight.Showing.{left_at}
-use Rattle.exb_resting.specs.Motion.Given.{Given, Came, Told, arrivals_of, indices_of, basis_with}
-use Rattle.exb_resting.specs.Motion.Given.{arrivals_at as given_at}
-use Rattle.exb_resting.specs.Motion.Going.{MayGoAll}
-use Rattle.exb_resting.specs.Motion.Kept.{MayStart, HasVid, MayDoAll, given_in, basis_of}
-use Rattle.exb_resting.specs.Motion.Playing.{nothing_given, marked_each, PlayAll, IsTimely}
-use Rattle.exb_resting.specs.Rest.Playing.{begin_of}
-use Rattle.exb_resting.proofs.Motion.Going.{runs_go_on}
-use Rattle.exb_resting.proofs.Motion.Histories.{HasCommands, longer, decided_stays, entered_stays, flat_stays, opening_stays}
-use Rattle.exb_resting.proofs.Motion.InFile.{IsNumberedIn, segments_numbered, in_file_order}
-use Rattle.exb_resting.proofs.Motion.Keeping.{kept_commands}
-use Rattle.exb_resting.proofs.Motion.Numbers.{Front, HasCommand, GoOn, go_on, front_range, all_commands}
-use Rattle.exb_resting.proofs.Motion.Playing.{IsLegal, legal, mapped}
-use Rattle.exb_resting.proofs.Motion.Setups.{setups_may_start}
-use Rattle.exb_resting.proofs.Motion.Standing.{begins_kept, runs_kept, settled_owes_nothing}
-use Rattle.exb_resting.proofs.Rest.Playing.{kept, settled, start as begun_of}
-use Rattle.exb_resting.proofs.Rest.Settles.{runs_stay_low}
+use Rattle.exb_motion.specs.Given.{Given, Came, Told, arrivals_of, indices_of, basis_with}
+use Rattle.exb_motion.specs.Given.{arrivals_at as given_at}
+use Rattle.exb_motion.specs.Going.{MayGoAll}
+use Rattle.exb_motion.specs.Kept.{MayStart, HasVid, MayDoAll, given_in, basis_of}
+use Rattle.exb_motion.specs.Playing.{nothing_given, marked_each, PlayAll, IsTimely}
+use Rattle.exb_motion.specs.Runs.Playing.{begin_of}
+use Rattle.exb_motion.proofs.Going.{runs_go_on}
+use Rattle.exb_motion.proofs.Histories.{HasCommands, longer, decided_stays, entered_stays, flat_stays, opening_stays}
+use Rattle.exb_motion.proofs.InFile.{IsNumberedIn, segments_numbered, in_file_order}
+use Rattle.exb_motion.proofs.Keeping.{kept_commands}
+use Rattle.exb_motion.proofs.Numbers.{Front, HasCommand, GoOn, go_on, front_range, all_commands}
+use Rattle.exb_motion.proofs.Playing.{IsLegal, legal, mapped}
+use Rattle.exb_motion.proofs.Setups.{setups_may_start}
+use Rattle.exb_motion.proofs.Standing.{begins_kept, runs_kept, settled_owes_nothing}
+use Rattle.exb_motion.proofs.Runs.Playing.{kept, settled, start as begun_of}
+use Rattle.exb_motion.proofs.Runs.Settles.{runs_stay_low}
 use Rattle.exb_tracing.specs.Laws.{given_in as came_in}
 use Rattle.exb_tracing.specs.Runs.{SetupsTellLegally}
 use Rattle.exb_tracing.specs.SoFar.{LegalUpTo, RunsTellSoFar}

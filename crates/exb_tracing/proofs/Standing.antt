@@ -25,16 +25,16 @@ use Rattle.exb_machine.specs.Runs.Simulation.{system_of}
 use Rattle.exb_machine.specs.Runs.Stamped.{IsStamped}
 use Rattle.exb_machine.specs.Runs.Written.{StepsStayWritten}
 use Rattle.exb_machine.proofs.Fixing.{forget}
-use Rattle.exb_resting.specs.Flight.Tokens.{datum_by, data_words}
-use Rattle.exb_resting.proofs.Flight.Carrying.{link_there}
+use Rattle.exb_flying.specs.Tokens.{datum_by, data_words}
+use Rattle.exb_flying.proofs.Carrying.{link_there}
 use Rattle.exb_flight.specs.Items as items
-use Rattle.exb_resting.specs.Motion.Given.{Given, Came, Told, arrivals_at, arrivals_of}
-use Rattle.exb_resting.specs.Motion.Kept.{MayStart, MayDoAll, basis_of}
-use Rattle.exb_resting.specs.Motion.Stands.{IsWordOf, Stands}
-use Rattle.exb_resting.proofs.Motion.Going.{going}
-use Rattle.exb_resting.proofs.Motion.Setups.{setups_may_start}
-use Rattle.exb_resting.specs.Rest.Settles.{MayTakeAll, beginning, reached_by}
-use Rattle.exb_resting.proofs.Rest.Settles.{IsRun, begins, go_after, run_after, step_run}
+use Rattle.exb_motion.specs.Given.{Given, Came, Told, arrivals_at, arrivals_of}
+use Rattle.exb_motion.specs.Kept.{MayStart, MayDoAll, basis_of}
+use Rattle.exb_motion.specs.Stands.{IsWordOf, Stands}
+use Rattle.exb_motion.proofs.Going.{going}
+use Rattle.exb_motion.proofs.Setups.{setups_may_start}
+use Rattle.exb_motion.specs.Runs.Settles.{MayTakeAll, beginning, reached_by}
+use Rattle.exb_motion.proofs.Runs.Settles.{IsRun, begins, go_after, run_after, step_run}
 use Rattle.exb_tracing.specs.Laws.{RunsStayTraced, StaysReady}
 use Rattle.exb_tracing.specs.Ready.{AwaitsNext, IsRecord, Serves, ServesStations}
 use Rattle.exb_tracing.specs.Runs.{StandingStaysTraced}

@@ -9,12 +9,12 @@ use Rattle.exb_machine.specs.Settling.{run}
 use Rattle.exb_machine.specs.Stepping.{Stepped}
 use Rattle.exb_machine.specs.Worlds.{Step, Left}
 use Rattle.exb_model.specs.Traces.{TraceLine}
-use Rattle.exb_resting.specs.Motion.Given.{Given, arrivals_of}
-use Rattle.exb_resting.specs.Motion.Kept.{HasVid}
-use Rattle.exb_resting.specs.Motion.Playing.{IsTimely}
-use Rattle.exb_resting.specs.Motion.Stands.{Stands}
-use Rattle.exb_resting.specs.Rest.Playing.{PlaysIn}
-use Rattle.exb_resting.specs.Rest.Settles.{MayTakeAll, beginning, reached_by}
+use Rattle.exb_motion.specs.Given.{Given, arrivals_of}
+use Rattle.exb_motion.specs.Kept.{HasVid}
+use Rattle.exb_motion.specs.Playing.{IsTimely}
+use Rattle.exb_motion.specs.Stands.{Stands}
+use Rattle.exb_motion.specs.Runs.Playing.{PlaysIn}
+use Rattle.exb_motion.specs.Runs.Settles.{MayTakeAll, beginning, reached_by}
 use Rattle.exb_tracing.specs.Laws.{given_in, told_after}
 use Rattle.exb_legal.specs.Inputs.{frames_in, frames_out}
 use Rattle.exb_legal.specs.LegalTrace.{LegalTrace}

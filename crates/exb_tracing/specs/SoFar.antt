@@ -14,9 +14,9 @@ use Rattle.exb_machine.specs.Telling.{all_told}
 use Rattle.exb_legal.specs.Entries.{journal_of}
 use Rattle.exb_legal.specs.Inputs.{frames_in, frames_out}
 use Rattle.exb_legal.specs.LegalTrace.{LegalTrace}
-use Rattle.exb_resting.specs.Flight.Showing.{left_at}
-use Rattle.exb_resting.specs.Motion.Playing.{IsTimely}
-use Rattle.exb_resting.specs.Rest.Playing.{PlaysIn}
+use Rattle.exb_machine.specs.Worlds.{left_at}
+use Rattle.exb_motion.specs.Playing.{IsTimely}
+use Rattle.exb_motion.specs.Runs.Playing.{PlaysIn}
 
 -- A history of the opening and of these segments, each ended by Settled. Its rules are those of a legal history, which plays all segments
 -- of its input.

@@ -1,7 +1,6 @@
 //! Sessions: what an asker takes as its answer and when a request is due again, and what an answerer executes.
 use crate::words::{bytes_of, expect, number};
-use exb_csp::{Request, RequestKind, Response, read};
-use exb_session::{Answerer, Asker, Taken};
+use exb_csp::{Answerer, Asker, Request, RequestKind, Response, Taken, read};
 use std::alloc::Global;
 use std::process::Abort;
 

@@ -25,32 +25,31 @@ use Rattle.exb_changing.specs.Runs.Journal.{StepsTell}
 use Rattle.exb_machine.specs.Allowing.{Can, IsSettled}
 use Rattle.exb_machine.specs.Settling.{run, followed_by}
 use Rattle.exb_machine.specs.Stepping.{Stepped, stepped}
-use Rattle.exb_machine.specs.Worlds.{World, Step, Arrive, Order, Tick, Mark}
+use Rattle.exb_machine.specs.Worlds.{World, Step, Arrive, Order, Tick, Mark, left_at}
 use Rattle.exb_machine.specs.Runs.Laws.{IsMove}
 use Rattle.exb_machine.specs.Runs.Passed.{passed_over}
 use Rattle.exb_machine.specs.Runs.Sessions as machine
 use Rattle.exb_machine.specs.Runs.Written.{StepsStayWritten}
 use Rattle.exb_machine.proofs.Rounds.{run_then}
-use Rattle.exb_resting.specs.Flight.Showing.{left_at}
-use Rattle.exb_resting.proofs.Flight.Standing.{then_append}
-use Rattle.exb_resting.specs.Motion.Given.{Given, Came, Told, given_by, arrivals_of, arrivals_at, commands_of, basis_with}
-use Rattle.exb_resting.specs.Motion.Kept.{MayStart, HasVid, MayDoAll, given_in, Kept, basis_of}
-use Rattle.exb_resting.specs.Motion.Onward.{IsGiving, told_of, IsOneEvent}
-use Rattle.exb_resting.specs.Motion.Playing.{Plays, nothing_given}
-use Rattle.exb_resting.specs.Motion.Stands.{Stands}
-use Rattle.exb_resting.specs.Rest.Settles.{MayTakeAll, beginning}
-use Rattle.exb_resting.proofs.Motion.Going.{setups_go_on}
-use Rattle.exb_resting.proofs.Motion.Histories.{HasCommands, longer, bridge_stays, learned_stays, flat_stays, opening_stays}
-use Rattle.exb_resting.proofs.Motion.Keeping.{commands_append}
-use Rattle.exb_resting.proofs.Motion.Moving.{its_commands}
-use Rattle.exb_resting.proofs.Motion.Naming.{arrivals_append, arrivals_other, length_here}
-use Rattle.exb_resting.proofs.Motion.OneEvent.{events_go_alone}
-use Rattle.exb_resting.proofs.Motion.Onward.{kept_ageing, stands_owes_nothing}
-use Rattle.exb_resting.proofs.Motion.Passed.{passed_stays, runs_tell_passed}
-use Rattle.exb_resting.proofs.Motion.Playing.{IsMarked, given_both, marked, may_split, each_moves, is_opening, each_risen}
-use Rattle.exb_resting.proofs.Motion.Setups.{setups_may_start}
-use Rattle.exb_resting.proofs.Motion.Standing.{begins_kept, kept_stands, runs_kept}
-use Rattle.exb_resting.proofs.Rest.Settles.{runs_stay_low}
+use Rattle.exb_flying.proofs.Standing.{then_append}
+use Rattle.exb_motion.specs.Given.{Given, Came, Told, given_by, arrivals_of, arrivals_at, commands_of, basis_with}
+use Rattle.exb_motion.specs.Kept.{MayStart, HasVid, MayDoAll, given_in, Kept, basis_of}
+use Rattle.exb_motion.specs.Onward.{IsGiving, told_of, IsOneEvent}
+use Rattle.exb_motion.specs.Playing.{Plays, nothing_given}
+use Rattle.exb_motion.specs.Stands.{Stands}
+use Rattle.exb_motion.specs.Runs.Settles.{MayTakeAll, beginning}
+use Rattle.exb_motion.proofs.Going.{setups_go_on}
+use Rattle.exb_motion.proofs.Histories.{HasCommands, longer, bridge_stays, learned_stays, flat_stays, opening_stays}
+use Rattle.exb_motion.proofs.Keeping.{commands_append}
+use Rattle.exb_motion.proofs.Moving.{its_commands}
+use Rattle.exb_motion.proofs.Naming.{arrivals_append, arrivals_other, length_here}
+use Rattle.exb_motion.proofs.OneEvent.{events_go_alone}
+use Rattle.exb_motion.proofs.Onward.{kept_ageing, stands_owes_nothing}
+use Rattle.exb_motion.proofs.Passed.{passed_stays, runs_tell_passed}
+use Rattle.exb_motion.proofs.Playing.{IsMarked, given_both, marked, may_split, each_moves, is_opening, each_risen}
+use Rattle.exb_motion.proofs.Setups.{setups_may_start}
+use Rattle.exb_motion.proofs.Standing.{begins_kept, kept_stands, runs_kept}
+use Rattle.exb_motion.proofs.Runs.Settles.{runs_stay_low}
 use Rattle.exb_nets.specs.NetHistory.{named_at}
 
 -- ---- steps

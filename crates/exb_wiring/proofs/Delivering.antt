@@ -22,18 +22,17 @@ use Rattle.exb_changing.specs.Runs.Journal.{StepsTell}
 use Rattle.exb_machine.specs.Allowing.{Can, IsSettled}
 use Rattle.exb_machine.specs.Settling.{run, followed_by}
 use Rattle.exb_machine.specs.Stepping.{Stepped, stepped}
-use Rattle.exb_machine.specs.Worlds.{World, Step, Arrive, Carry, Control, Lose, Beat, Tick, Order, Mark, Left}
+use Rattle.exb_machine.specs.Worlds.{World, Step, Arrive, Carry, Control, Lose, Beat, Tick, Order, Mark, Left, left_at}
 use Rattle.exb_machine.specs.Runs.Sessions.{Each}
 use Rattle.exb_machine.specs.Runs.Written.{StepsStayWritten}
 use Rattle.exb_machine.proofs.Rounds.{run_then}
-use Rattle.exb_resting.specs.Flight.Showing.{left_at}
-use Rattle.exb_resting.specs.Motion.Given.{commands_of, basis_with}
-use Rattle.exb_resting.specs.Motion.Kept.{basis_of, given_in}
-use Rattle.exb_resting.specs.Motion.Onward.{IsGiving, told_of}
-use Rattle.exb_resting.specs.Rest.Crossing.{IsAlone, MayCross}
-use Rattle.exb_resting.specs.Rest.Settles.{MayTakeAll, beginning}
-use Rattle.exb_resting.proofs.Motion.Histories.{longer}
-use Rattle.exb_resting.proofs.Rest.Crossing.{commands_send_nothing, leaves_may_cross}
+use Rattle.exb_motion.specs.Given.{commands_of, basis_with}
+use Rattle.exb_motion.specs.Kept.{basis_of, given_in}
+use Rattle.exb_motion.specs.Onward.{IsGiving, told_of}
+use Rattle.exb_motion.specs.Runs.Crossing.{IsAlone, MayCross}
+use Rattle.exb_motion.specs.Runs.Settles.{MayTakeAll, beginning}
+use Rattle.exb_motion.proofs.Histories.{longer}
+use Rattle.exb_motion.proofs.Runs.Crossing.{commands_send_nothing, leaves_may_cross}
 use Rattle.exb_nets.specs.declared.wires.End.{End}
 use Rattle.exb_nets.specs.declared.wires.Wire.{Wire}
 use Rattle.exb_nets.specs.Nets.{Net, IsEnd, IsNet, across, ends_of, far_end, first_or, is_at, is_wired}

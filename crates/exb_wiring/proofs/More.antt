@@ -19,13 +19,12 @@ use Rattle.exb_relay.specs.Laws.{SendsAreWords, SendsLeaveAsFlat}
 use Rattle.exb_changing.specs.Runs.Journal.{StepsTell}
 use Rattle.exb_machine.specs.Settling.{run}
 use Rattle.exb_machine.specs.Stepping.{Stepped, stepped}
-use Rattle.exb_machine.specs.Worlds.{Step, Arrive, Order, Left}
+use Rattle.exb_machine.specs.Worlds.{Step, Arrive, Order, Left, left_at}
 use Rattle.exb_machine.specs.Runs.Sessions.{Each}
 use Rattle.exb_machine.specs.Runs.Written.{StepsStayWritten}
-use Rattle.exb_resting.specs.Flight.Showing.{left_at}
-use Rattle.exb_resting.specs.Rest.Playing.{none_counted}
-use Rattle.exb_resting.proofs.Flight.Standing.{then_append}
-use Rattle.exb_resting.specs.Rest.Settles.{beginning}
+use Rattle.exb_motion.specs.Runs.Playing.{none_counted}
+use Rattle.exb_flying.proofs.Standing.{then_append}
+use Rattle.exb_motion.specs.Runs.Settles.{beginning}
 use Rattle.exb_nets.specs.declared.wires.End.{End}
 use Rattle.exb_nets.specs.Ending.{QueuesEndSoon, named_in}
 use Rattle.exb_nets.specs.Nets.{Net, IsNet, far_end, is_wired}

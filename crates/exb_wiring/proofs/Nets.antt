@@ -21,15 +21,14 @@ use Rattle.exb_changing.specs.Runs.Journal.{StepsTell}
 use Rattle.exb_machine.specs.Allowing.{Can, IsSettled}
 use Rattle.exb_machine.specs.Settling.{run, followed_by}
 use Rattle.exb_machine.specs.Stepping.{Stepped}
-use Rattle.exb_machine.specs.Worlds.{World, Step, Arrive, Order, Tick, Mark}
+use Rattle.exb_machine.specs.Worlds.{World, Step, Arrive, Order, Tick, Mark, left_at}
 use Rattle.exb_machine.specs.Runs.Passed.{passed_over}
 use Rattle.exb_machine.specs.Runs.Sessions.{Each}
 use Rattle.exb_machine.specs.Runs.Written.{StepsStayWritten}
 use Rattle.exb_machine.proofs.Rounds.{run_then}
-use Rattle.exb_resting.specs.Flight.Showing.{left_at}
-use Rattle.exb_resting.specs.Motion.Kept.{HasVid}
-use Rattle.exb_resting.specs.Motion.Onward.{told_of}
-use Rattle.exb_resting.specs.Rest.Settles.{MayTakeAll, beginning}
+use Rattle.exb_motion.specs.Kept.{HasVid}
+use Rattle.exb_motion.specs.Onward.{told_of}
+use Rattle.exb_motion.specs.Runs.Settles.{MayTakeAll, beginning}
 use Rattle.exb_nets.specs.declared.wires.End.{End}
 use Rattle.exb_nets.specs.declared.wires.Wire.{Wire}
 use Rattle.exb_nets.specs.Nets.{Net, IsEnd, IsNet, across, far_end, first_or, is_at, ends_of}

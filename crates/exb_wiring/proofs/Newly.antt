@@ -11,11 +11,11 @@ use Rattle.exb_machine.specs.Runs.Sessions.{Each}
 use Rattle.exb_machine.specs.Settling.{run}
 use Rattle.exb_machine.specs.Stepping.{Stepped}
 use Rattle.exb_machine.specs.Worlds.{Step, Left, Mark}
-use Rattle.exb_resting.specs.Motion.Given.{Given, arrivals_of, commands_of}
-use Rattle.exb_resting.specs.Motion.Kept.{HasVid, given_in}
-use Rattle.exb_resting.specs.Rest.Playing.{PlaysIn, RunsAreFew, RunsAreUnderWay}
-use Rattle.exb_resting.specs.Rest.Settles.{MayTakeAll, beginning}
-use Rattle.exb_resting.proofs.Motion.Playing.{each_moves}
+use Rattle.exb_motion.specs.Given.{Given, arrivals_of, commands_of}
+use Rattle.exb_motion.specs.Kept.{HasVid, given_in}
+use Rattle.exb_motion.specs.Runs.Playing.{PlaysIn, RunsAreFew, RunsAreUnderWay}
+use Rattle.exb_motion.specs.Runs.Settles.{MayTakeAll, beginning}
+use Rattle.exb_motion.proofs.Playing.{each_moves}
 use Rattle.exb_wiring.specs.Playing.{Opens}
 use Rattle.exb_wiring.specs.UnderWay.{OpenedNetsAreNew}
 use Rattle.exb_wiring.proofs.Bridges.{may_append}

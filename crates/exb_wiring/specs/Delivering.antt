@@ -10,8 +10,8 @@ use Rattle.exb_machine.specs.Settling.{run}
 use Rattle.exb_machine.specs.Stepping.{Stepped}
 use Rattle.exb_machine.specs.Worlds.{Step, Arrive, Order}
 use Rattle.exb_machine.specs.Runs.Sessions.{Each}
-use Rattle.exb_resting.specs.Motion.Kept.{HasVid}
-use Rattle.exb_resting.specs.Rest.Settles.{MayTakeAll, beginning}
+use Rattle.exb_motion.specs.Kept.{HasVid}
+use Rattle.exb_motion.specs.Runs.Settles.{MayTakeAll, beginning}
 use Rattle.exb_nets.specs.Nets.{Net, IsNet, is_wired}
 use Rattle.exb_nets.specs.NetHistory.{Crossing, named_at}
 use Rattle.exb_wiring.specs.Playing.{Dones, Between, Handles, Delivers, MayPass, AreOpened, tree_in, limits_in, pass}

@@ -4,8 +4,8 @@ use Rattle.exb_model.specs.FlatBridge.{flat}
 use Rattle.exb_model.specs.History.{◌then◌}
 use Rattle.exb_model.specs.Tree.{is_external}
 use Rattle.exb_machine.specs.Runs.Passed.{passed_over}
-use Rattle.exb_resting.specs.Flight.Showing.{left_at}
-use Rattle.exb_resting.specs.Motion.Kept.{HasVid}
+use Rattle.exb_machine.specs.Worlds.{left_at}
+use Rattle.exb_motion.specs.Kept.{HasVid}
 use Rattle.exb_nets.specs.Nets.{Net, IsNet}
 use Rattle.exb_nets.specs.NetHistory.{Due, Histories, Goes, NetEager, basis_in, dues, openings}
 use Rattle.exb_nets.specs.Order.{AreHere, AreInOrder, AreTimely}

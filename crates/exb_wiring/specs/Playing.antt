@@ -8,12 +8,11 @@ use Rattle.exb_model.specs.Tree.{Shape, external_ports}
 use Rattle.exb_machine.specs.Allowing.{Can, IsSettled}
 use Rattle.exb_machine.specs.Settling.{run, followed_by}
 use Rattle.exb_machine.specs.Stepping.{Stepped}
-use Rattle.exb_machine.specs.Worlds.{World, Step, Arrive, Order, Tick, Mark, Left}
+use Rattle.exb_machine.specs.Worlds.{World, Step, Arrive, Order, Tick, Mark, Left, left_at}
 use Rattle.exb_machine.specs.Runs.Laws.{IsMove}
 use Rattle.exb_machine.specs.Runs.Sessions.{Each}
-use Rattle.exb_resting.specs.Flight.Showing.{left_at}
-use Rattle.exb_resting.specs.Motion.Onward.{IsGiving}
-use Rattle.exb_resting.specs.Rest.Settles.{MayTakeAll, beginning}
+use Rattle.exb_motion.specs.Onward.{IsGiving}
+use Rattle.exb_motion.specs.Runs.Settles.{MayTakeAll, beginning}
 use Rattle.exb_nets.specs.Nets.{Net, far_end}
 use Rattle.exb_nets.specs.NetHistory.{Crossing, Due, crosses, basis_in, due_second}
 

@@ -4,10 +4,9 @@ use Rattle.exb_model.specs.declared.event.Event.{Event}
 use Rattle.exb_model.specs.Input.{Coming, Ordered, Captured}
 use Rattle.exb_model.specs.Tree.{is_external}
 use Rattle.exb_machine.specs.Stepping.{Stepped}
-use Rattle.exb_machine.specs.Worlds.{Left}
+use Rattle.exb_machine.specs.Worlds.{Left, left_at}
 use Rattle.exb_machine.specs.Runs.Sessions.{Each}
-use Rattle.exb_resting.specs.Flight.Showing.{left_at}
-use Rattle.exb_resting.specs.Rest.Playing.{counted_in}
+use Rattle.exb_motion.specs.Runs.Playing.{counted_in}
 use Rattle.exb_nets.specs.Nets.{Net, IsNet, is_wired}
 use Rattle.exb_nets.specs.NetHistory.{Due, due_moment}
 use Rattle.exb_wiring.specs.Playing.{AreOpened, Dones, PlaysOne, tree_in}

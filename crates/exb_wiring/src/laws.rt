@@ -7,9 +7,9 @@ ghost use Rattle.exb_wiring.specs.UnderWay.{EventsAddOne, OpenedNetsAreNew};
 use exb_changing::laws::steps_tell;
 use exb_frame::laws::tag_round_trip;
 use exb_machine::laws::steps_stay_written;
+use exb_motion::laws::runs::{runs_are_few, runs_are_under_way};
 use exb_nets::laws::queues_end_soon;
 use exb_relay::laws::{sends_are_words, sends_leave_as_flat};
-use exb_resting::laws::rest::{runs_are_few, runs_are_under_way};
 
 /// A run of several worlds that opens each, and then gives each event to its bridge and each frame that leaves a wired port to the
 /// bridge at its far end, in the order of their queue until none is left, tells each the history that the net gives it. What has

@@ -11,8 +11,7 @@ use Rattle.exb_model.specs.FlatBridge.{Sent, sent_by, flat}
 use Rattle.exb_model.specs.Tree.{Shape, is_external, external_ports}
 use Rattle.exb_text.specs.Tallies.{nothing_counted}
 use Rattle.exb_model.specs.Texts.{Counts, counted, left_by, with_left, counts}
-use Rattle.exb_machine.specs.Worlds.{Left}
-use Rattle.exb_resting.specs.Flight.Showing.{left_at}
+use Rattle.exb_machine.specs.Worlds.{Left, left_at}
 use Rattle.exb_inputs.proofs.Beginning.{passing}
 
 -- what left all of some ports over a history

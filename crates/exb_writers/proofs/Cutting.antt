@@ -18,8 +18,7 @@ use Rattle.exb_outputs.proofs.Cutting.{GoesOnAs, cut_longer, cut_now}
 use Rattle.exb_outputs.proofs.Texts.{capture_text-append, capture_text-nil}
 use Rattle.exb_model.specs.declared.event.Event.{Event}
 use Rattle.exb_model.specs.Tree.{Shape, is_external}
-use Rattle.exb_machine.specs.Worlds.{Left}
-use Rattle.exb_resting.specs.Flight.Showing.{left_at}
+use Rattle.exb_machine.specs.Worlds.{Left, left_at}
 use Rattle.exb_words.specs.declared.asked.Options.{Options}
 
 -- the text of a kind that grows is no matter of the trace

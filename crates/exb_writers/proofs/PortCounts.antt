@@ -19,10 +19,9 @@ use Rattle.exb_counters.specs.Counting.{HasPort, FitsCounts, counts_at, drops_in
 use Rattle.exb_machine.specs.Runs.Passed.{StepsTellPassed, passed_by, passed_in, passed_over}
 use Rattle.exb_machine.specs.Settling.{run}
 use Rattle.exb_machine.specs.Stepping.{stepped}
-use Rattle.exb_machine.specs.Worlds.{World, Step, Left as Leaving}
+use Rattle.exb_machine.specs.Worlds.{World, Step, Left as Leaving, left_at}
 use Rattle.exb_network.specs.declared.log.Left.{Left}
 use Rattle.exb_network.specs.Worlds.{all_left}
-use Rattle.exb_resting.specs.Flight.Showing.{left_at}
 use Rattle.exb_text.specs.Tallies.{counts_of, nothing_counted}
 use Rattle.exb_wiring.specs.Counting.{CountsGoOn}
 use Rattle.exb_writers.specs.declared.counted.Counted.{Counted}

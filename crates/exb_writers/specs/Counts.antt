@@ -4,8 +4,7 @@ use Rattle.exb_model.specs.declared.event.Event.{Event}
 use Rattle.exb_model.specs.FlatBridge.{Sent}
 use Rattle.exb_model.specs.Texts.{Counts, counted, with_left, summary_line}
 use Rattle.exb_model.specs.Tree.{external_ports, is_external}
-use Rattle.exb_machine.specs.Worlds.{Left}
-use Rattle.exb_resting.specs.Flight.Showing.{left_at}
+use Rattle.exb_machine.specs.Worlds.{Left, left_at}
 use Rattle.exb_text.specs.Tallies.{FitsTally, counts_of, nothing_counted}
 use Rattle.exb_counters.specs.declared.counters.Counters.{Counters}
 use Rattle.exb_counters.specs.declared.counters.Counts5.{Counts5}

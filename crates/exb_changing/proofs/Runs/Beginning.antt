@@ -6,11 +6,11 @@ use Rattle.std.proofs.lemmas.Bool.{cases_Bool, and_parts, ltb-true, false≢true
 use mathlib.Core.Path.{fun_ext}
 use Rattle.exb_model.specs.Tree.{Shape, IsTree, device, is_extender, is_port, by_depth}
 use Rattle.exb_model.specs.Setup.{Limits}
-use Rattle.exb_plans.specs.Held.{Held, is_place, in_spaces}
+use Rattle.exb_changing.specs.Planning.Held.{Held, is_place, in_spaces}
 use Rattle.exb_model.proofs.TreeOrder.{in_order}
 use Rattle.exb_model.specs.Lists.{is_listed}
-use Rattle.exb_plans.specs.Laws.{IsBeginning, HoldsFirst}
-use Rattle.exb_plans.proofs.Beginning.{begins as needed_first}
+use Rattle.exb_changing.specs.Planning.Laws.{IsBeginning, HoldsFirst}
+use Rattle.exb_changing.proofs.Planning.Beginning.{begins_held}
 use Rattle.exb_changing.specs.Runs.Laid.{laid}
 use Rattle.exb_changing.proofs.Runs.NothingLaid.{nothing_is_laid}
 use Rattle.exb_changing.specs.Beginning.{nothing_held, with_channel_of, is_deep, deep_cascades, first_held, first_jobs, jobs_of, HasChannels}
@@ -96,7 +96,7 @@ begins t l b setting may =
         record {
           laid = sym (ap (λ (o : ℕ → Bool). laid t o (first_held t l)) (nobody_opened t setting.tree) ∙ nothing_is_laid t b (first_held t l) setting.tree beginning);
           exact = record {
-            needed = needed_first t b (first_held t l) beginning;
+            needed = begins_held t b (first_held t l) beginning;
             cascades = first_at_cascades t l;
             order = record {
               above = λ n there e deep. absurd (false≢true (sym (closed n) ∙ e));

@@ -7,11 +7,11 @@ use Rattle.exb_model.specs.Tree.{Shape, is_extender}
 use Rattle.exb_csp.specs.declared.message.Request.{Request}
 use Rattle.exb_csp.specs.declared.message.Response.{Response}
 use Rattle.exb_csp.specs.declared.message.Message.{Message}
-use Rattle.exb_session.specs.declared.asker.Taken.{Taken}
-use Rattle.exb_session.specs.declared.asker.Taken.TheVariants as taken
-use Rattle.exb_session.specs.Asking.{AskerState, took, took_body, beaten}
+use Rattle.exb_csp.specs.declared.session.asker.Taken.{Taken}
+use Rattle.exb_csp.specs.declared.session.asker.Taken.TheVariants as taken
+use Rattle.exb_csp.specs.Session.Asking.{AskerState, took, took_body, beaten}
 use Rattle.exb_csp.specs.declared.ask_at.AskAt.{AskAt}
-use Rattle.exb_plans.specs.declared.change.Change.{Change}
+use Rattle.exb_changing.specs.declared.planning.change.Change.{Change}
 use Rattle.exb_changing.specs.declared.job.Job.{Job}
 use Rattle.exb_changing.specs.declared.job.Phase.{Phase}
 use Rattle.exb_changing.specs.declared.job.Phase.TheVariants.{Preparing, Cleaning}

@@ -7,13 +7,12 @@ use Rattle.exb_csp.specs.declared.message.Response.{Response}
 use Rattle.exb_csp.specs.declared.message.Body.{Body}
 use Rattle.exb_csp.specs.declared.message.Body.TheVariants as body
 use Rattle.exb_csp.specs.declared.message.Message.{Message}
-use Rattle.exb_csp.specs.Kinds.{kind_of}
-use Rattle.exb_session.specs.declared.asker.Taken.{Taken}
-use Rattle.exb_session.specs.declared.asker.Taken.TheVariants as taken
-use Rattle.exb_session.specs.Kinds.{same_kind}
-use Rattle.exb_session.specs.Asking.{AskerState, asked, beaten, took, took_body}
+use Rattle.exb_csp.specs.Kinds.{kind_of, same_kind}
+use Rattle.exb_csp.specs.declared.session.asker.Taken.{Taken}
+use Rattle.exb_csp.specs.declared.session.asker.Taken.TheVariants as taken
+use Rattle.exb_csp.specs.Session.Asking.{AskerState, asked, beaten, took, took_body}
 use Rattle.exb_csp.specs.declared.ask_at.AskAt.{AskAt}
-use Rattle.exb_plans.specs.declared.change.Change.{Change}
+use Rattle.exb_changing.specs.declared.planning.change.Change.{Change}
 use Rattle.exb_changing.specs.declared.asked.Asked.{Asked}
 use Rattle.exb_changing.specs.declared.job.Job.{Job}
 use Rattle.exb_changing.specs.declared.job.Job.TheVariants as job

@@ -3,9 +3,9 @@ use Rattle.std.proofs.Common.{◌≡◌, ℕ, ◌+◌, ◌==◌, ◌||◌, ◌++
 use Rattle.exb_model.specs.declared.command.Command.{Command}
 use Rattle.exb_csp.specs.declared.message.Response.{Response}
 use Rattle.exb_csp.specs.Execute.{ExtenderTables}
-use Rattle.exb_session.specs.declared.asker.Taken.{Taken}
-use Rattle.exb_session.specs.declared.asker.Taken.TheVariants as taken
-use Rattle.exb_session.specs.Asking.{AskerState, took, beaten}
+use Rattle.exb_csp.specs.declared.session.asker.Taken.{Taken}
+use Rattle.exb_csp.specs.declared.session.asker.Taken.TheVariants as taken
+use Rattle.exb_csp.specs.Session.Asking.{AskerState, took, beaten}
 use Rattle.exb_changing.specs.declared.job.Job.TheVariants as job
 use Rattle.exb_changing.specs.Deciding.{Decide, bridge_after, release}
 use Rattle.exb_changing.specs.Machine.{Work, State, Moved, answered, answered_in, answered_where, beats_in, with_asker}

@@ -7,11 +7,10 @@ use Rattle.exb_csp.specs.declared.message.Response.{Response}
 use Rattle.exb_csp.specs.declared.message.Body.{Body}
 use Rattle.exb_csp.specs.declared.message.Body.TheVariants as body
 use Rattle.exb_csp.specs.declared.message.Message.{Message}
-use Rattle.exb_csp.specs.Kinds.{kind_of}
-use Rattle.exb_session.specs.declared.asker.Taken.{Taken}
-use Rattle.exb_session.specs.declared.asker.Taken.TheVariants as taken
-use Rattle.exb_session.specs.Kinds.{same_kind}
-use Rattle.exb_session.specs.Asking.{AskerState, took, took_body, beaten, beaten_while}
+use Rattle.exb_csp.specs.Kinds.{kind_of, same_kind}
+use Rattle.exb_csp.specs.declared.session.asker.Taken.{Taken}
+use Rattle.exb_csp.specs.declared.session.asker.Taken.TheVariants as taken
+use Rattle.exb_csp.specs.Session.Asking.{AskerState, took, took_body, beaten, beaten_while}
 use Rattle.exb_changing.specs.Deciding.{Decide}
 use Rattle.exb_changing.specs.Machine.{State, still, with_asker, answered, answered_where}
 use Rattle.exb_changing.specs.Runs.Systems.{answer_message, IsStray}

@@ -2,7 +2,7 @@ use Rattle.std.proofs.Common.{◌≡◌, ℕ, List, Some, drop, length, ap, ◌�
 use Rattle.exb_network.specs.Rows.{ports_in}
 use Rattle.exb_network.specs.Worlds.{copies_at, copies_of}
 use Rattle.exb_nets.specs.NetHistory.{crosses}
-use Rattle.exb_resting.specs.Flight.Showing.{left_at}
+use Rattle.exb_machine.specs.Worlds.{left_at}
 use Rattle.exb_net.specs.Crossings.{all_crossing}
 use Rattle.exb_net.proofs.Sending.{no_more, one_port, one_skipped}
 use Rattle.exb_net.proofs.crossing.put_row.Goals as goal

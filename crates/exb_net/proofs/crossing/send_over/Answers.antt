@@ -2,7 +2,7 @@ use Rattle.std.proofs.Common.{Some, drop, ap}
 use Rattle.std.proofs.lemmas.List.{drop_all}
 use Rattle.exb_network.specs.Worlds.{all_left}
 use Rattle.exb_nets.specs.NetHistory.{crosses}
-use Rattle.exb_resting.specs.Flight.Showing.{left_at}
+use Rattle.exb_machine.specs.Worlds.{left_at}
 use Rattle.exb_net.specs.Crossings.{all_crossing}
 use Rattle.exb_net.proofs.Sending.{no_more, one_row}
 use Rattle.exb_net.proofs.crossing.send_over.Goals as goal

@@ -1,5 +1,5 @@
 use Rattle.std.proofs.Common.{Some, drop}
-use Rattle.exb_resting.specs.Flight.Showing.{left_at}
+use Rattle.exb_machine.specs.Worlds.{left_at}
 use Rattle.exb_network.specs.Worlds.{all_left}
 use Rattle.exb_nets.specs.NetHistory.{crosses}
 use Rattle.exb_net.specs.Crossings.{all_crossing}

@@ -1,7 +1,7 @@
 use Rattle.std.proofs.Common.{ℕ, List, ap, subst}
 use Rattle.exb_machine.specs.Worlds.{Step, Arrive}
 use Rattle.exb_network.specs.Networks.{world_of, tree_of, IsStepped}
-use Rattle.exb_resting.specs.Rest.Settles.{MayTake}
+use Rattle.exb_motion.specs.Runs.Settles.{MayTake}
 use Rattle.exb_schedule.specs.declared.segment.Arrival.{Arrival}
 use Rattle.exb_schedule.specs.Playing.{arrived}
 use Rattle.exb_schedule.proofs.Giving.{given_first, given_on}

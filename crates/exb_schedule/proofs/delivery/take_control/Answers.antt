@@ -4,7 +4,7 @@ use Rattle.exb_machine.specs.Stepping.{words_on}
 use Rattle.exb_machine.specs.Worlds.{Step, Lose}
 use Rattle.exb_network.specs.Networks.{Network, world_of, tree_of, IsStepped}
 use Rattle.exb_network.specs.Steps.{way_of}
-use Rattle.exb_resting.specs.Rest.Settles.{MayTake}
+use Rattle.exb_motion.specs.Runs.Settles.{MayTake}
 use Rattle.exb_schedule.specs.Worlds.{network_of}
 use Rattle.exb_schedule.proofs.Taking.{as_before, is_there, kept, lost, passed, repeated}
 use Rattle.exb_schedule.proofs.delivery.take_control.Goals as goal

@@ -2,7 +2,7 @@ use Rattle.std.proofs.Common.{subst, arith}
 use Rattle.std.specs.Prelude.{All}
 use Rattle.std.proofs.lemmas.List.{take_all}
 use Rattle.std.proofs.lemmas.List.Elements.{All-more}
-use Rattle.exb_resting.specs.Motion.Kept.{HasVid}
+use Rattle.exb_motion.specs.Kept.{HasVid}
 use Rattle.exb_schedule.proofs.facts.name_vlans.Goals as goal
 
 pub loop-command-preserved : goal.loop-command-preserved

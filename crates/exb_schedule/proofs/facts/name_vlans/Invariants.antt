@@ -1,7 +1,7 @@
 -- The commands so far name VLANs.
 use Rattle.std.proofs.Common.{take}
 use Rattle.std.specs.Prelude.{All}
-use Rattle.exb_resting.specs.Motion.Kept.{HasVid}
+use Rattle.exb_motion.specs.Kept.{HasVid}
 use Rattle.exb_schedule.proofs.facts.name_vlans.Given as goal
 
 abbrev pub invariant-loop-command : goal.invariant-loop-command

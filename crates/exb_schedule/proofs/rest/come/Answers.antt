@@ -2,7 +2,7 @@ use Rattle.std.proofs.Common.{◌<◌, true, length, arith, subst, sym, ◌∙�
 use Rattle.std.proofs.lemmas.List.{get_or_default}
 use Rattle.exb_machine.specs.Worlds.{Step}
 use Rattle.exb_network.specs.Networks.{world_of, tree_of, IsStepped}
-use Rattle.exb_resting.specs.Rest.Settles.{MayTake}
+use Rattle.exb_motion.specs.Runs.Settles.{MayTake}
 use Rattle.exb_schedule.specs.Worlds.{network_of}
 use Rattle.exb_schedule.proofs.Drawing.{drawn_arrival}
 use Rattle.exb_schedule.proofs.rest.come.Goals as goal

@@ -9,7 +9,7 @@ use Rattle.exb_schedule.specs.Playing.{letters_in}
 use Rattle.exb_schedule.specs.Worlds.{network_of}
 use Rattle.exb_play.specs.Playing.{mode_of}
 use Rattle.exb_inputs.specs.Shelving.{OnlyReads}
-use Rattle.exb_resting.specs.Flight.Showing.{left_at}
+use Rattle.exb_machine.specs.Worlds.{left_at}
 use Rattle.exb_outputs.proofs.Sizes.{counted_of}
 use Rattle.exb_writers.proofs.PortCounts.{counts-of}
 use Rattle.exb_play.proofs.PortCounts.{sizes-fit}

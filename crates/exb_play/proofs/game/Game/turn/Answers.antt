@@ -8,7 +8,7 @@ use Rattle.exb_schedule.specs.Worlds.{network_of}
 use Rattle.exb_play.specs.Playing.{mode_of}
 use Rattle.exb_writers.specs.Texts.{text_so_far}
 use Rattle.exb_outputs.specs.Writing.{pieces_of}
-use Rattle.exb_resting.specs.Flight.Showing.{left_at}
+use Rattle.exb_machine.specs.Worlds.{left_at}
 use Rattle.exb_writers.specs.Leaving.{sent_with}
 use Rattle.exb_outputs.proofs.Sizes.{sent_as}
 use Rattle.exb_outputs.proofs.OutputLemmas.{kinds_same}

@@ -1,6 +1,6 @@
 use Rattle.std.proofs.Common.{subst}
 use Rattle.std.specs.Prelude.{All}
-use Rattle.exb_resting.specs.Motion.Kept.{HasVid}
+use Rattle.exb_motion.specs.Kept.{HasVid}
 use Rattle.exb_schedule.proofs.Reaching.{reached_first}
 use Rattle.exb_schedule.proofs.motion.Motion.new.Goals as goal
 

@@ -1,0 +1,5 @@
+use Rattle.exb_changing.proofs.Planning.Beginning.{begins_held}
+use Rattle.exb_changing.proofs.laws.begins_held.Goals as goal
+
+pub returns : goal.returns
+returns c = begins_held

@@ -1,0 +1,5 @@
+use Rattle.exb_changing.proofs.Planning.Carrying.{group_words}
+use Rattle.exb_changing.proofs.laws.group_words_carry.Goals as goal
+
+pub returns : goal.returns
+returns c = group_words

@@ -1,0 +1,5 @@
+use Rattle.exb_changing.proofs.Planning.GoesOn.{held_goes_on}
+use Rattle.exb_changing.proofs.laws.held_goes_on.Goals as goal
+
+pub returns : goal.returns
+returns c = held_goes_on

@@ -1,0 +1,5 @@
+use Rattle.exb_changing.proofs.Planning.RowsCover.{rows_cover}
+use Rattle.exb_changing.proofs.laws.rows_cover.Goals as goal
+
+pub returns : goal.returns
+returns c = rows_cover

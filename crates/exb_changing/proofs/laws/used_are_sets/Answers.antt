@@ -1,0 +1,5 @@
+use Rattle.exb_changing.proofs.Planning.InUse.{used_are_sets}
+use Rattle.exb_changing.proofs.laws.used_are_sets.Goals as goal
+
+pub returns : goal.returns
+returns c = used_are_sets

@@ -1,0 +1,5 @@
+use Rattle.exb_csp.proofs.Session.AskerLaws.{asks_spelled}
+use Rattle.exb_csp.proofs.laws.asks_are_spelled.Goals as goal
+
+pub returns : goal.returns
+returns c = asks_spelled

@@ -1,0 +1,5 @@
+use Rattle.exb_csp.proofs.Session.RunLaws.{each_once}
+use Rattle.exb_csp.proofs.laws.each_request_once.Goals as goal
+
+pub returns : goal.returns
+returns c = each_once

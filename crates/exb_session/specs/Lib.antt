@@ -1,4 +1,0 @@
-pub mod Kinds
-pub mod Asking
-pub mod Answering
-pub mod Sessions
