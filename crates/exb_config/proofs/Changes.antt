@@ -1,6 +1,6 @@
 -- What a change of the tables is to the configuration that they stand for.
-use Rattle.std.proofs.Common.{◌≡◌, ℕ, Bool, cond, ◌&&◌, ◌==◌, List, [], refl, sym, ap, ◌∙◌, inl, inr, ◌⊎◌, eq-eqb}
-use Rattle.std.specs.Prelude.{Option, None}
+use Rattle.std.proofs.Common.{◌≡◌, ℕ, Bool, cond, ◌&&◌, ◌==◌, List, [], refl, ap, inl, inr, eq-eqb}
+use Rattle.std.specs.Prelude.{Option}
 use Rattle.std.proofs.lemmas.Bool.{cases_eq, ne_eqb}
 use Rattle.exb_model.specs.declared.port_set.PortSet.{PortSet}
 use Rattle.exb_model.specs.declared.vlan.Kind.{Kind}

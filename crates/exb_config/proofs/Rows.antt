@@ -6,7 +6,6 @@ use Rattle.std.specs.Map.{lookup}
 use Rattle.std.proofs.lemmas.Bool.{cases_Bool, cases_lt, cases_eq, ne_eqb, false≢true}
 use Rattle.std.proofs.lemmas.List.{get_or_past}
 use Rattle.exb_model.specs.declared.port_set.PortSet.{PortSet}
-use Rattle.exb_model.specs.declared.vlan.Kind.{Kind}
 use Rattle.exb_model.specs.declared.vlan.Kind.TheVariants.{Tagged, Untagged}
 use Rattle.exb_model.specs.Ports.{port_in, below, all_ports}
 use Rattle.exb_model.specs.Configuration.{kind_in}

@@ -1,5 +1,5 @@
 //! How the numbers of a change are freed.
-ghost use Rattle.std.specs.Prelude.{◌≡◌, ◌-◌, ◌<◌, ◌&&◌, nat_lt};
+ghost use Rattle.std.specs.Prelude.{◌≡◌, ◌-◌, ◌&&◌, nat_lt};
 ghost use Rattle.exb_model.specs.Setup.{Limits};
 ghost use Rattle.exb_plan.specs.Spaces.{HasSpaces, held_by};
 ghost use Rattle.exb_plan.specs.Working.{IsAlike};

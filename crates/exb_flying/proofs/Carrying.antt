@@ -42,7 +42,7 @@ use Rattle.exb_machine.specs.Stepping.{first_data}
 use Rattle.exb_machine.specs.Runs.Simulation.{IsSound}
 use Rattle.exb_machine.proofs.Bytes.{stripped_bytes}
 use Rattle.exb_machine.proofs.Words.{each_filter, each_get}
-use Rattle.exb_flight.specs.Items.{Word as Datum, Item, Data, words_of}
+use Rattle.exb_flight.specs.Items.{Word as Datum, Item, Data}
 use Rattle.exb_flight.specs.Items as items
 use Rattle.exb_flight.specs.Tree.{IsLink}
 use Rattle.exb_flight.specs.Flight.{Flight, CarryIn, change}

@@ -1,15 +1,13 @@
 -- A frame that leaves at each port of a row.
-use Rattle.std.proofs.Common.{◌≡◌, ℕ, ◌+◌, ◌-◌, ◌*◌, ◌%◌, ◌/◌, ◌<◌, ◌≤◌, Bool, true, false, List, [], ◌∷◌, ◌++◌, length, map, drop, take, get_or, refl, ap, sym, subst, ◌∙◌, arith, append_assoc, append-nil}
+use Rattle.std.proofs.Common.{◌≡◌, ℕ, ◌+◌, ◌-◌, ◌*◌, ◌<◌, ◌≤◌, Bool, true, false, List, [], ◌∷◌, ◌++◌, length, map, drop, take, get_or, refl, ap, sym, subst, ◌∙◌, arith, append_assoc, append-nil}
 use Rattle.std.specs.Prelude.{Option, Some, None}
-use Rattle.std.specs.List.{flat_map, AllByRecursion}
 use Rattle.std.proofs.lemmas.Bool.{both_ways}
 use Rattle.std.proofs.lemmas.List.{drop_all, drop_more, length-append, length-map, map-append, take_more}
 use Rattle.exb_csp.specs.AllTables.{port_of}
-use Rattle.exb_extender.specs.declared.sends.Form.TheVariants.{Stripped}
 use Rattle.exb_extender.specs.declared.sends.Out.{Out}
 use Rattle.exb_extender.specs.declared.sends.Side.TheVariants.{Port}
 use Rattle.exb_extender.specs.Forwarding.{Sent}
-use Rattle.exb_extender.specs.Sending.{CanBeGiven, out_sent}
+use Rattle.exb_extender.specs.Sending.{out_sent}
 use Rattle.exb_link.specs.declared.word.Stamp.{Stamp}
 use Rattle.exb_machine.specs.Effects.{Effect, only, each, joined, then_do}
 use Rattle.exb_machine.specs.Extending.{hung_on, port_number, sends, sent_at}
@@ -25,9 +23,9 @@ use Rattle.exb_model.proofs.TreeHung.{hung_cascade}
 use Rattle.exb_boxes.specs.declared.log.Left.{Left}
 use Rattle.exb_boxes.specs.declared.log.Log.{Log}
 use Rattle.exb_network.specs.declared.site.Core.{Core}
-use Rattle.exb_boxes.specs.Forms.{IsSide, CanGo}
+use Rattle.exb_boxes.specs.Forms.{CanGo}
 use Rattle.exb_network.specs.Leading.{Leads}
-use Rattle.exb_network.specs.Leaving.{row_sent, AreOuter, GoesBehind, IsOuter, Joins, JoinsAt}
+use Rattle.exb_network.specs.Leaving.{row_sent, AreOuter, GoesBehind, IsOuter, Joins}
 use Rattle.exb_boxes.specs.Rows.{Row, ports_in, HasSome}
 use Rattle.exb_network.specs.Sites.{Site}
 use Rattle.exb_boxes.specs.Logs.{if_tracing, row_outs}

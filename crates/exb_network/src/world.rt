@@ -32,7 +32,6 @@ use exb_machine::laws::{
 };
 use exb_model::bytes::are_bytes;
 use exb_model::event::Event;
-use exb_model::list::List;
 use exb_model::memory::NoMemory;
 use exb_model::setup::Setup;
 use exb_model::trace::TraceLine;

@@ -1,5 +1,5 @@
 -- What is counted of outputs while they are written.
-use Rattle.std.proofs.Common.{◌≡◌, ◌≢◌, ◌<◌, ◌≤◌, ◌+◌, ◌-◌, ◌^◌, ◌%◌, ◌++◌, inl, inr, ℕ, suc, true, List, [], ◌∷◌, length, get_or, set, map, slice_index, refl, ap, sym, ◌∙◌, arith, subst, eq-eqb, length-append, get_or-set_same, get_or-set_other}
+use Rattle.std.proofs.Common.{◌≡◌, ◌≢◌, ◌<◌, ◌≤◌, ◌+◌, ◌^◌, ◌%◌, ◌++◌, inl, inr, ℕ, suc, true, List, [], ◌∷◌, length, get_or, set, map, slice_index, refl, ap, sym, ◌∙◌, arith, subst, eq-eqb, length-append, get_or-set_same, get_or-set_other}
 use Rattle.std.proofs.Math.Nat.{mod-eq_of_lt}
 use Rattle.std.proofs.Math.Seq.{get_or-append_seam}
 use Rattle.std.proofs.lemmas.Bool.{cases_eq, cases_lt, ne_eqb}

@@ -1,5 +1,5 @@
 //! How numbers are claimed, and given back where a plan comes to nothing.
-ghost use Rattle.std.specs.Prelude.{◌≡◌, ℕ, ◌-◌, ◌/◌, ◌≤◌, ◌<◌, [], true, None, map, length, vec_capacity};
+ghost use Rattle.std.specs.Prelude.{◌≡◌, ℕ, ◌-◌, ◌/◌, ◌≤◌, [], true, None, map, length, vec_capacity};
 ghost use Rattle.exb_model.specs.Tree.{trunk, is_extender};
 ghost use Rattle.exb_numbers.specs.Spaces.{has_space, groups_at};
 ghost use Rattle.exb_changing.specs.Planning.Sets.{seen};

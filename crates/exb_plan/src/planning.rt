@@ -9,7 +9,7 @@ ghost use Rattle.exb_config.specs.Tables.{bridge_of};
 ghost use Rattle.exb_changing.specs.Planning.Sets.{seen, sets_of};
 ghost use Rattle.exb_plan.specs.Spaces.{held_by, HasSpaces};
 ghost use Rattle.exb_changing.specs.Planning.Held.{HoldsNeeded};
-ghost use Rattle.exb_changing.specs.Planning.Between.{goes_up, goes_down, refusal_between};
+ghost use Rattle.exb_changing.specs.Planning.Between.{goes_up, refusal_between};
 ghost use Rattle.exb_changing.specs.Planning.Plans.{change_of, claimed, decision, held_after};
 ghost use Rattle.exb_plan.specs.Working.{IsPlaced, IsAlike, SpacesOf};
 ghost use Rattle.exb_changing.specs.Planning.Making.{IsAnyExtended, how_many, is_at, refusal_by};

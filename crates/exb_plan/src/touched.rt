@@ -1,5 +1,5 @@
 //! The parts that a command touches.
-ghost use Rattle.std.specs.Prelude.{◌≡◌, ℕ, ◌-◌, ◌≤◌, ◌==◌, ◌&&◌, ◌++◌, Bool, true, if◌then◌else◌, [], filter, flat_map, map, IfOk, OnOk};
+ghost use Rattle.std.specs.Prelude.{◌≡◌, ℕ, ◌≤◌, ◌++◌, Bool, true, if◌then◌else◌, [], filter, flat_map, map, IfOk, OnOk};
 ghost use Rattle.exb_model.specs.Ports.{port_in};
 ghost use Rattle.exb_model.specs.Tree.{Shape};
 ghost use Rattle.exb_model.specs.Configuration.{is_for};

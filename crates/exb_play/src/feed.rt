@@ -1,6 +1,5 @@
 //! What comes in one segment: one event, or all of one second.
 ghost use Rattle.std.specs.Prelude.{◌≡◌, ◌++◌, ◌∷◌, [], true, false, map, IfOk, OnOk, IfErr, IfSome, IfNone, ℕ};
-ghost use Rattle.exb_model.specs.Input.{Eager};
 ghost use Rattle.exb_merge.specs.Arrivals.{arrival_with};
 ghost use Rattle.exb_merge.specs.declared.programme.Next.{Next as Coming};
 ghost use Rattle.exb_merge.specs.Replays.{ids_in, HasPort, standings};

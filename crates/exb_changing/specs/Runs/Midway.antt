@@ -1,5 +1,5 @@
 -- What the tables carry, also in the middle of a change.
-use Rattle.std.specs.Prelude.{◌≡◌, ℕ, ◌<◌, ◌==◌, ◌&&◌, true, bytes_eq, if◌then◌else◌, List, [], ◌∷◌, Some}
+use Rattle.std.specs.Prelude.{◌≡◌, ℕ, ◌<◌, ◌==◌, true, bytes_eq, List, Some}
 use Rattle.std.specs.List.{list_any}
 use Rattle.exb_model.specs.ExtenderForwarding.{Tables}
 use Rattle.exb_model.specs.Carriage.{Carries}

@@ -13,7 +13,7 @@ impl Hash for SetAt {
     ghost use Rattle.std.specs.Prelude.{◌++◌};
     ghost use Rattle.std.proofs.Common.{rules};
     ghost use Rattle.std.specs.Hash as fed;
-    ghost use Rattle.std.specs.Cmp.Rules.{comparing, hashing};
+    ghost use Rattle.std.specs.Cmp.Rules.{hashing};
 
     ghost hash_input = { λ s. fed.u8 s.bridge_port ++ fed.slice fed.u64 s.set.words };
 

@@ -1,7 +1,6 @@
-use Rattle.std.proofs.Common.{◌≡◌, ◌∙◌, sym, ap, not, true, false, cond, ◌==◌}
-use Rattle.std.specs.Prelude.{Option, Some, None}
-use Rattle.exb_model.specs.declared.vlan.Kind.{Kind}
-use Rattle.exb_config.specs.Rows.{has_member, member_of}
+use Rattle.std.proofs.Common.{◌∙◌, sym}
+use Rattle.std.specs.Prelude.{Some, None}
+use Rattle.exb_config.specs.Rows.{has_member}
 use Rattle.exb_config.proofs.Rows.{IsPut, put_some, put_none, put_known, put_member, no_kind, true_not}
 use Rattle.exb_config.proofs.vlan_table.VlanTable.put.Goals as goal
 

@@ -1,4 +1,4 @@
-use Rattle.std.proofs.Common.{◌≡◌, ◌∙◌, ℕ, List, sym, ap}
+use Rattle.std.proofs.Common.{◌≡◌, ◌∙◌, sym, ap}
 use Rattle.std.specs.Prelude.{Option, is_some, nat_eq, option_copied}
 use Rattle.std.specs.Map.{lookup}
 use Rattle.exb_config.specs.declared.members.Members.{Members}

@@ -1,4 +1,3 @@
-use Rattle.std.proofs.Common.{ℕ, List}
 use Rattle.std.proofs.lemmas.Result.{err_from_is_err_and}
 use Rattle.exb_inputs.proofs.ShelvingLemmas.{counts_as, counts_from}
 use Rattle.exb_writers.specs.Telling.{with_end}
