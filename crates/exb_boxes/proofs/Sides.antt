@@ -16,8 +16,8 @@ use Rattle.exb_ecp.specs.Frames.{pdu_in}
 use Rattle.exb_ecp.specs.Machine.{acknowledged, heard, is_fresh}
 use Rattle.exb_csp.specs.declared.session.answerer.Due.{Due as Turn}
 use Rattle.exb_csp.specs.declared.session.answerer.Due.TheVariants.{Execute, Again, Ignore}
-use Rattle.exb_csp.specs.Session.Answering.{AnswererState, arrived, stored_message}
-use Rattle.exb_csp.proofs.Session.Fronts.{each_append, all_from}
+use Rattle.exb_csp.specs.Sessions.Answering.{AnswererState, arrived, stored_message}
+use Rattle.exb_csp.proofs.Sessions.Fronts.{each_append, all_from}
 use Rattle.exb_extender.specs.declared.sends.Side.{Side}
 use Rattle.exb_extender.specs.declared.sends.Side.TheVariants.{Up, Port}
 use Rattle.exb_extender.specs.declared.sends.Out.{Out}

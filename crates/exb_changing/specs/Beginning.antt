@@ -4,8 +4,8 @@ use Rattle.exb_model.specs.Ports.{all_ports}
 use Rattle.exb_model.specs.Tree.{Shape, device, trunk, is_port, is_cascade, cascades_under, by_depth, externals_of}
 use Rattle.exb_model.specs.Setup.{Limits}
 use Rattle.exb_model.specs.Configuration.{Bridge}
-use Rattle.exb_csp.specs.Session.Asking.{begun}
-use Rattle.exb_changing.specs.Planning.Held.{Held, free_channel, give_channel}
+use Rattle.exb_csp.specs.Sessions.Asking.{begun}
+use Rattle.exb_changing.specs.Plans.Held.{Held, free_channel, give_channel}
 use Rattle.exb_changing.specs.declared.job.Job.{Job}
 use Rattle.exb_changing.specs.declared.job.Job.TheVariants as job
 use Rattle.exb_changing.specs.Machine.{State}

@@ -5,7 +5,7 @@ use Rattle.std.proofs.lemmas.List.{get_or-set_same, get_or-set_other, get_or_def
 use Rattle.std.specs.Prelude.{replicate}
 use mathlib.Core.Path.{fun_ext}
 use Rattle.exb_model.proofs.Words.{get_or-same}
-use Rattle.exb_csp.specs.Session.Asking.{AskerState, begun}
+use Rattle.exb_csp.specs.Sessions.Asking.{AskerState, begun}
 use Rattle.exb_control.specs.Steps.{askers_of, put}
 
 pub put_set : (xs : List AskerState) (e : ℕ) (a : AskerState) → e < length xs → askers_of (set xs e a) ≡ put e a (askers_of xs)

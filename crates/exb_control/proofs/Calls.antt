@@ -7,7 +7,7 @@ use Rattle.std.specs.declared.result.Result.{Result}
 use Rattle.std.specs.declared.result.Result.TheVariants.{Ok, Err}
 use Rattle.exb_model.specs.declared.event.Event.{Event}
 use Rattle.exb_csp.specs.declared.message.Request.{Request}
-use Rattle.exb_csp.specs.Session.Asking.{AskerState, beaten, beaten_while}
+use Rattle.exb_csp.specs.Sessions.Asking.{AskerState, beaten, beaten_while}
 use Rattle.exb_learn.specs.Calls.{Table}
 use Rattle.exb_learn.specs.Entries.{table_of}
 use Rattle.exb_csp.specs.declared.ask_at.AskAt.{AskAt}

@@ -2,7 +2,7 @@
 use Rattle.std.proofs.Common.{◌≡◌, ◌≤◌, false, None, List, length, refl, ap, sym, ◌∙◌, arith}
 use Rattle.exb_model.specs.declared.setup.Setup.{Setup}
 use Rattle.exb_model.specs.Setup.{shape_of, limits_of, start_of}
-use Rattle.exb_csp.specs.Session.Asking.{begun}
+use Rattle.exb_csp.specs.Sessions.Asking.{begun}
 use Rattle.exb_changing.specs.declared.job.Job.{Job}
 use Rattle.exb_control.specs.declared.stage.Stage.TheVariants.{AtRest}
 use Rattle.exb_changing.specs.Beginning.{first_jobs, first_held}
@@ -14,7 +14,7 @@ use Rattle.exb_control.specs.Soundness.{MayAsk, to_come}
 use Rattle.exb_control.specs.Spelled.{Spells}
 use Rattle.exb_control.specs.Insides.{parts_of, IsKept}
 use Rattle.exb_changing.proofs.FirstJobs.{few_first, fit_first}
-use Rattle.exb_csp.proofs.Session.AskerLaws.{stays_sound}
+use Rattle.exb_csp.proofs.Sessions.AskerLaws.{stays_sound}
 
 module _ (s : Setup) (core : Core) (queue : List Job) (heard : Heard) (shape : core.active.shape ≡ shape_of s) (rest : core.active.stage ≡ AtRest)
     (jobs : queue ≡ first_jobs (shape_of s)) (askers : askers_of core.sessions ≡ λ n. begun) where

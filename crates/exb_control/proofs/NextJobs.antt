@@ -18,7 +18,7 @@ use Rattle.exb_control.specs.declared.working.Core.{Core}
 use Rattle.exb_control.specs.Queues.{first_in, after_first}
 use Rattle.exb_control.specs.Controls.{work_at, decide_of}
 use Rattle.exb_control.specs.Steps.{Front, askers_of, Reached, reached, reached_by, rest_of, state_in, with_queue, waits_for, is_at_rest}
-use Rattle.exb_csp.specs.Session.Asking.{AskerState}
+use Rattle.exb_csp.specs.Sessions.Asking.{AskerState}
 use Rattle.exb_control.specs.Soundness.{MayAsk, IsSteady, AsksOrRests}
 use Rattle.exb_control.proofs.Steps.{joined}
 

@@ -1,11 +1,11 @@
 -- Requests can be asked.
 use Rattle.std.proofs.Common.{◌≡◌, ◌≢◌, ℕ, suc, ◌+◌, ◌^◌, ◌<◌, ◌≤◌, ◌==◌, Bool, true, false, cond, List, [], ◌∷◌, Option, Some, None, length, refl, ap, sym, subst, ◌∙◌, arith}
 use Rattle.std.proofs.lemmas.Bool.{ne_eqb}
-use Rattle.exb_csp.specs.Session.Asking.{AskerState}
+use Rattle.exb_csp.specs.Sessions.Asking.{AskerState}
 use Rattle.exb_csp.specs.declared.ask_at.AskAt.{AskAt}
 use Rattle.exb_control.specs.Queues.{first_in}
 use Rattle.exb_model.specs.declared.event.Event.{Event}
-use Rattle.exb_csp.specs.Session.Asking.{asked}
+use Rattle.exb_csp.specs.Sessions.Asking.{asked}
 use Rattle.exb_learn.specs.Calls.{Table}
 use Rattle.exb_changing.specs.declared.planning.change.Change.{Change}
 use Rattle.exb_changing.specs.declared.asked.Asked.{Asked}

@@ -5,12 +5,12 @@ use Rattle.exb_model.specs.declared.setup.Setup.{Setup}
 use Rattle.exb_model.specs.Tree.{Shape, device, trunk, is_extender}
 use Rattle.exb_model.specs.Setup.{shape_of, limits_of, start_of}
 use Rattle.exb_lldp.specs.declared.announce.Announce.{Announce}
-use Rattle.exb_csp.specs.Session.Asking.{AskerState, begun}
+use Rattle.exb_csp.specs.Sessions.Asking.{AskerState, begun}
 use Rattle.exb_learn.specs.Calls.{Table, Forget, after_call}
 use Rattle.exb_learn.specs.Entries.{Entries}
 use Rattle.exb_csp.specs.declared.ask_at.AskAt.{AskAt}
 use Rattle.exb_changing.specs.declared.planning.change.Change.{Change}
-use Rattle.exb_changing.specs.Planning.Held.{Held, channel_in}
+use Rattle.exb_changing.specs.Plans.Held.{Held, channel_in}
 use Rattle.exb_changing.specs.declared.job.Job.{Job}
 use Rattle.exb_changing.specs.declared.job.Phase.{Phase}
 use Rattle.exb_changing.specs.declared.job.Phase.TheVariants.{Preparing, Cleaning}

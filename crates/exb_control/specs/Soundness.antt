@@ -1,6 +1,6 @@
 -- What holds of the control while memory hasn't run out.
 use Rattle.std.specs.Prelude.{◌≡◌, ◌≢◌, ℕ, ◌+◌, ◌-◌, ◌*◌, ◌^◌, ◌<◌, true, List, [], ◌∷◌, Option, Some, None, is_none, length}
-use Rattle.exb_csp.specs.Session.Asking.{AskerState}
+use Rattle.exb_csp.specs.Sessions.Asking.{AskerState}
 use Rattle.exb_csp.specs.declared.ask_at.AskAt.{AskAt}
 use Rattle.exb_changing.specs.declared.planning.change.Change.{Change}
 use Rattle.exb_changing.specs.declared.job.Job.{Job}

@@ -3,7 +3,7 @@ use Rattle.std.specs.Prelude.{◌≡◌, ℕ, true, List, Option, Some, None, If
 use Rattle.exb_model.specs.Tree.{Shape, is_extender}
 use Rattle.exb_csp.specs.Spelling.{IsSpelledRequest, HasSpelling}
 use Rattle.exb_csp.specs.declared.ask_at.AskAt.{AskAt}
-use Rattle.exb_csp.specs.Session.Asking.{AskerState, IsSound}
+use Rattle.exb_csp.specs.Sessions.Asking.{AskerState, IsSound}
 use Rattle.exb_changing.specs.declared.asked.Asked.{Asked}
 use Rattle.exb_changing.specs.Machine.{Work}
 use Rattle.exb_changing.specs.Runs.Growing.{AllAsk}

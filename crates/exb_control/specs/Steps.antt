@@ -3,7 +3,7 @@ use Rattle.std.specs.Prelude.{ℕ, ◌+◌, ◌==◌, ◌||◌, Bool, true, fals
 use Rattle.std.specs.List.{range_with_len}
 use Rattle.exb_model.specs.declared.event.Event.{Event}
 use Rattle.exb_csp.specs.declared.message.Message.{Message}
-use Rattle.exb_csp.specs.Session.Asking.{AskerState, asked, beaten, message_again}
+use Rattle.exb_csp.specs.Sessions.Asking.{AskerState, asked, beaten, message_again}
 use Rattle.exb_learn.specs.Calls.{Table}
 use Rattle.exb_csp.specs.declared.ask_at.AskAt.{AskAt}
 use Rattle.exb_changing.specs.declared.planning.change.Change.{Change}

@@ -2,8 +2,8 @@
 
 ghost use Rattle.exb_csp.specs.Laws.{WrittenIsRead, ReadIsSpelled, MessagesAreShort, RefusedChangesNothing, RegisterSetsTheMask, UnregisterClearsTheRow, RegisterManyIsItsRows, UnregisterManyIsItsEcids, HasPairExactly, SomeBitExactly};
 ghost use Rattle.exb_csp.specs.AllLaws.{DoneAtEachPort, RefusedAtNoPort, RunsLayRows};
-ghost use Rattle.exb_csp.specs.Session.Asking.{StaysSound, AsksAreSpelled};
-ghost use Rattle.exb_csp.specs.Session.Runs.{EachRequestOnce, RequestsAreAnswered, MessagesAreNumbered, MessagesAreSpelled};
+ghost use Rattle.exb_csp.specs.Sessions.Asking.{StaysSound, AsksAreSpelled};
+ghost use Rattle.exb_csp.specs.Sessions.Runs.{EachRequestOnce, RequestsAreAnswered, MessagesAreNumbered, MessagesAreSpelled};
 
 /// What is written is read again as the same message.
 pub fn written_is_read()

@@ -5,7 +5,7 @@
 //! directions. What executing a request does to an extender's tables, alone and among all extenders, is defined here for
 //! everyone above, with its laws in `laws` and a plain program of it in `plain`, whose constructor alone takes memory.
 //!
-//! Sessions (`session`, `specs/Session`): the bridge's end asks one request at a time and takes its answer; the extender's
+//! Sessions (`session`, `specs/Sessions`): the bridge's end asks one request at a time and takes its answer; the extender's
 //! end executes each request once and answers it again where it comes again. Both are exact pure machines, and over every
 //! order in which their messages come, are lost or repeated, what is executed is a front of what was asked, and what is
 //! answered a front of what was stored. No call of either takes memory.

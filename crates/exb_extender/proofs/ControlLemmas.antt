@@ -25,7 +25,7 @@ use Rattle.exb_csp.specs.Spelling.{answer_bytes, message_bytes, IsPortCount, Has
 use Rattle.exb_csp.specs.Execute.{ExtenderTables, is_ecid, is_port, is_channel, has_pair, has_stray, is_named, row_code, rows_code, clear_code, clears_code, code_of, answered_ports, executed, response_to}
 use Rattle.exb_csp.specs.declared.session.answerer.Due.{Due as Turn}
 use Rattle.exb_csp.specs.declared.session.answerer.Due.TheVariants.{Execute, Again, Ignore}
-use Rattle.exb_csp.specs.Session.Answering.{AnswererState, arrived, stored, stored_message}
+use Rattle.exb_csp.specs.Sessions.Answering.{AnswererState, arrived, stored, stored_message}
 use Rattle.exb_extender.specs.Control.{state_with}
 use Rattle.exb_extender.specs.ControlState.{ControlState, IsInOrder}
 use Rattle.exb_extender.specs.Forwarding.{up}

@@ -22,7 +22,7 @@ use Rattle.exb_csp.specs.Execute.{ExtenderTables, create_code, code_of, done, ex
 use Rattle.exb_csp.specs.Plain.{powered_on}
 use Rattle.exb_csp.specs.declared.session.answerer.Due.{Due as Turn}
 use Rattle.exb_csp.specs.declared.session.answerer.Due.TheVariants.{Execute, Again, Ignore}
-use Rattle.exb_csp.specs.Session.Answering.{arrived, stored_message}
+use Rattle.exb_csp.specs.Sessions.Answering.{arrived, stored_message}
 use Rattle.exb_extender.specs.declared.sends.Side.{Side}
 use Rattle.exb_extender.specs.declared.sends.Side.TheVariants.{Up, Port}
 use Rattle.exb_extender.specs.ControlState.{IsInOrder}

@@ -15,7 +15,7 @@ use Rattle.exb_csp.specs.Execute.{ExtenderTables, code_of, done, executed}
 use Rattle.exb_csp.specs.Reading.{read_message}
 use Rattle.exb_csp.specs.declared.session.answerer.Due.{Due as Turn}
 use Rattle.exb_csp.specs.declared.session.answerer.Due.TheVariants.{Execute, Again, Ignore}
-use Rattle.exb_csp.specs.Session.Answering.{AnswererState, arrived, stored_message}
+use Rattle.exb_csp.specs.Sessions.Answering.{AnswererState, arrived, stored_message}
 use Rattle.exb_extender.specs.declared.sends.Side.{Side}
 use Rattle.exb_extender.specs.declared.sends.Side.TheVariants.{Up, Port}
 use Rattle.exb_extender.specs.Forwarding.{is_bare_control, emitted}

@@ -21,7 +21,7 @@ use Rattle.exb_csp.specs.Reading.{read_message}
 use Rattle.exb_csp.specs.Spelling.{message_bytes}
 use Rattle.exb_csp.specs.declared.session.answerer.Due.{Due as Turn}
 use Rattle.exb_csp.specs.declared.session.answerer.Due.TheVariants.{Execute, Again, Ignore}
-use Rattle.exb_csp.specs.Session.Answering.{AnswererState, arrived, stored_message}
+use Rattle.exb_csp.specs.Sessions.Answering.{AnswererState, arrived, stored_message}
 use Rattle.exb_extender.specs.Forwarding.{Sent, up, is_bare_control}
 use Rattle.exb_extender.specs.Machine.{ExtenderState, Reaction, nothing, address_of, control_pdu, acknowledgement_frame, request_frame, announcement_frame, submits, answers, executes, by_turn, takes_body, takes_message, hears_request, hears_pdu, hears, next_count, announces, sends_again, beats, IsExtender}
 use Rattle.exb_extender.specs.Laws.{IsOwnFrame, SendsControl}

@@ -2,7 +2,7 @@
 use Rattle.std.specs.Prelude.{◌≡◌, ℕ, ◌<◌, ◌≤◌, Bool, false, IfSome}
 use Rattle.exb_ecp.specs.Machine.{State, IsSound}
 use Rattle.exb_csp.specs.Spelling.{HasSpelling}
-use Rattle.exb_csp.specs.Session.Answering.{AnswererState, is_owing, stored_message}
+use Rattle.exb_csp.specs.Sessions.Answering.{AnswererState, is_owing, stored_message}
 
 -- its number, and its session, ECP, count of beats, and whether it was opened
 pub record ControlState : Type 0 where

@@ -1,7 +1,7 @@
 -- What an extender keeps, and the state that this is.
 use Rattle.std.specs.Prelude.{ℕ, Bool, List}
 use Rattle.exb_ecp.specs.Machine.{State}
-use Rattle.exb_csp.specs.Session.Answering.{AnswererState}
+use Rattle.exb_csp.specs.Sessions.Answering.{AnswererState}
 use Rattle.exb_extender.specs.Machine.{ExtenderState}
 use Rattle.exb_extender.specs.Rows.{tables_in}
 

@@ -20,7 +20,7 @@ use Rattle.exb_csp.specs.Execute.{ExtenderTables, executed, response_to}
 use Rattle.exb_csp.specs.Plain.{powered_on}
 use Rattle.exb_csp.specs.declared.session.answerer.Due.{Due as Turn}
 use Rattle.exb_csp.specs.declared.session.answerer.Due.TheVariants.{Execute, Again, Ignore}
-use Rattle.exb_csp.specs.Session.Answering.{AnswererState, fresh, is_owing, arrived, stored, stored_message}
+use Rattle.exb_csp.specs.Sessions.Answering.{AnswererState, fresh, is_owing, arrived, stored, stored_message}
 use Rattle.exb_extender.specs.declared.sends.Side.{Side}
 use Rattle.exb_extender.specs.declared.sends.Side.TheVariants.{Up, Port}
 use Rattle.exb_extender.specs.Forwarding.{Sent, up, is_bare_control, emitted}

@@ -2,7 +2,7 @@
 ghost use Rattle.std.specs.Prelude.{◌≡◌, ◌↔◌, ◌≤◌, ◌<◌, ◌++◌, [], ◌∷◌, ◌==◌, ◌&&◌, ◌||◌, not, if◌then◌else◌, length, false, Ok, None, IsTrue};
 ghost use Rattle.exb_csp.specs.Execute.{ExtenderTables};
 ghost use Rattle.exb_ecp.specs.Machine.{new_state, beaten, beat_of, IsSound};
-ghost use Rattle.exb_csp.specs.Session.Answering.{fresh};
+ghost use Rattle.exb_csp.specs.Sessions.Answering.{fresh};
 ghost use Rattle.exb_extender.specs.Control.{state_with, state_in};
 ghost use Rattle.exb_extender.specs.ControlState.{IsInOrder};
 ghost use Rattle.exb_csp.specs.Reading.{read_message};

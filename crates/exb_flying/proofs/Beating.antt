@@ -19,7 +19,7 @@ use Rattle.exb_machine.specs.Hearing.{bridge_address, bridge_request, sends_agai
 use Rattle.exb_machine.specs.Stepping.{if_there, all_extenders, beats_all}
 use Rattle.exb_machine.specs.Runs.Sessions.{WasAnswered, Hands, Each, AskedOf, ArePaired, AreLow}
 use Rattle.exb_machine.specs.Runs.Simulation.{answer_in, system_of, IsSound}
-use Rattle.exb_csp.specs.Session.Answering.{AnswererState}
+use Rattle.exb_csp.specs.Sessions.Answering.{AnswererState}
 use Rattle.exb_machine.proofs.Answering.{IsSame, SentFits}
 use Rattle.exb_machine.proofs.Words.{at_same}
 use Rattle.exb_flight.specs.Facts.{WorkGood, AreOf}

@@ -17,7 +17,7 @@ use Rattle.exb_csp.specs.declared.message.Body.TheVariants as body
 use Rattle.exb_csp.specs.declared.message.Message.{Message}
 use Rattle.exb_csp.specs.declared.message.Request.{Request}
 use Rattle.exb_csp.specs.Reading.{read_message}
-use Rattle.exb_csp.specs.Session.Answering.{AnswererState, stored_message}
+use Rattle.exb_csp.specs.Sessions.Answering.{AnswererState, stored_message}
 use Rattle.exb_extender.specs.Forwarding.{has_etag_type, is_bare_control}
 use Rattle.exb_extender.specs.Machine.{ExtenderState, Reaction, IsExtender, submits, executes, takes_body, takes_request, takes_message, hears_pdu, hears}
 use Rattle.exb_link.specs.declared.word.Word.{Word}

@@ -20,7 +20,7 @@ use Rattle.exb_csp.specs.declared.message.Message.{Message}
 use Rattle.exb_csp.specs.Reading.{read_message}
 use Rattle.exb_csp.specs.declared.session.asker.Taken.{Taken}
 use Rattle.exb_csp.specs.declared.session.asker.Taken.TheVariants as taken
-use Rattle.exb_csp.specs.Session.Asking.{AskerState, took}
+use Rattle.exb_csp.specs.Sessions.Asking.{AskerState, took}
 use Rattle.exb_extender.specs.Machine.{ExtenderState}
 use Rattle.exb_changing.specs.Deciding.{decide}
 use Rattle.exb_changing.specs.Machine.{Work, State, Moved, still, with_asker, answered, heard}

@@ -20,7 +20,7 @@ use Rattle.exb_csp.specs.Reading.{read_message}
 use Rattle.exb_csp.specs.Spelling.{message_bytes}
 use Rattle.exb_csp.specs.declared.session.answerer.Due.{Due as Turn}
 use Rattle.exb_csp.specs.declared.session.answerer.Due.TheVariants as turn
-use Rattle.exb_csp.specs.Session.Answering.{AnswererState, arrived, stored_message}
+use Rattle.exb_csp.specs.Sessions.Answering.{AnswererState, arrived, stored_message}
 use Rattle.exb_extender.specs.declared.sends.Side.{Side}
 use Rattle.exb_extender.specs.declared.sends.Side.TheVariants as side
 use Rattle.exb_extender.specs.Forwarding.{Sent, has_etag_type, is_bare_control}
@@ -28,7 +28,7 @@ use Rattle.exb_extender.specs.Machine.{ExtenderState, Beats, react, submits, exe
 use Rattle.exb_link.specs.declared.word.Stamp.{Stamp}
 use Rattle.exb_link.specs.declared.word.Word.{Word}
 use Rattle.exb_model.specs.Frames.{is_control_frame}
-use Rattle.exb_changing.specs.Planning.Held.{Held}
+use Rattle.exb_changing.specs.Plans.Held.{Held}
 use Rattle.exb_changing.specs.Runs.Planned.{IsSetting}
 use Rattle.exb_machine.specs.Worlds.{World, Up, Out, Left, at, push_up}
 use Rattle.exb_machine.proofs.Answering.{SentFits}
@@ -134,7 +134,7 @@ module _ (t : Shape) (l : Limits) (i : Basis) (tree : IsTree t) (round : TagRoun
 
 module _ (t : Shape) (l : Limits) (tree : IsTree t) (setting : IsSetting t l) (round : TagRoundTrip) where
   -- what an extender sends of its own fits once it has reacted
-  pub all_own : (held : Held) (askers : ℕ → Rattle.exb_csp.specs.Session.Asking.AskerState) (far : ℕ → ExtenderState) (n : ℕ) → is_extender t n ≡ true → (s : ExtenderState) (xs : List Sent) → Each (SentFits (WasAnswered s.session)) xs → AreControl xs →
+  pub all_own : (held : Held) (askers : ℕ → Rattle.exb_csp.specs.Sessions.Asking.AskerState) (far : ℕ → ExtenderState) (n : ℕ) → is_extender t n ≡ true → (s : ExtenderState) (xs : List Sent) → Each (SentFits (WasAnswered s.session)) xs → AreControl xs →
       Each (IsOwn t held (at n s far) n) xs
   all_own held askers far n there s [] fits control = tt
   all_own held askers far n there s (x ∷ xs) fits control =

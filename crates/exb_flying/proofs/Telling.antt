@@ -11,7 +11,7 @@ use Rattle.exb_learn.specs.Histories.{command_call, after_any, table_after}
 use Rattle.exb_csp.specs.declared.message.Response.{Response}
 use Rattle.exb_csp.specs.declared.session.asker.Taken.{Taken}
 use Rattle.exb_csp.specs.declared.session.asker.Taken.TheVariants as taken
-use Rattle.exb_csp.specs.Session.Asking.{took}
+use Rattle.exb_csp.specs.Sessions.Asking.{took}
 use Rattle.exb_csp.specs.declared.ask_at.AskAt.{AskAt}
 use Rattle.exb_changing.specs.declared.planning.change.Change.{Change}
 use Rattle.exb_changing.specs.declared.job.Job.{Job}

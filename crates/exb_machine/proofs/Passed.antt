@@ -22,7 +22,7 @@ use Rattle.exb_ecp.specs.Machine.{heard as received}
 use Rattle.exb_csp.specs.declared.fault.CspFault.{CspFault}
 use Rattle.exb_csp.specs.declared.message.Message.{Message}
 use Rattle.exb_csp.specs.Reading.{read_message}
-use Rattle.exb_csp.specs.Session.Asking.{took}
+use Rattle.exb_csp.specs.Sessions.Asking.{took}
 use Rattle.exb_extender.specs.declared.sends.Side.TheVariants as side
 use Rattle.exb_extender.specs.Forwarding.{has_etag_type}
 use Rattle.exb_extender.specs.Machine.{Arrives, Beats, Reaction, react}

@@ -27,7 +27,7 @@ use Rattle.exb_csp.specs.Spelling.{message_bytes, HasSpelling}
 use Rattle.exb_csp.specs.Execute.{ExtenderTables}
 use Rattle.exb_csp.specs.declared.session.answerer.Due.{Due as Turn}
 use Rattle.exb_csp.specs.declared.session.answerer.Due.TheVariants as turn
-use Rattle.exb_csp.specs.Session.Answering.{AnswererState, arrived, stored_message}
+use Rattle.exb_csp.specs.Sessions.Answering.{AnswererState, arrived, stored_message}
 use Rattle.exb_extender.specs.declared.sends.Side.{Side}
 use Rattle.exb_extender.specs.declared.sends.Side.TheVariants as side
 use Rattle.exb_extender.specs.Forwarding.{Sent, up, forwarding_of, channel_tag, has_etag_type, is_bare_control, names_channel, is_refused_kind, emitted, sent_at}

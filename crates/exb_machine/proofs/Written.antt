@@ -32,7 +32,7 @@ use Rattle.exb_csp.specs.Spelling.{message_bytes}
 use Rattle.exb_csp.specs.AllTables.{port_of}
 use Rattle.exb_csp.specs.declared.session.asker.Taken.{Taken}
 use Rattle.exb_csp.specs.declared.session.asker.Taken.TheVariants as taken
-use Rattle.exb_csp.specs.Session.Asking.{took}
+use Rattle.exb_csp.specs.Sessions.Asking.{took}
 use Rattle.exb_extender.specs.declared.sends.Side.{Side}
 use Rattle.exb_extender.specs.declared.sends.Side.TheVariants as side
 use Rattle.exb_extender.specs.Forwarding.{Sent, channel_tag, has_etag_type, is_bare_control, emitted}
@@ -42,7 +42,7 @@ use Rattle.exb_extender.proofs.KeepsLemmas.{stays_extender}
 use Rattle.exb_link.specs.declared.word.Stamp.{Stamp}
 use Rattle.exb_link.specs.declared.word.Word.{Word}
 use Rattle.exb_link.specs.Words.{is_control, is_data, without_data, without_control}
-use Rattle.exb_changing.specs.Planning.Held.{Held, channel_in, numbers_in}
+use Rattle.exb_changing.specs.Plans.Held.{Held, channel_in, numbers_in}
 use Rattle.exb_relay.specs.declared.send.SendTo.{SendTo}
 use Rattle.exb_relay.specs.Laws.{IsAt, IsSent, SendsAreWords}
 use Rattle.exb_model.specs.Numbers.{Numbers}

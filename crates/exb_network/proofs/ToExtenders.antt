@@ -8,9 +8,9 @@ use Rattle.exb_model.proofs.TreeHung.{extender-low}
 use Rattle.exb_ecp.specs.Machine.{State as Ecp, submitted, stopped}
 use Rattle.exb_extender.specs.Forwarding.{channel_tag}
 use Rattle.exb_link.specs.declared.word.Word.{Word}
-use Rattle.exb_changing.specs.Planning.Held.{Held, channel_in}
-use Rattle.exb_changing.proofs.Planning.Giving.{channel_found}
-use Rattle.exb_csp.specs.Session.Asking.{AskerState}
+use Rattle.exb_changing.specs.Plans.Held.{Held, channel_in}
+use Rattle.exb_changing.proofs.Plans.Giving.{channel_found}
+use Rattle.exb_csp.specs.Sessions.Asking.{AskerState}
 use Rattle.exb_machine.specs.Worlds.{World, BridgeOut, at, control_word}
 use Rattle.exb_machine.specs.Controls.{channel_at_trunk}
 use Rattle.exb_machine.specs.Extending.{hung_on}

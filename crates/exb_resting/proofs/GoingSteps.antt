@@ -6,7 +6,7 @@ use Rattle.exb_frame.specs.TagValues.{TagRoundTrip}
 use Rattle.exb_csp.specs.declared.message.Body.TheVariants as body
 use Rattle.exb_csp.specs.declared.message.Request.{Request}
 use Rattle.exb_model.specs.Frames.{IsBytes}
-use Rattle.exb_csp.specs.Session.Asking.{AskerState}
+use Rattle.exb_csp.specs.Sessions.Asking.{AskerState}
 use Rattle.exb_extender.specs.declared.sends.Side.TheVariants as side
 use Rattle.exb_extender.specs.Forwarding.{is_bare_control}
 use Rattle.exb_extender.specs.Machine.{ExtenderState, Arrives, IsSameDevice, react, beats as extender_beats}

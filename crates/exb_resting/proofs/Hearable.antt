@@ -10,7 +10,7 @@ use Rattle.exb_csp.specs.declared.message.Request.{Request}
 use Rattle.exb_csp.specs.declared.message.Response.{Response}
 use Rattle.exb_csp.specs.Execute.{response_to}
 use Rattle.exb_csp.specs.Spelling.{HasSpelling}
-use Rattle.exb_csp.specs.Session.Answering.{stored_message}
+use Rattle.exb_csp.specs.Sessions.Answering.{stored_message}
 use Rattle.exb_extender.specs.Forwarding.{is_bare_control}
 use Rattle.exb_extender.specs.Machine.{ExtenderState, is_open}
 use Rattle.exb_extender.proofs.ControlLemmas.{answer_fits, response_spelled}

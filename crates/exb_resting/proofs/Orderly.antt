@@ -5,7 +5,7 @@ use Rattle.exb_model.specs.Tree.{Shape}
 use Rattle.exb_frame.specs.TagValues.{TagRoundTrip}
 use Rattle.exb_csp.specs.declared.message.Request.{Request}
 use Rattle.exb_ecp.specs.Machine.{Sending, after, new_state}
-use Rattle.exb_csp.specs.Session.Asking.{begun}
+use Rattle.exb_csp.specs.Sessions.Asking.{begun}
 use Rattle.exb_extender.specs.Machine.{at_power_on}
 use Rattle.exb_csp.specs.Plain.{powered_on}
 use Rattle.exb_changing.specs.Runs.Planned.{IsSetting}

@@ -19,7 +19,7 @@ use Rattle.exb_csp.specs.declared.message.Message.{Message}
 use Rattle.exb_csp.specs.Reading.{read_message}
 use Rattle.exb_csp.specs.declared.session.asker.Taken.{Taken}
 use Rattle.exb_csp.specs.declared.session.asker.Taken.TheVariants as taken
-use Rattle.exb_csp.specs.Session.Asking.{AskerState, took, beaten}
+use Rattle.exb_csp.specs.Sessions.Asking.{AskerState, took, beaten}
 use Rattle.exb_extender.specs.declared.sends.Side.TheVariants as side
 use Rattle.exb_extender.specs.Forwarding.{has_etag_type}
 use Rattle.exb_extender.specs.Machine.{Arrives, Reaction, react}

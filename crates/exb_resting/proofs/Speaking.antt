@@ -25,7 +25,7 @@ use Rattle.exb_csp.specs.Execute.{response_to}
 use Rattle.exb_csp.specs.Reading.{read_message}
 use Rattle.exb_csp.specs.Spelling.{message_bytes}
 use Rattle.exb_csp.proofs.Again.{message_again}
-use Rattle.exb_csp.specs.Session.Answering.{stored_message}
+use Rattle.exb_csp.specs.Sessions.Answering.{stored_message}
 use Rattle.exb_extender.specs.declared.sends.Side.TheVariants as side
 use Rattle.exb_extender.specs.Forwarding.{Sent, up, is_bare_control}
 use Rattle.exb_extender.specs.Machine.{ExtenderState, nothing, acknowledgement_frame, request_frame, announcement_frame, control_pdu, next_count, announces, sends_again, submits, answers, takes_request, takes_body, takes_message, hears_pdu, hears, beats}

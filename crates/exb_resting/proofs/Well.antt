@@ -10,7 +10,7 @@ use Rattle.exb_csp.specs.declared.message.Response.{Response}
 use Rattle.exb_csp.specs.Execute.{ExtenderTables, response_to}
 use Rattle.exb_csp.specs.declared.session.asker.Taken.{Taken}
 use Rattle.exb_csp.specs.declared.session.asker.Taken.TheVariants as taken
-use Rattle.exb_csp.specs.Session.Asking.{AskerState, asked, took}
+use Rattle.exb_csp.specs.Sessions.Asking.{AskerState, asked, took}
 use Rattle.exb_changing.specs.Beginning.{first_held}
 use Rattle.exb_changing.specs.declared.asked.Asked.{Asked}
 use Rattle.exb_changing.specs.Deciding.{decide}

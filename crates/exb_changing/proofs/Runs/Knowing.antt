@@ -5,7 +5,7 @@ use Rattle.exb_csp.specs.declared.message.Message.{Message}
 use Rattle.exb_csp.specs.declared.message.Response.{Response}
 use Rattle.exb_csp.specs.declared.session.asker.Taken.{Taken}
 use Rattle.exb_csp.specs.declared.session.asker.Taken.TheVariants as taken
-use Rattle.exb_csp.specs.Session.Asking.{AskerState, beaten, message_again, took}
+use Rattle.exb_csp.specs.Sessions.Asking.{AskerState, beaten, message_again, took}
 use Rattle.exb_model.specs.Tree.{Shape}
 use Rattle.exb_model.specs.Setup.{Limits}
 use Rattle.exb_csp.specs.declared.ask_at.AskAt.{AskAt}

@@ -5,7 +5,7 @@ use Rattle.exb_csp.specs.declared.message.Response.{Response}
 use Rattle.exb_csp.specs.Execute.{ExtenderTables}
 use Rattle.exb_csp.specs.declared.session.asker.Taken.{Taken}
 use Rattle.exb_csp.specs.declared.session.asker.Taken.TheVariants as taken
-use Rattle.exb_csp.specs.Session.Asking.{AskerState, took, beaten}
+use Rattle.exb_csp.specs.Sessions.Asking.{AskerState, took, beaten}
 use Rattle.exb_changing.specs.declared.job.Job.TheVariants as job
 use Rattle.exb_changing.specs.Deciding.{Decide, bridge_after, release}
 use Rattle.exb_changing.specs.Machine.{Work, State, Moved, answered, answered_in, answered_where, beats_in, with_asker}

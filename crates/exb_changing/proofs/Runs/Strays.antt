@@ -6,7 +6,7 @@ use Rattle.exb_csp.specs.declared.message.Response.{Response}
 use Rattle.exb_csp.specs.declared.message.Body.{Body}
 use Rattle.exb_csp.specs.declared.message.Body.TheVariants as body
 use Rattle.exb_csp.specs.declared.session.asker.Taken.TheVariants as taken
-use Rattle.exb_csp.specs.Session.Asking.{AskerState, took_body}
+use Rattle.exb_csp.specs.Sessions.Asking.{AskerState, took_body}
 use Rattle.exb_changing.specs.Runs.Strays.{StraysChangeNothing, OldAreStray}
 use Rattle.exb_changing.proofs.Runs.Taking.{stray_is_still}
 

@@ -10,7 +10,7 @@ use Rattle.exb_csp.specs.declared.message.Message.{Message}
 use Rattle.exb_csp.specs.Kinds.{kind_of, same_kind}
 use Rattle.exb_csp.specs.declared.session.asker.Taken.{Taken}
 use Rattle.exb_csp.specs.declared.session.asker.Taken.TheVariants as taken
-use Rattle.exb_csp.specs.Session.Asking.{AskerState, took, took_body, beaten, beaten_while}
+use Rattle.exb_csp.specs.Sessions.Asking.{AskerState, took, took_body, beaten, beaten_while}
 use Rattle.exb_changing.specs.Deciding.{Decide}
 use Rattle.exb_changing.specs.Machine.{State, still, with_asker, answered, answered_where}
 use Rattle.exb_changing.specs.Runs.Systems.{answer_message, IsStray}

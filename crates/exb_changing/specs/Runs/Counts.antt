@@ -4,7 +4,7 @@ use Rattle.exb_model.specs.Tree.{Shape, is_extender}
 use Rattle.exb_csp.specs.declared.message.Response.{Response}
 use Rattle.exb_csp.specs.declared.message.Message.{Message}
 use Rattle.exb_csp.specs.declared.session.asker.Taken.TheVariants as taken
-use Rattle.exb_csp.specs.Session.Asking.{took}
+use Rattle.exb_csp.specs.Sessions.Asking.{took}
 use Rattle.exb_changing.specs.Deciding.{Decide}
 use Rattle.exb_changing.specs.Machine.{State, answered, heard, beats}
 use Rattle.exb_changing.specs.Counting.{planned}

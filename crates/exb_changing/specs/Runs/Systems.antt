@@ -6,7 +6,7 @@ use Rattle.exb_csp.specs.declared.message.Body.TheVariants as body
 use Rattle.exb_csp.specs.declared.message.Message.{Message}
 use Rattle.exb_csp.specs.Execute.{ExtenderTables, code_of, response_to}
 use Rattle.exb_csp.specs.declared.session.asker.Taken.TheVariants as taken
-use Rattle.exb_csp.specs.Session.Asking.{took}
+use Rattle.exb_csp.specs.Sessions.Asking.{took}
 use Rattle.exb_csp.specs.AllTables.{executes_at}
 use Rattle.exb_csp.specs.declared.ask_at.AskAt.{AskAt}
 use Rattle.exb_changing.specs.Deciding.{Decide}

@@ -13,14 +13,14 @@ use Rattle.exb_csp.specs.declared.message.Request.{Request}
 use Rattle.exb_csp.specs.declared.message.Response.{Response}
 use Rattle.exb_csp.specs.Reading.{read_message}
 use Rattle.exb_csp.specs.Spelling.{IsSpelledRequest, FitsRequest, HasSpelling, Fits, request_bytes, message_bytes}
-use Rattle.exb_csp.specs.Session.Asking.{AskerState}
-use Rattle.exb_csp.specs.Session.Answering.{AnswererState}
+use Rattle.exb_csp.specs.Sessions.Asking.{AskerState}
+use Rattle.exb_csp.specs.Sessions.Answering.{AnswererState}
 use Rattle.exb_csp.specs.AllTables.{port_of}
 use Rattle.exb_extender.specs.Forwarding.{channel_tag, is_bare_control}
 use Rattle.exb_model.specs.Frames.{is_control_frame}
 use Rattle.exb_extender.specs.Machine.{ExtenderState, IsExtender}
 use Rattle.exb_link.specs.declared.word.Word.{Word}
-use Rattle.exb_changing.specs.Planning.Held.{Held}
+use Rattle.exb_changing.specs.Plans.Held.{Held}
 use Rattle.exb_changing.specs.declared.asked.Asked.{Asked}
 use Rattle.exb_csp.specs.declared.ask_at.AskAt.{AskAt}
 use Rattle.exb_changing.specs.Machine.{Work, State}

@@ -6,7 +6,7 @@ use Rattle.exb_model.specs.declared.event.Event.TheVariants as event
 use Rattle.exb_model.specs.Tree.{Shape}
 use Rattle.exb_model.specs.Setup.{Limits}
 use Rattle.exb_csp.specs.declared.message.Response.{Response}
-use Rattle.exb_csp.specs.Session.Asking.{AskerState}
+use Rattle.exb_csp.specs.Sessions.Asking.{AskerState}
 use Rattle.exb_extender.specs.Machine.{ExtenderState}
 use Rattle.exb_learn.specs.Calls.{Table}
 use Rattle.exb_changing.specs.declared.job.Job.{Job}

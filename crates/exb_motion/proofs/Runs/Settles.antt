@@ -8,7 +8,7 @@ use Rattle.exb_model.specs.Setup.{Limits, IsValid, shape_of, limits_of, start_of
 use Rattle.exb_model.specs.Tree.{Shape, IsTree}
 use Rattle.exb_frame.specs.TagValues.{TagRoundTrip}
 use Rattle.exb_relay.specs.Laws.{SendsAreWords, SendsLeaveAsFlat}
-use Rattle.exb_csp.specs.Session.Asking.{AskerState}
+use Rattle.exb_csp.specs.Sessions.Asking.{AskerState}
 use Rattle.exb_changing.specs.Runs.Journal.{StepsTell}
 use Rattle.exb_changing.specs.Runs.Opening.{InTurn}
 use Rattle.exb_changing.specs.Runs.Systems.{System}

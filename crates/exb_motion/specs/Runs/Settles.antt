@@ -7,7 +7,7 @@ use Rattle.exb_model.specs.Input.{Segment}
 use Rattle.exb_model.specs.Rounds.{rounds}
 use Rattle.exb_model.specs.Setup.{Limits, IsValid, shape_of, limits_of, start_of}
 use Rattle.exb_model.specs.Tree.{Shape}
-use Rattle.exb_csp.specs.Session.Asking.{AskerState}
+use Rattle.exb_csp.specs.Sessions.Asking.{AskerState}
 use Rattle.exb_machine.specs.Allowing.{Can}
 use Rattle.exb_machine.specs.Settling.{run, settled_within, is_settled, planned_in}
 use Rattle.exb_machine.specs.Stepping.{stepped}

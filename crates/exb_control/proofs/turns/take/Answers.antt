@@ -1,6 +1,6 @@
 use Rattle.std.proofs.Common.{◌≡◌, ℕ, ◌+◌, ◌*◌, ◌^◌, None, length, drop, refl, sym, ap, ◌∙◌, arith}
 use Rattle.exb_learn.specs.Entries.{table_of}
-use Rattle.exb_csp.specs.Session.Asking.{AskerState, took}
+use Rattle.exb_csp.specs.Sessions.Asking.{AskerState, took}
 use Rattle.exb_changing.specs.Machine.{Moved, with_asker}
 use Rattle.exb_control.specs.Controls.{decide_of}
 use Rattle.exb_control.specs.Steps.{askers_of, asks_in, left_at, rest_of, state_in, reached, reached_by, advances}

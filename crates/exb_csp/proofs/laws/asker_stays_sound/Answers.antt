@@ -1,4 +1,4 @@
-use Rattle.exb_csp.proofs.Session.AskerLaws.{stays_sound}
+use Rattle.exb_csp.proofs.Sessions.AskerLaws.{stays_sound}
 use Rattle.exb_csp.proofs.laws.asker_stays_sound.Goals as goal
 
 pub returns : goal.returns

@@ -1,4 +1,4 @@
-use Rattle.exb_csp.proofs.Session.AskerLaws.{asks_spelled}
+use Rattle.exb_csp.proofs.Sessions.AskerLaws.{asks_spelled}
 use Rattle.exb_csp.proofs.laws.asks_are_spelled.Goals as goal
 
 pub returns : goal.returns
