@@ -5,4 +5,4 @@ pub mod Executing
 pub mod Spelled
 pub mod PlainLemmas
 pub mod AllLemmas
-pub mod Session
+pub mod Sessions

@@ -6,4 +6,4 @@ pub mod Laws
 pub mod AllTables
 pub mod AllLaws
 pub mod Plain
-pub mod Session
+pub mod Sessions
