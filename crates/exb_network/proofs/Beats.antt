@@ -19,10 +19,10 @@ use Rattle.exb_machine.specs.Hearing.{beats_control, beats_near, moves}
 use Rattle.exb_machine.specs.Stepping.{all_extenders, beats_all, if_there}
 use Rattle.exb_machine.specs.Worlds.{World, next_beat}
 use Rattle.exb_machine.specs.Runs.Asks.{AsksWell}
-use Rattle.exb_network.specs.declared.log.Log.{Log}
+use Rattle.exb_boxes.specs.declared.log.Log.{Log}
 use Rattle.exb_network.specs.declared.site.Core.{Core}
-use Rattle.exb_network.specs.Devices.{Devices, state_at, far_of, has_extender, if_rests, is_there}
-use Rattle.exb_network.specs.Ends.{near_of}
+use Rattle.exb_boxes.specs.Devices.{Devices, state_at, far_of, has_extender, if_rests, is_there}
+use Rattle.exb_boxes.specs.Ends.{near_of}
 use Rattle.exb_network.specs.Leading.{Leads}
 use Rattle.exb_network.specs.Sites.{Site}
 use Rattle.exb_network.specs.Worlds.{world_in, IsAt, Does}

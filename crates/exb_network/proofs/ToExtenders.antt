@@ -8,8 +8,8 @@ use Rattle.exb_model.proofs.TreeHung.{extender-low}
 use Rattle.exb_ecp.specs.Machine.{State as Ecp, submitted, stopped}
 use Rattle.exb_extender.specs.Forwarding.{channel_tag}
 use Rattle.exb_link.specs.declared.word.Word.{Word}
-use Rattle.exb_changing.specs.Planning.Held.{Held, channel_in}
-use Rattle.exb_changing.proofs.Planning.Giving.{channel_found}
+use Rattle.exb_changing.specs.Plans.Held.{Held, channel_in}
+use Rattle.exb_changing.proofs.Plans.Giving.{channel_found}
 use Rattle.exb_csp.specs.Sessions.Asking.{AskerState}
 use Rattle.exb_machine.specs.Worlds.{World, BridgeOut, at, control_word}
 use Rattle.exb_machine.specs.Controls.{channel_at_trunk}
@@ -17,10 +17,10 @@ use Rattle.exb_machine.specs.Extending.{hung_on}
 use Rattle.exb_machine.specs.Hearing.{bridge_request, puts, puts_tagged, to_extender, submits}
 use Rattle.exb_machine.specs.Runs.Sessions.{AreLow}
 use Rattle.exb_machine.proofs.Trees.{extender_there, hung_is}
-use Rattle.exb_network.specs.declared.log.Log.{Log}
+use Rattle.exb_boxes.specs.declared.log.Log.{Log}
 use Rattle.exb_network.specs.declared.site.Core.{Core}
-use Rattle.exb_network.specs.Directions.{words_of}
-use Rattle.exb_network.specs.Ends.{near_of}
+use Rattle.exb_boxes.specs.Directions.{words_of}
+use Rattle.exb_boxes.specs.Ends.{near_of}
 use Rattle.exb_network.specs.Sites.{Site}
 use Rattle.exb_network.specs.Worlds.{world_in, IsAt, Does}
 use Rattle.exb_network.proofs.Cores.{IsNoted, near_in, does_nothing, sends_down}

@@ -1,22 +1,23 @@
 //! What the bridge sends to its extenders: messages, in control frames over the acknowledged transport (ECP, IEEE 802.1Q,
 //! clause 43).
-ghost use Rattle.std.specs.Prelude.{◌≡◌, ◌<◌, ◌≤◌, ℕ, true, OnOk, length};
+ghost use Rattle.std.specs.Prelude.{◌≡◌, ◌<◌, ◌≤◌, true, OnOk, length};
 ghost use Rattle.exb_model.specs.Tree.{is_extender, on, trunk};
 ghost use Rattle.exb_extender.specs.Machine.{control_pdu};
 ghost use Rattle.exb_changing.specs.Machine.{Moved};
 ghost use Rattle.exb_machine.specs.Controls.{channel_at_trunk, forgotten_all};
 ghost use Rattle.exb_machine.specs.Effects.{each};
 ghost use Rattle.exb_machine.specs.Extending.{hung_on};
-ghost use Rattle.exb_machine.specs.Hearing.{asks, bridge_acknowledgement, bridge_request, moves, puts, puts_tagged, submits, to_extender};
+ghost use Rattle.exb_machine.specs.Hearing.{asks, bridge_acknowledgement, bridge_request, moves, puts, puts_tagged, to_extender};
 ghost use Rattle.exb_machine.specs.Worlds.{World, with_control, with_table};
 ghost use Rattle.exb_machine.specs.Runs.Asks.{CanGo};
 ghost use Rattle.exb_machine.specs.Runs.Sessions.{AreLow, Each};
 ghost use Rattle.exb_network.specs.Worlds.{world_in, IsAt, Does};
 
-use crate::forms::channel_tag;
-use crate::log::{Post, add_events, note_out};
 use crate::sending::hung_on;
 use crate::site::{Buffers, Core, Room, Site};
+use exb_boxes::Post;
+use exb_boxes::forms::channel_tag;
+use exb_boxes::log::{add_events, note_out};
 use exb_changing::Asked;
 use exb_ecp::Pdu;
 use exb_frame::etag::tag_into;

@@ -12,10 +12,10 @@ ghost use Rattle.exb_network.specs.Sites.{limits_in};
 ghost use Rattle.exb_network.specs.Worlds.{world_in, IsAt, Does};
 
 use crate::asking::{follow, has_low_number, send_to_extender, spell_request};
-use crate::log::Post;
-use crate::numbers::first_in;
 use crate::site::{Buffers, Core, Room, Site};
 use crate::taking;
+use exb_boxes::Post;
+use exb_boxes::numbers::first_in;
 use exb_ecp::{Beat, Ecp};
 use exb_model::memory::NoMemory;
 

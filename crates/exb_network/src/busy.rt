@@ -2,15 +2,15 @@
 ghost use Rattle.std.specs.Prelude.{◌≡◌, ℕ, ◌<◌, ◌≤◌, [], IfNone, IfSome, Some, length, slice_get};
 ghost use Rattle.std.specs.List.{All};
 ghost use Rattle.exb_machine.specs.Stepping.{words_on};
-ghost use Rattle.exb_network.specs.Directions.{words_of};
+ghost use Rattle.exb_boxes.specs.Directions.{words_of};
 ghost use Rattle.exb_network.specs.Steps.{way_of};
 ghost use Rattle.exb_network.specs.Sites.{ArePlaces};
 ghost use Rattle.exb_network.specs.Turns.{order_of, IsEarlier, IsFirst, IsTurn};
 ghost use Rattle.exb_network.specs.Worlds.{world_in};
 
-use crate::links::Direction;
 use crate::site::{Core, Site};
 use crate::step::Way;
+use exb_boxes::Direction;
 use exb_model::port::DEVICES;
 
 /// A direction that has a word: its place in the order in which a round goes through the directions of one way, and its

@@ -6,13 +6,13 @@ ghost use Rattle.exb_model.specs.Tree.{is_extender};
 ghost use Rattle.exb_machine.specs.Hearing.{hears, hears_frame, hears_message, hears_pdu, hears_request, stops};
 ghost use Rattle.exb_machine.specs.Worlds.{World};
 ghost use Rattle.exb_machine.specs.Runs.Asks.{AsksWell};
-ghost use Rattle.exb_network.specs.Ends.{near_of};
+ghost use Rattle.exb_boxes.specs.Ends.{near_of};
 ghost use Rattle.exb_network.specs.Sites.{limits_in};
 ghost use Rattle.exb_network.specs.Worlds.{world_in, IsAt, Does};
 
 use crate::asking::{follow, has_low_number, send_to_extender, spell_acknowledgement};
-use crate::ends::Ends;
 use crate::site::{Core, Room, Site};
+use exb_boxes::Ends;
 use exb_control::Taken;
 use exb_csp::Message;
 use exb_lldp::Announce;

@@ -2,13 +2,13 @@
 ghost use Rattle.std.specs.Prelude.{◌<◌, OnOk};
 ghost use Rattle.exb_extender.specs.Sending.{out_sent};
 ghost use Rattle.exb_machine.specs.Extending.{sends};
-ghost use Rattle.exb_network.specs.Forms.{CanGo};
+ghost use Rattle.exb_boxes.specs.Forms.{CanGo};
 ghost use Rattle.exb_network.specs.Worlds.{world_in, IsAt, Does};
 
 use crate::arrivals::Came;
-use crate::log::Post;
 use crate::sending::{send_frame, send_to};
 use crate::site::{Core, Site};
+use exb_boxes::Post;
 use exb_extender::{Form, Out};
 use exb_link::Word;
 use exb_model::memory::NoMemory;

@@ -7,13 +7,8 @@ ghost use Rattle.exb_machine.specs.Worlds.{first_world};
 ghost use Rattle.exb_network.specs.Sites.{limits_in, AreExtenders, ArePlaces};
 ghost use Rattle.exb_network.specs.Worlds.{world_in, IsAt};
 
-use crate::ends::Ends;
-use crate::extenders::Extenders;
-use crate::indices::Indices;
-use crate::links::Direction;
-use crate::log::{Log, Post};
 use crate::orders::{all_extenders, deepest_first, downward_places, upward_places};
-use crate::store::Store;
+use exb_boxes::{Direction, Ends, Extenders, Indices, Log, Post, Store};
 use exb_control::{Control, Outbox};
 use exb_extender::Sends;
 use exb_model::buffers::ControlBuf;

@@ -7,19 +7,18 @@ ghost use Rattle.exb_machine.specs.Worlds.{Carry, Control, Lose, Mark, Order, Ti
 ghost use Rattle.exb_link.specs.Words.{is_control, without_control, without_data};
 ghost use Rattle.exb_network.specs.Arrivals.{arrival_of};
 ghost use Rattle.exb_machine.specs.Runs.Asks.{AsksWell};
-ghost use Rattle.exb_network.specs.Directions.{words_of};
+ghost use Rattle.exb_boxes.specs.Directions.{words_of};
 ghost use Rattle.exb_network.specs.Sites.{limits_in};
 ghost use Rattle.exb_network.specs.Steps.{way_of};
 ghost use Rattle.exb_network.specs.Worlds.{world_in, IsAt, Does};
 
 use crate::arrivals::Arrived;
 use crate::asking::follow;
-use crate::links::Direction;
-use crate::log::Log;
 use crate::relaying::{self, come};
 use crate::site::{Core, Room, Site};
 use crate::step::Way;
 use crate::taking::{arrive_at, take_from_above, take_from_below};
+use exb_boxes::{Direction, Log};
 use exb_link::Word;
 use exb_model::bytes::Bytes;
 use exb_model::command::Command;

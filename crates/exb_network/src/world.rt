@@ -19,12 +19,12 @@ ghost use Rattle.exb_network.specs.Worlds.{world_in, IsAt, Does};
 
 use crate::arrivals::Arrived;
 use crate::busy::Turn;
-use crate::log::Left;
 use crate::site::{Core, Room, Site};
 use crate::step::{Step, Way};
 use crate::stepping::{arrive, carry, deliver, lose, mark, order, repeat, tick};
 use crate::telling::{tell_ins, tell_outs};
 use crate::{allowing, beating, busy};
+use exb_boxes::Left;
 use exb_link::{Counts, Link};
 use exb_machine::laws::{
     asks_can_be_sent, begins_written, runs_stay_sound, setups_begin_sound, steps_stay_written,
@@ -32,7 +32,6 @@ use exb_machine::laws::{
 };
 use exb_model::bytes::are_bytes;
 use exb_model::event::Event;
-use exb_model::list::List;
 use exb_model::memory::NoMemory;
 use exb_model::setup::Setup;
 use exb_model::trace::TraceLine;

@@ -8,7 +8,7 @@ use Rattle.exb_counters.specs.Counting.{FitsCounts, nothing, plus_events}
 use Rattle.exb_machine.specs.Runs.Passed.{StepsTellPassed}
 use Rattle.exb_machine.specs.Stepping.{Stepped}
 use Rattle.exb_machine.specs.Worlds.{Left as Leaving, left_at}
-use Rattle.exb_network.specs.declared.log.Left.{Left}
+use Rattle.exb_boxes.specs.declared.log.Left.{Left}
 use Rattle.exb_network.specs.Networks.{Network}
 use Rattle.exb_network.specs.Worlds.{all_left}
 use Rattle.exb_motion.specs.Runs.Playing.{RunsAreFew, RunsAreUnderWay, arrivals_in}

@@ -1,5 +1,5 @@
 //! The tree of a trial: a bridge, and extenders on its ports and on one another's.
-ghost use Rattle.std.specs.Prelude.{◌≤◌, ◌<◌};
+ghost use Rattle.std.specs.Prelude.{◌<◌};
 
 use crate::draws::{draw_byte, draw_place, draw_switch};
 use exb_model::port::PortId;

@@ -1,5 +1,5 @@
 //! What the stations at a port send.
-ghost use Rattle.std.specs.Prelude.{◌≤◌, ◌<◌};
+ghost use Rattle.std.specs.Prelude.{◌<◌};
 
 use crate::draws::{draw, draw_byte, draw_vlan};
 use exb_capture::{header_text, record_text};

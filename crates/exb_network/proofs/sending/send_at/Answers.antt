@@ -7,9 +7,10 @@ use Rattle.exb_machine.specs.Extending.{hung_on, sent_at}
 use Rattle.exb_machine.specs.Worlds.{Out, moment_of}
 use Rattle.exb_model.specs.Traces.{Out as OutText}
 use Rattle.exb_model.specs.Tree.{Shape}
-use Rattle.exb_network.specs.declared.log.Left.{Left}
-use Rattle.exb_network.specs.declared.log.Log.{Log}
-use Rattle.exb_network.specs.Worlds.{if_tracing, world_in, Does}
+use Rattle.exb_boxes.specs.declared.log.Left.{Left}
+use Rattle.exb_boxes.specs.declared.log.Log.{Log}
+use Rattle.exb_boxes.specs.Logs.{if_tracing}
+use Rattle.exb_network.specs.Worlds.{world_in, Does}
 use Rattle.exb_network.proofs.Cores.{leaves}
 use Rattle.exb_network.proofs.Hanging.{hung_low}
 use Rattle.exb_network.proofs.sending.send_at.Goals as goal

@@ -1,7 +1,7 @@
 use Rattle.std.proofs.Common.{rules, ◌++◌, ℕ, List, [], ◌∷◌, refl, ap, sym, subst, ◌∙◌, arith}
 use Rattle.std.proofs.lemmas.Result.{err_from_is_err_and}
 use Rattle.exb_machine.specs.Worlds.{Left as Leaving}
-use Rattle.exb_network.specs.Rows.{ports_in}
+use Rattle.exb_boxes.specs.Rows.{ports_in}
 use Rattle.exb_outputs.specs.Sent.{HasSent, sent_more}
 use Rattle.exb_outputs.specs.Writing.{HasTexts, pieces_of}
 use Rattle.exb_outputs.proofs.Sizes.{sent_as}

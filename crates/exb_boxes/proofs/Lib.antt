@@ -1,0 +1,7 @@
+pub mod Bits
+pub mod Places
+pub mod Fars
+pub mod Forwards
+pub mod Sides
+pub mod RowPorts
+pub mod Outs
