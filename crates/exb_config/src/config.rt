@@ -57,7 +57,7 @@ impl Config {
     {
         Ok(Config {
             present: *present,
-            vlans: VlanTable::new(alloc),
+            vlans: VlanTable::new(alloc)?,
             rules: PortRules::new(alloc)?,
             statics: StaticEntries::new(alloc),
         })

@@ -9,7 +9,7 @@ use Rattle.exb_frame.specs.TagValues.{TagRoundTrip}
 use Rattle.exb_csp.specs.declared.message.Response.{Response}
 use Rattle.exb_link.specs.declared.word.Word.{Word}
 use Rattle.exb_link.specs.Words.{is_control}
-use Rattle.exb_changing.specs.Planning.Held.{Held}
+use Rattle.exb_changing.specs.Plans.Held.{Held}
 use Rattle.exb_changing.specs.Machine.{Work}
 use Rattle.exb_changing.specs.Runs.Systems.{System}
 use Rattle.exb_machine.specs.Worlds.{World, Way, Up, Down, Left, Line, at, push_down, push_up}

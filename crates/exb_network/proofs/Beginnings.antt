@@ -1,5 +1,5 @@
 -- How a network begins.
-use Rattle.std.proofs.Common.{◌≡◌, ℕ, true, false, List, [], length, refl, ap, sym, ◌∙◌}
+use Rattle.std.proofs.Common.{◌≡◌, ℕ, true, false, List, [], refl, ap, sym, ◌∙◌}
 use Rattle.std.specs.Prelude.{slice_index}
 use Rattle.exb_model.specs.declared.setup.Setup.{Setup}
 use Rattle.exb_model.specs.Setup.{shape_of, start_of, limits_of}
@@ -15,20 +15,12 @@ use Rattle.exb_control.specs.Controls.{state_of, first_of}
 use Rattle.exb_machine.specs.Worlds.{World, first_world}
 use Rattle.exb_network.specs.declared.site.Core.{Core}
 use Rattle.exb_boxes.specs.Devices.{far_of, first_far, has_extender}
-use Rattle.exb_boxes.specs.Directions.{words_of, IsNoted}
-use Rattle.exb_boxes.specs.Ends.{near_of, AreNoted}
+use Rattle.exb_boxes.specs.Directions.{words_of}
+use Rattle.exb_boxes.specs.Ends.{near_of}
 use Rattle.exb_boxes.specs.Indices.{next_of}
 use Rattle.exb_network.specs.Sites.{Site, limits_in}
 use Rattle.exb_network.specs.Worlds.{world_in, IsAt}
-use Rattle.exb_boxes.proofs.Bits.{none_in_0}
 use Rattle.exb_boxes.proofs.Places.{alike}
-
--- nothing is on any link, and no end sends anything
-pub none_busy : (links : List (List Word)) → length links ≡ 65 → words_of links ≡ alike [] → IsNoted links 0
-none_busy links sized all = record { sized = sized; noted = λ n. (λ e. ap (λ (f : ℕ → List Word). f n) all, λ e. none_in_0 n) }
-
-pub none_sends : (ends : List Ecp) → length ends ≡ 65 → near_of ends ≡ alike new_state → AreNoted ends 0
-none_sends ends sized all = record { sized = sized; noted = λ n. (λ e. ap (λ (f : ℕ → Ecp). (f n).sending) all, λ e. none_in_0 n) }
 
 abbrev world_from : State → Table → (ℕ → Ecp) → (ℕ → ExtenderState) → (ℕ → List Word) → (ℕ → List Word) → (ℕ → ℕ) → World
 world_from s u near far down up next = record { control = s; table = u; near = near; far = far; down = down; up = up; next = next; beats = 0 }

@@ -7,7 +7,7 @@ use Rattle.std.specs.Prelude.{nat_lt, ◌==◌}
 use Rattle.exb_model.specs.Tree.{Shape, IsTree, depth, hangs_at_depth, is_extender, level, levels, by_depth}
 use Rattle.exb_model.proofs.TreeHung.{extender-low}
 use Rattle.exb_model.proofs.TreeLoops.{level_none, level_in, level_out, levels_none, levels_more, by_depth_is}
-use Rattle.exb_changing.proofs.Planning.Lengths.{few_extenders}
+use Rattle.exb_changing.proofs.Plans.Lengths.{few_extenders}
 use Rattle.exb_machine.specs.Settling.{deepest_first}
 use Rattle.exb_boxes.specs.Numbers.{IsNumber}
 

@@ -7,8 +7,8 @@ use Rattle.exb_model.specs.Tree.{Shape, on, trunk, device, is_extender}
 use Rattle.exb_ecp.specs.Machine.{State as Ecp, submitted, stopped}
 use Rattle.exb_extender.specs.Forwarding.{channel_tag}
 use Rattle.exb_link.specs.declared.word.Word.{Word}
-use Rattle.exb_changing.specs.Planning.Held.{Held, channel_in}
-use Rattle.exb_changing.proofs.Planning.Giving.{channel_found}
+use Rattle.exb_changing.specs.Plans.Held.{Held, channel_in}
+use Rattle.exb_changing.proofs.Plans.Giving.{channel_found}
 use Rattle.exb_csp.specs.Sessions.Asking.{AskerState}
 use Rattle.exb_machine.specs.Worlds.{World, BridgeOut, at, control_word}
 use Rattle.exb_machine.specs.Controls.{channel_at_trunk}

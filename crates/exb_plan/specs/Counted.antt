@@ -4,8 +4,8 @@ use Rattle.std.specs.List.{range_with_len}
 use Rattle.exb_model.specs.Tree.{Shape, is_cascade}
 use Rattle.exb_model.specs.Configuration.{Bridge}
 use Rattle.exb_model.specs.Refusals.{is_empty_set}
-use Rattle.exb_changing.specs.Planning.Held.{Held}
-use Rattle.exb_changing.specs.Planning.Touched.{uses_of}
+use Rattle.exb_changing.specs.Plans.Held.{Held}
+use Rattle.exb_changing.specs.Plans.Touched.{uses_of}
 
 -- the uses of group g among those of one bridge port
 abbrev pub count_in : List ℕ → ℕ → ℕ

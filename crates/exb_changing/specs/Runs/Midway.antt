@@ -6,10 +6,10 @@ use Rattle.exb_model.specs.Carriage.{Carries}
 use Rattle.exb_model.specs.Tree.{Shape, IsTree, is_under}
 use Rattle.exb_model.specs.Configuration.{Bridge}
 use Rattle.exb_model.specs.Refusals.{sets_at}
-use Rattle.exb_changing.specs.Planning.Laying.{IsLaid}
+use Rattle.exb_changing.specs.Plans.Laying.{IsLaid}
 use Rattle.exb_csp.specs.AllTables.{tables_at}
 use Rattle.exb_model.specs.Lists.{is_listed}
-use Rattle.exb_changing.specs.Planning.Held.{Held, channel_in, group_in, numbers_in}
+use Rattle.exb_changing.specs.Plans.Held.{Held, channel_in, group_in, numbers_in}
 use Rattle.exb_changing.specs.Runs.Systems.{System}
 use Rattle.exb_changing.specs.Runs.Standing.{Stands}
 use Rattle.exb_changing.specs.Runs.Planned.{planning}

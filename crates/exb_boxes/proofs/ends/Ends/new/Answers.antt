@@ -2,7 +2,7 @@ use Rattle.std.proofs.Common.{List, ap, length, arith, ◌∙◌}
 use Rattle.std.proofs.lemmas.List.{length-replicate}
 use Rattle.exb_ecp.specs.Machine.{State, new_state}
 use Rattle.exb_boxes.specs.Ends.{near_of}
-use Rattle.exb_network.proofs.Beginnings.{none_sends}
+use Rattle.exb_boxes.proofs.Beginnings.{none_sends}
 use Rattle.exb_boxes.proofs.Places.{at_all}
 use Rattle.exb_boxes.proofs.ends.Ends.new.Goals as goal
 

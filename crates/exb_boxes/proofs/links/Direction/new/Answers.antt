@@ -2,7 +2,7 @@ use Rattle.std.proofs.Common.{List, [], ap, length, arith, ◌∙◌}
 use Rattle.std.proofs.lemmas.List.{length-replicate}
 use Rattle.exb_link.specs.declared.word.Word.{Word}
 use Rattle.exb_boxes.specs.Directions.{words_of}
-use Rattle.exb_network.proofs.Beginnings.{none_busy}
+use Rattle.exb_boxes.proofs.Beginnings.{none_busy}
 use Rattle.exb_boxes.proofs.Places.{at_all}
 use Rattle.exb_boxes.proofs.links.Direction.new.Goals as goal
 
