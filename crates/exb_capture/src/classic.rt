@@ -1,6 +1,6 @@
 //! Classic pcap: a header, and then record by record.
-ghost use Rattle.std.specs.Prelude.{◌≡◌, ◌&&◌, ◌≤◌, ◌<◌, ◌*◌, ◌^◌, ◌∷◌, [], length, IfOk};
-ghost use Rattle.exb_capture.specs.Classic.{digits, classic_front, magic_front, record_front, head_at, form_of, time_at};
+ghost use Rattle.std.specs.Prelude.{◌≡◌, ◌&&◌, ◌≤◌, ◌<◌, ◌-◌, ◌*◌, ◌^◌, ◌∷◌, [], length, IfOk};
+ghost use Rattle.exb_capture.specs.Classic.{digits, classic_front, magic_front, record_front, header_at, shown_header, head_at, form_of, time_at};
 ghost use Rattle.exb_capture.specs.Fields.{agrees, byte_agrees, word};
 ghost use Rattle.exb_capture.specs.Within.{told, Keeps, IsWithin};
 

@@ -1,5 +1,5 @@
 //! One capture on a shelf, read in pieces.
-ghost use Rattle.std.specs.Prelude.{◌≡◌, ◌≢◌, ◌<◌, ◌≤◌, ◌+◌, ◌*◌, ◌^◌, ◌∷◌, ◌++◌, ◌⊎◌, [], ℕ, List, true, false, Some, None, length, IfOk, OnOk, IfErr, IsErrOf, IfSome, IfNone, IsSome};
+ghost use Rattle.std.specs.Prelude.{◌≡◌, ◌≢◌, ◌<◌, ◌≤◌, ◌+◌, ◌-◌, ◌*◌, ◌^◌, ◌∷◌, ◌++◌, ◌⊎◌, [], ℕ, List, true, false, Some, None, Ok, length, take, IfOk, OnOk, IfErr, IsErrOf, IfSome, IfNone, IsSome};
 ghost use Rattle.exb_model.specs.Input.{Record};
 ghost use Rattle.exb_shelf.specs.Files.{SameFiles, bytes_of};
 ghost use Rattle.exb_shelf.specs.Counting.{after_open};

@@ -1,5 +1,5 @@
 //! Reading a capture that is fed in pieces, in any format.
-ghost use Rattle.std.specs.Prelude.{◌≡◌, ◌≢◌, ◌<◌, ◌≤◌, ◌+◌, ◌-◌, ℕ, [], length, drop, take, IfOk, OnErr, IsErrOf};
+ghost use Rattle.std.specs.Prelude.{◌≡◌, ◌≢◌, ◌<◌, ◌≤◌, ◌+◌, ◌-◌, ◌^◌, ℕ, [], false, true, length, drop, take, Ok, None, IfOk, OnErr, IsErrOf, IfSome, min};
 ghost use Rattle.exb_shelf.specs.Files.{SameFiles, bytes_of};
 ghost use Rattle.exb_shelf.specs.Counting.{after_read};
 ghost use Rattle.exb_shelf.specs.Shelf.{IsReading, moved, Rose, NoFewer};

@@ -10,7 +10,7 @@ use Rattle.exb_shelf.specs.Shelf.{Faults, NoFewer}
 use Rattle.exb_tables.specs.declared.rows.Named.{Named}
 use Rattle.exb_inputs.specs.declared.checked.Checked.{Checked}
 use Rattle.exb_inputs.specs.declared.fault.Fault.{Fault}
-use Rattle.exb_inputs.specs.declared.fault.Fault.TheVariants.{Changed}
+use Rattle.exb_inputs.specs.declared.fault.Fault.TheVariants.{Changed, Memory, Read}
 use Rattle.exb_inputs.specs.Answers.{fault_again}
 use Rattle.exb_inputs.specs.Counting.{CountsFault}
 use Rattle.exb_inputs.specs.Inputs.{is_named}
