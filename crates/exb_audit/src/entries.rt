@@ -2,7 +2,7 @@
 ghost use Rattle.std.specs.Prelude.{◌≡◌, ◌||◌, codes, is_some};
 ghost use Rattle.std.specs.Str.{bytes_eq};
 ghost use Rattle.exb_model.specs.declared.event.Cause.{Cause};
-ghost use Rattle.exb_legal.specs.Entries.{arrival_by, cause_in, entry_in, refused_in, simple_in};
+ghost use Rattle.exb_legal.specs.Entries.{cause_in, entry_in, refused_in, simple_in};
 ghost use Rattle.exb_audit.specs.Words.{is_arrival_entry, is_long_entry, IsNamed, IsNamedBy};
 
 use crate::words::{first_word, is_number, number, port};

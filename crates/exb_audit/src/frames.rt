@@ -1,5 +1,5 @@
 //! Frames by port, and how they are found.
-ghost use Rattle.std.specs.Prelude.{◌≡◌, ◌+◌, ◌<◌, ◌==◌, ℕ, length, replicate, slice_index, slice_set, if◌then◌else◌, IfOk};
+ghost use Rattle.std.specs.Prelude.{◌≡◌, ◌<◌, ◌==◌, ℕ, length, slice_index, slice_set, if◌then◌else◌, IfOk};
 ghost use Rattle.exb_audit.specs.Frames.{frames_by, IsTable};
 
 use exb_model::bytes::Bytes;

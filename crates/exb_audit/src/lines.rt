@@ -1,5 +1,5 @@
 //! How a line of a trace is read.
-ghost use Rattle.std.specs.Prelude.{◌≡◌, ◌≤◌, [], Some, IfOk, OnOk, IfSome, IfNone, option_map};
+ghost use Rattle.std.specs.Prelude.{◌≡◌, ◌≤◌, [], Some, IfOk, IfSome, IfNone};
 ghost use Rattle.exb_legal.specs.Entries.{entry_in};
 ghost use Rattle.exb_legal.specs.LineTexts.{byte_in, bytes_in, device_in, digit_in, journal_by, passing_in, read_line, side_in};
 ghost use Rattle.exb_legal.specs.TextReading.{words_in};

@@ -1,5 +1,5 @@
 //! Rule 2: each extender does what the machine of an extender does.
-ghost use Rattle.std.specs.Prelude.{◌≡◌, ◌++◌, ◌<◌, ◌≤◌, ℕ, [], List, Some, true, false, length, take, drop, slice_index, All, IfOk, OnOk};
+ghost use Rattle.std.specs.Prelude.{◌≡◌, ◌++◌, ◌<◌, ◌≤◌, ℕ, List, Some, true, false, length, take, drop, slice_index, All, IfOk, OnOk};
 ghost use Rattle.std.specs.Bool.{Decides};
 ghost use Rattle.std.specs.Str.{bytes_eq};
 ghost use Rattle.exb_model.specs.ETags.{etag_bytes, stripped, tagged};

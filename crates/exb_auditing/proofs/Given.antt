@@ -1,5 +1,5 @@
 -- Files of frames of which it is known what they give: no fault of them comes first, and their frames by port are these.
-use Rattle.std.proofs.Common.{◌≡◌, ◌⊎◌, ◌<◌, ◌≤◌, ◌-◌, ◌+◌, ◌==◌, ◌||◌, if◌then◌else◌, inl, inr, ℕ, zero, suc, Bool, true, false, List, [], ◌∷◌, ◌++◌, length, map, flat_map, Option, Some, Ok, refl, ap, sym, subst, ◌∙◌, arith, add-one, eq-eqb}
+use Rattle.std.proofs.Common.{◌≡◌, ◌⊎◌, ◌<◌, ◌≤◌, ◌-◌, ◌==◌, ◌||◌, if◌then◌else◌, inl, inr, ℕ, zero, suc, Bool, true, false, List, [], ◌∷◌, ◌++◌, length, map, flat_map, Option, Some, Ok, refl, ap, sym, subst, ◌∙◌, arith, add-one, eq-eqb}
 use Rattle.std.proofs.lemmas.Bool.{cases_lt, eqb-true}
 use Rattle.exb_model.specs.Input.{Record}
 use Rattle.exb_model.specs.Ports.{below}

@@ -1,16 +1,14 @@
 -- What stops an audit is one thing, and nothing where it finds the trace legal.
-use Rattle.std.proofs.Common.{◌≡◌, ◌⊎◌, ◌<◌, inl, inr, ℕ, zero, suc, List, Option, Some, None, ap, sym, ◌∙◌, subst, arith}
+use Rattle.std.proofs.Common.{◌≡◌, ◌⊎◌, inl, inr, ℕ, zero, suc, List, Option, Some, None, ap, sym, ◌∙◌, subst, arith}
 use Rattle.std.specs.Prelude.{⊤}
 use Rattle.std.proofs.lemmas.Bool.{cases_lt}
 use Rattle.exb_model.specs.Traces.{TraceLine}
-use Rattle.exb_audit.specs.declared.frames.PortFrames.{PortFrames}
 use Rattle.exb_audit.specs.Frames.{frames_by}
 use Rattle.exb_evidence.specs.declared.frames.FramesFault.{FramesFault}
 use Rattle.exb_evidence.specs.declared.frames.FramesFault.TheVariants as frames
 use Rattle.exb_evidence.specs.declared.frames.Grammar.TheVariants.{Either, Classic}
 use Rattle.exb_evidence.specs.declared.frames.PortFile.{PortFile}
-use Rattle.exb_evidence.specs.declared.texts.LinesFault.{LinesFault}
-use Rattle.exb_evidence.specs.Frames.{AreRead, IsFirstFault, IsFlaw, Reading, records_by}
+use Rattle.exb_evidence.specs.Frames.{IsFirstFault, IsFlaw, Reading, records_by}
 use Rattle.exb_legal.specs.Entries.{entry_in}
 use Rattle.exb_legal.specs.LineTexts.{read_line}
 use Rattle.exb_legal.specs.Rules.{Files as Evidence, HoldsRule, IsLegal, IsLowestBroken}
@@ -19,7 +17,7 @@ use Rattle.exb_text.specs.Names.{journal_name, trace_name}
 use Rattle.exb_inputs.specs.declared.fault.Fault.{Fault}
 use Rattle.exb_inputs.specs.declared.fault.Fault.TheVariants.{Illegal}
 use Rattle.exb_inputs.specs.declared.fault.Part.TheVariants as part
-use Rattle.exb_auditing.specs.Audits.{AreCaptures, AreEntries, AreLines, AreOutputs, CapturesStop, HasCaptures, HasEntries, HasOutputs, IsFoundLegal, IsSeen, JournalStops, OutputsStop, RulesStop, Seen, StopsAudit, TraceStops, captures_fault, evidence_of, lines_fault, most, outputs_fault}
+use Rattle.exb_auditing.specs.Audits.{CapturesStop, HasCaptures, HasEntries, HasOutputs, IsFoundLegal, IsSeen, JournalStops, OutputsStop, RulesStop, Seen, StopsAudit, TraceStops, captures_fault, evidence_of, lines_fault, most, outputs_fault}
 use Rattle.exb_auditing.specs.Scopes.{Scope, capture_files, output_files}
 use Rattle.exb_auditing.proofs.Told.{entries_not, entries_same, frames_not, frames_once, frames_same, lines_not, lines_same, text_once}
 

@@ -13,10 +13,9 @@ use Rattle.exb_inputs.specs.declared.fault.Fault.TheVariants.{Illegal, Memory, R
 use Rattle.exb_inputs.specs.Answers.{IsRule}
 use Rattle.exb_shelf.specs.Files.{Files, SameFiles}
 use Rattle.exb_auditing.specs.Audits.{AreCaptures, AreEntries, AreLines, AreOutputs, IsFoundLegal, IsSeen, JournalStops, OutputsStop, Seen, StopsAudit, TraceStops, evidence_of, legal_line}
-use Rattle.exb_evidence.specs.Frames.{ReadsOneOf}
 use Rattle.exb_shelf.specs.Shelf.{Id, IsReading, IsReadingOf}
 use Rattle.exb_auditing.specs.Reads.{ReadsEvidence}
-use Rattle.exb_auditing.specs.Scopes.{Scope, capture_files, output_files, scope_of}
+use Rattle.exb_auditing.specs.Scopes.{Scope, scope_of}
 
 reading_of : (name : List ℕ) (i : Id) → IsReadingOf name i → IsReading i
 reading_of name i reads = record { given = reads.given; reads = reads.reads }

@@ -12,7 +12,7 @@ ghost use Rattle.exb_inputs.specs.Reading.{IsOfAudit};
 ghost use Rattle.exb_inputs.specs.Shelving.{CountsFaults};
 ghost use Rattle.exb_auditing.specs.Audits.{AreCaptures, AreEntries, AreLines, AreOutputs, CapturesStop, IsFoundLegal, JournalStops, OutputsStop, StopsAudit, TraceStops, captures_fault, legal_line, lines_fault, outputs_fault};
 ghost use Rattle.exb_auditing.specs.Reads.{ReadsEvidence};
-ghost use Rattle.exb_auditing.specs.Scopes.{capture_files, output_files, scope_of};
+ghost use Rattle.exb_auditing.specs.Scopes.{capture_files, scope_of};
 
 use crate::files::{capture_files, output_files};
 use exb_audit::{Judged, PortFrames, judge};

@@ -11,19 +11,19 @@ use Rattle.exb_model.specs.Configuration.{Bridge}
 use Rattle.exb_model.specs.Refusals.{is_empty_set}
 use Rattle.exb_model.proofs.TreeWays.{top_high, top_below, top_hangs}
 use Rattle.exb_model.specs.Numbering.{lowest_free, is_port as is_port_of}
-use Rattle.exb_changing.specs.Planning.Sets.{PortsAt, sets_of}
+use Rattle.exb_changing.specs.Plans.Sets.{PortsAt, sets_of}
 use Rattle.exb_csp.specs.declared.ask_at.AskAt.{AskAt}
-use Rattle.exb_changing.specs.declared.plans.change.Number.{Number}
-use Rattle.exb_changing.specs.declared.plans.change.Change.{Change}
+use Rattle.exb_changing.specs.declared.planning.change.Number.{Number}
+use Rattle.exb_changing.specs.declared.planning.change.Change.{Change}
 use Rattle.exb_csp.specs.declared.message.Request.TheVariants.{Open}
-use Rattle.exb_changing.specs.Planning.Asks.{ask, create_asks}
-use Rattle.exb_changing.specs.Planning.Held.{Held, Group, channel_in, or_zero, give, give_all, give_channel, group_for, numbered, is_place, in_spaces}
-use Rattle.exb_changing.specs.Planning.Between.{goes_up, goes_down, has_set, gone_at, gone_groups, fresh_sets}
-use Rattle.exb_changing.specs.Planning.Plans.{new_channel, own_channel, with_channel, with_up, fresh_groups, claimed, change_of, prepare_of, prepare_with, cleanup_of, cleanup_with, freed_channel, number_of}
-use Rattle.exb_changing.proofs.Planning.Each.{Each, each_map, each_filter}
-use Rattle.exb_changing.proofs.Planning.SetFacts.{IsBelow, sets_below}
-use Rattle.exb_changing.proofs.Planning.Trunks.{hung_cascade, home_low, home_cascade}
-use Rattle.exb_changing.proofs.Planning.Channels.{Rises, rises_is, goes_up_rises}
+use Rattle.exb_changing.specs.Plans.Asks.{ask, create_asks}
+use Rattle.exb_changing.specs.Plans.Held.{Held, Group, channel_in, or_zero, give, give_all, give_channel, group_for, numbered, is_place, in_spaces}
+use Rattle.exb_changing.specs.Plans.Between.{goes_up, goes_down, has_set, gone_at, gone_groups, fresh_sets}
+use Rattle.exb_changing.specs.Plans.Plans.{new_channel, own_channel, with_channel, with_up, fresh_groups, claimed, change_of, prepare_of, prepare_with, cleanup_of, cleanup_with, freed_channel, number_of}
+use Rattle.exb_changing.proofs.Plans.Each.{Each, each_map, each_filter}
+use Rattle.exb_changing.proofs.Plans.SetFacts.{IsBelow, sets_below}
+use Rattle.exb_changing.proofs.Plans.Trunks.{hung_cascade, home_low, home_cascade}
+use Rattle.exb_changing.proofs.Plans.Channels.{Rises, rises_is, goes_up_rises}
 use Rattle.exb_changing.specs.Deciding.{cascades_of, channel_of, opening_asks}
 use Rattle.exb_changing.proofs.Places.{place_true}
 use Rattle.exb_changing.proofs.Released.{same_held}

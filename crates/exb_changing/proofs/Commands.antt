@@ -9,8 +9,8 @@ use Rattle.exb_model.specs.Tree.{Shape, is_external, is_extended}
 use Rattle.exb_model.specs.declared.setup.Setup.{Setup}
 use Rattle.exb_model.specs.Setup.{NamesExternal, IsStart, IsValid, shape_of, start_of}
 use Rattle.exb_model.specs.Configuration.{Bridge, after, empty_bridge}
-use Rattle.exb_changing.specs.Planning.Laws.{IsStep}
-use Rattle.exb_changing.proofs.Planning.Trunks.{extended_high}
+use Rattle.exb_changing.specs.Plans.Laws.{IsStep}
+use Rattle.exb_changing.proofs.Plans.Trunks.{extended_high}
 use Rattle.exb_changing.specs.Fitting.{HasExternals}
 
 -- ---- which ports are present

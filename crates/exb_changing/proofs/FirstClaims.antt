@@ -12,17 +12,17 @@ use Rattle.exb_model.specs.Setup.{Limits}
 use Rattle.exb_model.proofs.PortLemmas.{below-more}
 use Rattle.exb_model.proofs.TreeWays.{port_below}
 use Rattle.exb_model.specs.Numbering.{lowest_free}
-use Rattle.exb_changing.specs.Planning.Held.{Held, channel_used, free_channel, give_channel, or_zero, in_spaces}
-use Rattle.exb_changing.specs.Planning.Making.{how_many}
-use Rattle.exb_changing.proofs.Planning.Counting.{IsLowest, lowest_there, few_used}
-use Rattle.exb_changing.proofs.Planning.Each.{in_filter}
-use Rattle.exb_changing.proofs.Planning.Giving.{Gives, gives_channels, gives_one, gives_same, gives_elsewhere, gives_more}
+use Rattle.exb_changing.specs.Plans.Held.{Held, channel_used, free_channel, give_channel, or_zero, in_spaces}
+use Rattle.exb_changing.specs.Plans.Making.{how_many}
+use Rattle.exb_changing.proofs.Plans.Counting.{IsLowest, lowest_there, few_used}
+use Rattle.exb_changing.proofs.Plans.Each.{in_filter}
+use Rattle.exb_changing.proofs.Plans.Giving.{Gives, gives_channels, gives_one, gives_same, gives_elsewhere, gives_more}
 use Rattle.exb_changing.specs.Beginning.{nothing_held, with_channel_of, is_deep, deep_cascades, first_held, HasChannels}
-use Rattle.exb_changing.specs.Planning.Laws.{HoldsFirst}
+use Rattle.exb_changing.specs.Plans.Laws.{HoldsFirst}
 use Rattle.exb_changing.proofs.Places.{place_true}
 use Rattle.exb_changing.proofs.Claims.{trunk_low, trunk_cascade, given_placed}
-use Rattle.exb_changing.proofs.Planning.Options.{is_none_at, none_some, of_some}
-use Rattle.exb_changing.proofs.Planning.Bools.{and_false}
+use Rattle.exb_changing.proofs.Plans.Options.{is_none_at, none_some, of_some}
+use Rattle.exb_changing.proofs.Plans.Bools.{and_false}
 
 -- ---- how many pass below a number
 more_pass : (p : ℕ → Bool) (n : ℕ) → length (filter p (below (n + 1))) ≡ length (filter p (below n)) + length (cond (p n) (n ∷ []) [])

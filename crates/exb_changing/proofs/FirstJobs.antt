@@ -6,12 +6,12 @@ use Rattle.std.proofs.lemmas.List.{length-map}
 use Rattle.std.proofs.lemmas.List.FromFn.{length-range_with_len, get_or-range_with_len}
 use Rattle.exb_model.specs.Tree.{Shape, HangsOn, on, is_external, by_depth, externals_of}
 use Rattle.exb_model.proofs.TreeOrder.{by_depth-hangs}
-use Rattle.exb_changing.proofs.Planning.Each.{few-filter}
+use Rattle.exb_changing.proofs.Plans.Each.{few-filter}
 use Rattle.exb_changing.specs.declared.job.Job.{Job}
 use Rattle.exb_changing.specs.declared.job.Job.TheVariants as job
 use Rattle.exb_changing.specs.Beginning.{jobs_of, first_jobs}
 use Rattle.exb_changing.specs.Fitting.{Fits, AreFit}
-use Rattle.exb_changing.proofs.Planning.Lengths.{flat_at_most, few_extenders}
+use Rattle.exb_changing.proofs.Plans.Lengths.{flat_at_most, few_extenders}
 
 -- the automatic ups of the external ones of some ports
 abbrev pub ups : Shape → List ℕ → List Job

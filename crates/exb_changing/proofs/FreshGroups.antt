@@ -6,16 +6,16 @@ use Rattle.exb_model.specs.Tree.{Shape, IsTree}
 use Rattle.exb_model.specs.Setup.{Limits}
 use Rattle.exb_model.specs.Configuration.{Bridge}
 use Rattle.exb_model.specs.Refusals.{is_empty_set}
-use Rattle.exb_changing.specs.Planning.Sets.{PortsAt, is_same_set, sets_of}
-use Rattle.exb_changing.specs.Planning.Held.{Held, Group, group_for, give, give_all, numbered}
-use Rattle.exb_changing.specs.Planning.Between.{has_set, is_gone, fresh_sets, goes_up}
-use Rattle.exb_changing.specs.Planning.Plans.{new_channel, with_channel, without_channel, with_up}
-use Rattle.exb_changing.specs.Planning.Making.{AreFresh}
-use Rattle.exb_changing.proofs.Planning.Each.{Each, each_map, each_filter}
-use Rattle.exb_changing.proofs.Planning.SetFacts.{IsBelow, sets_below}
-use Rattle.exb_changing.proofs.Planning.Claiming.{AreLow, set_itself, given_here, given_else, free_set}
-use Rattle.exb_changing.proofs.Planning.Fresh.{fresh_can, fresh_low}
-use Rattle.exb_changing.proofs.Planning.NotShort.{fresh_with, none_short}
+use Rattle.exb_changing.specs.Plans.Sets.{PortsAt, is_same_set, sets_of}
+use Rattle.exb_changing.specs.Plans.Held.{Held, Group, group_for, give, give_all, numbered}
+use Rattle.exb_changing.specs.Plans.Between.{has_set, is_gone, fresh_sets, goes_up}
+use Rattle.exb_changing.specs.Plans.Plans.{new_channel, with_channel, without_channel, with_up}
+use Rattle.exb_changing.specs.Plans.Making.{AreFresh}
+use Rattle.exb_changing.proofs.Plans.Each.{Each, each_map, each_filter}
+use Rattle.exb_changing.proofs.Plans.SetFacts.{IsBelow, sets_below}
+use Rattle.exb_changing.proofs.Plans.Claiming.{AreLow, set_itself, given_here, given_else, free_set}
+use Rattle.exb_changing.proofs.Plans.Fresh.{fresh_can, fresh_low}
+use Rattle.exb_changing.proofs.Plans.NotShort.{fresh_with, none_short}
 use Rattle.exb_changing.specs.Planned.{IsPlanned}
 
 -- ---- what giving groups leaves

@@ -9,20 +9,20 @@ use Rattle.exb_model.specs.Tree.{Shape, device, is_port, is_cascade, is_extender
 use Rattle.exb_model.specs.TreeSets.{mask_of}
 use Rattle.exb_model.specs.Setup.{Limits}
 use Rattle.exb_model.specs.Configuration.{Bridge, after}
-use Rattle.exb_changing.specs.declared.plans.row.Row.{Row}
-use Rattle.exb_changing.specs.Planning.Rows.{row_of, rows_of}
+use Rattle.exb_changing.specs.declared.planning.row.Row.{Row}
+use Rattle.exb_changing.specs.Plans.Rows.{row_of, rows_of}
 use Rattle.exb_csp.specs.declared.ask_at.AskAt.{AskAt}
-use Rattle.exb_changing.specs.declared.plans.step.Step.{Step}
-use Rattle.exb_changing.specs.declared.plans.step.Step.TheVariants.{Lay, Clear}
-use Rattle.exb_changing.specs.declared.plans.change.Change.{Change}
-use Rattle.exb_changing.specs.Planning.Held.{Held, Group}
-use Rattle.exb_changing.specs.Planning.Asks.{ask, message, asks_with, rows_at, in_messages, group_asks, channel_rows, channel_ask, channel_asks, create_asks, delete_asks}
-use Rattle.exb_changing.specs.Planning.Between.{goes_up, refusal_between}
-use Rattle.exb_changing.specs.Planning.Plans.{change_of, prepare_of, cleanup_of, up_asks, down_asks}
+use Rattle.exb_changing.specs.declared.planning.step.Step.{Step}
+use Rattle.exb_changing.specs.declared.planning.step.Step.TheVariants.{Lay, Clear}
+use Rattle.exb_changing.specs.declared.planning.change.Change.{Change}
+use Rattle.exb_changing.specs.Plans.Held.{Held, Group}
+use Rattle.exb_changing.specs.Plans.Asks.{ask, message, asks_with, rows_at, in_messages, group_asks, channel_rows, channel_ask, channel_asks, create_asks, delete_asks}
+use Rattle.exb_changing.specs.Plans.Between.{goes_up, refusal_between}
+use Rattle.exb_changing.specs.Plans.Plans.{change_of, prepare_of, cleanup_of, up_asks, down_asks}
 use Rattle.exb_model.proofs.TreeOrder.{by_depth-hangs}
-use Rattle.exb_changing.proofs.Planning.Channels.{any_extended}
-use Rattle.exb_changing.proofs.Planning.Each.{Each, each_map, each_filter}
-use Rattle.exb_changing.proofs.Planning.Trunks.{extended_extender, port_extender}
+use Rattle.exb_changing.proofs.Plans.Channels.{any_extended}
+use Rattle.exb_changing.proofs.Plans.Each.{Each, each_map, each_filter}
+use Rattle.exb_changing.proofs.Plans.Trunks.{extended_extender, port_extender}
 use Rattle.exb_changing.specs.declared.job.Job.TheVariants as job
 use Rattle.exb_changing.specs.Deciding.{Ready, decide, outcome_by, opening_asks, opening_change, cascades_of, channel_of}
 use Rattle.exb_changing.specs.Planned.{AreKnown, IsKnown, PlansAreKnown}

@@ -1,4 +1,4 @@
-pub mod Planning
+pub mod Plans
 pub mod FreshGroups
 pub mod Released
 pub mod Places

@@ -4,9 +4,9 @@ use Rattle.std.specs.Prelude.{nat_lt}
 use Rattle.std.proofs.lemmas.Bool.{and_parts, lt-ltb, ltb-true}
 use Rattle.exb_model.specs.Tree.{Shape, is_cascade}
 use Rattle.exb_model.specs.Configuration.{Bridge}
-use Rattle.exb_changing.specs.Planning.Held.{Held, HoldsNeeded, is_place, in_spaces}
+use Rattle.exb_changing.specs.Plans.Held.{Held, HoldsNeeded, is_place, in_spaces}
 use Rattle.exb_changing.proofs.Released.{same_held, needed_alike}
-use Rattle.exb_changing.proofs.Planning.Bools.{and_false}
+use Rattle.exb_changing.proofs.Plans.Bools.{and_false}
 
 pub place_true : (t : Shape) (k : ℕ) → k < 64 → is_cascade t k ≡ true → is_place t k ≡ true
 place_true t k low c = rw (lt-ltb k 64 low, c) refl

@@ -8,20 +8,20 @@ use Rattle.exb_model.specs.Tree.{Shape, device, trunk, is_cascade}
 use Rattle.exb_model.specs.Setup.{Limits}
 use Rattle.exb_model.specs.Configuration.{Bridge}
 use Rattle.exb_model.specs.Refusals.{is_empty_set, sets_at}
-use Rattle.exb_changing.specs.Planning.Sets.{PortsAt, sets_of}
-use Rattle.exb_changing.proofs.Planning.Each.{list_any-map, each_map}
-use Rattle.exb_changing.specs.declared.plans.change.Number.{Number}
-use Rattle.exb_changing.specs.Planning.Held.{Held, Group, HoldsNeeded, group_in, group_used, channel_in, or_zero, numbered, free_where}
-use Rattle.exb_changing.specs.Planning.Between.{is_gone, gone_groups, goes_up, goes_down, fresh_sets}
-use Rattle.exb_changing.specs.Planning.Plans.{own_channel, new_channel, with_channel, without_channel, with_up, fresh_groups, freed_channel, number_of, claimed, freed, change_of}
-use Rattle.exb_changing.proofs.Planning.SetFacts.{IsBelow}
-use Rattle.exb_changing.proofs.Planning.Channels.{Rises, rises_is, goes_up_rises}
-use Rattle.exb_changing.proofs.Planning.GoesOn.{held_goes_on}
-use Rattle.exb_changing.proofs.Planning.Owning.{Owns, owns_from}
+use Rattle.exb_changing.specs.Plans.Sets.{PortsAt, sets_of}
+use Rattle.exb_changing.proofs.Plans.Each.{list_any-map, each_map}
+use Rattle.exb_changing.specs.declared.planning.change.Number.{Number}
+use Rattle.exb_changing.specs.Plans.Held.{Held, Group, HoldsNeeded, group_in, group_used, channel_in, or_zero, numbered, free_where}
+use Rattle.exb_changing.specs.Plans.Between.{is_gone, gone_groups, goes_up, goes_down, fresh_sets}
+use Rattle.exb_changing.specs.Plans.Plans.{own_channel, new_channel, with_channel, without_channel, with_up, fresh_groups, freed_channel, number_of, claimed, freed, change_of}
+use Rattle.exb_changing.proofs.Plans.SetFacts.{IsBelow}
+use Rattle.exb_changing.proofs.Plans.Channels.{Rises, rises_is, goes_up_rises}
+use Rattle.exb_changing.proofs.Plans.GoesOn.{held_goes_on}
+use Rattle.exb_changing.proofs.Plans.Owning.{Owns, owns_from}
 use Rattle.exb_changing.specs.Deciding.{is_number, release}
 use Rattle.exb_changing.specs.Planned.{IsPlanned, IsHeldAtCascades, ReleasedIsFreed, ReleasedIsNeeded}
-use Rattle.exb_changing.proofs.Planning.Bools.{same_tests, eq_turned}
-use Rattle.exb_changing.proofs.Planning.GoneGroups.{IsGoneAt, gone_found, gone_there}
+use Rattle.exb_changing.proofs.Plans.Bools.{same_tests, eq_turned}
+use Rattle.exb_changing.proofs.Plans.GoneGroups.{IsGoneAt, gone_found, gone_there}
 use Rattle.exb_changing.proofs.FreshGroups.{given_port, given_elsewhere, with_set, without_set, fresh_kept, fresh_below, fresh_now, fresh_placed, gone_given}
 
 pub same_held : (a b : Held) → ((k c : ℕ) → a.port k c ≡ b.port k c) → ((k g : ℕ) → a.set k g ≡ b.set k g) → a ≡ b

@@ -9,23 +9,23 @@ use Rattle.exb_model.specs.Ports.{below}
 use Rattle.exb_model.specs.Tree.{Shape, IsTree, is_cascade, device, by_depth}
 use Rattle.exb_model.specs.Setup.{Limits}
 use Rattle.exb_model.specs.Configuration.{Bridge}
-use Rattle.exb_changing.specs.declared.plans.row.Row.{Row}
-use Rattle.exb_changing.specs.Planning.Rows.{row_of, rows_of}
-use Rattle.exb_changing.specs.Planning.Sets.{sets_of}
+use Rattle.exb_changing.specs.declared.planning.row.Row.{Row}
+use Rattle.exb_changing.specs.Plans.Rows.{row_of, rows_of}
+use Rattle.exb_changing.specs.Plans.Sets.{sets_of}
 use Rattle.exb_csp.specs.declared.ask_at.AskAt.{AskAt}
-use Rattle.exb_changing.specs.declared.plans.step.Step.{Step}
-use Rattle.exb_changing.specs.declared.plans.step.Step.TheVariants.{Lay, Clear}
-use Rattle.exb_changing.specs.Planning.Between.{goes_up, goes_down, fresh_sets, gone_groups}
-use Rattle.exb_changing.specs.Planning.Asks.{channel_rows, channel_ask, channel_asks, create_asks, delete_asks, group_asks}
-use Rattle.exb_changing.specs.Planning.Plans.{new_channel, own_channel, with_up, up_asks, down_asks, fresh_groups, prepare_of, cleanup_of}
-use Rattle.exb_changing.specs.Planning.Making.{how_many, is_at, needed_at, is_short, short_of, short_by}
-use Rattle.exb_changing.proofs.Planning.Each.{each_map, few-filter, how_many-none}
-use Rattle.exb_changing.proofs.Planning.Ranges.{IsFound, found, none_passes}
-use Rattle.exb_changing.proofs.Planning.SetFacts.{IsBelow}
-use Rattle.exb_changing.proofs.Planning.NotShort.{none_short}
+use Rattle.exb_changing.specs.declared.planning.step.Step.{Step}
+use Rattle.exb_changing.specs.declared.planning.step.Step.TheVariants.{Lay, Clear}
+use Rattle.exb_changing.specs.Plans.Between.{goes_up, goes_down, fresh_sets, gone_groups}
+use Rattle.exb_changing.specs.Plans.Asks.{channel_rows, channel_ask, channel_asks, create_asks, delete_asks, group_asks}
+use Rattle.exb_changing.specs.Plans.Plans.{new_channel, own_channel, with_up, up_asks, down_asks, fresh_groups, prepare_of, cleanup_of}
+use Rattle.exb_changing.specs.Plans.Making.{how_many, is_at, needed_at, is_short, short_of, short_by}
+use Rattle.exb_changing.proofs.Plans.Each.{each_map, few-filter, how_many-none}
+use Rattle.exb_changing.proofs.Plans.Ranges.{IsFound, found, none_passes}
+use Rattle.exb_changing.proofs.Plans.SetFacts.{IsBelow}
+use Rattle.exb_changing.proofs.Plans.NotShort.{none_short}
 use Rattle.exb_changing.specs.Planned.{ChangesAreShort}
 use Rattle.exb_changing.proofs.FreshGroups.{fresh_below}
-use Rattle.exb_changing.proofs.Planning.Lengths.{few-filter_map, few_extenders, group_asks_few, numbered_many, all_gone_few, IsUpTo, sets_few}
+use Rattle.exb_changing.proofs.Plans.Lengths.{few-filter_map, few_extenders, group_asks_few, numbered_many, all_gone_few, IsUpTo, sets_few}
 
 -- ---- channels
 rows_few : (t : Shape) (p : ℕ) → length (channel_rows t p) ≤ 64

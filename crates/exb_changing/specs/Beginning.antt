@@ -5,7 +5,7 @@ use Rattle.exb_model.specs.Tree.{Shape, device, trunk, is_port, is_cascade, casc
 use Rattle.exb_model.specs.Setup.{Limits}
 use Rattle.exb_model.specs.Configuration.{Bridge}
 use Rattle.exb_csp.specs.Sessions.Asking.{begun}
-use Rattle.exb_changing.specs.Planning.Held.{Held, free_channel, give_channel}
+use Rattle.exb_changing.specs.Plans.Held.{Held, free_channel, give_channel}
 use Rattle.exb_changing.specs.declared.job.Job.{Job}
 use Rattle.exb_changing.specs.declared.job.Job.TheVariants as job
 use Rattle.exb_changing.specs.Machine.{State}

@@ -3,7 +3,7 @@ use Rattle.std.specs.Prelude.{ℕ, suc, ◌+◌, ◌&&◌, not, List, [], ◌∷
 use Rattle.std.specs.List.{range_with_len}
 use Rattle.exb_model.specs.Tree.{Shape, is_extender}
 use Rattle.exb_model.specs.Configuration.{Bridge}
-use Rattle.exb_changing.specs.Planning.Held.{Held}
+use Rattle.exb_changing.specs.Plans.Held.{Held}
 use Rattle.exb_changing.specs.declared.job.Job.{Job}
 use Rattle.exb_changing.specs.declared.job.Phase.{Phase}
 use Rattle.exb_changing.specs.declared.job.Phase.TheVariants.{Preparing, Cleaning}

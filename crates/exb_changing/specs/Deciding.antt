@@ -8,12 +8,12 @@ use Rattle.exb_model.specs.Setup.{Limits}
 use Rattle.exb_model.specs.Configuration.{Bridge, after}
 use Rattle.exb_csp.specs.declared.message.Request.TheVariants.{Open}
 use Rattle.exb_csp.specs.declared.ask_at.AskAt.{AskAt}
-use Rattle.exb_changing.specs.declared.plans.change.Number.{Number}
-use Rattle.exb_changing.specs.declared.plans.change.Change.{Change}
-use Rattle.exb_changing.specs.Planning.Asks.{ask, create_asks}
-use Rattle.exb_changing.specs.Planning.Held.{Held, or_zero, channel_in}
-use Rattle.exb_changing.specs.Planning.Between.{refusal_between}
-use Rattle.exb_changing.specs.Planning.Plans.{change_of, claimed}
+use Rattle.exb_changing.specs.declared.planning.change.Number.{Number}
+use Rattle.exb_changing.specs.declared.planning.change.Change.{Change}
+use Rattle.exb_changing.specs.Plans.Asks.{ask, create_asks}
+use Rattle.exb_changing.specs.Plans.Held.{Held, or_zero, channel_in}
+use Rattle.exb_changing.specs.Plans.Between.{refusal_between}
+use Rattle.exb_changing.specs.Plans.Plans.{change_of, claimed}
 use Rattle.exb_changing.specs.declared.job.Job.{Job}
 use Rattle.exb_changing.specs.declared.job.Job.TheVariants as job
 

@@ -1,4 +1,4 @@
-pub mod Planning
+pub mod Plans
 pub mod Deciding
 pub mod Machine
 pub mod Counting

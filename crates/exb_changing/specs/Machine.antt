@@ -11,8 +11,8 @@ use Rattle.exb_csp.specs.declared.session.asker.Taken.{Taken}
 use Rattle.exb_csp.specs.declared.session.asker.Taken.TheVariants as taken
 use Rattle.exb_csp.specs.Sessions.Asking.{AskerState, asked, beaten, message_again, took}
 use Rattle.exb_csp.specs.declared.ask_at.AskAt.{AskAt}
-use Rattle.exb_changing.specs.declared.plans.change.Change.{Change}
-use Rattle.exb_changing.specs.Planning.Held.{Held}
+use Rattle.exb_changing.specs.declared.planning.change.Change.{Change}
+use Rattle.exb_changing.specs.Plans.Held.{Held}
 use Rattle.exb_changing.specs.declared.asked.Asked.{Asked}
 use Rattle.exb_changing.specs.declared.job.Job.{Job}
 use Rattle.exb_changing.specs.declared.job.Job.TheVariants as job

@@ -4,11 +4,11 @@ use Rattle.exb_model.specs.Tree.{Shape, IsTree, is_cascade, is_extender}
 use Rattle.exb_model.specs.Setup.{Limits}
 use Rattle.exb_model.specs.Configuration.{Bridge}
 use Rattle.exb_csp.specs.declared.ask_at.AskAt.{AskAt}
-use Rattle.exb_changing.specs.declared.plans.change.Change.{Change}
-use Rattle.exb_changing.specs.Planning.Held.{Held, HoldsNeeded}
-use Rattle.exb_changing.specs.Planning.Between.{refusal_between}
-use Rattle.exb_changing.specs.Planning.Plans.{prepare_of, cleanup_of, claimed, freed, change_of}
-use Rattle.exb_changing.specs.Planning.Laws.{IsStep}
+use Rattle.exb_changing.specs.declared.planning.change.Change.{Change}
+use Rattle.exb_changing.specs.Plans.Held.{Held, HoldsNeeded}
+use Rattle.exb_changing.specs.Plans.Between.{refusal_between}
+use Rattle.exb_changing.specs.Plans.Plans.{prepare_of, cleanup_of, claimed, freed, change_of}
+use Rattle.exb_changing.specs.Plans.Laws.{IsStep}
 use Rattle.exb_changing.specs.declared.job.Job.{Job}
 use Rattle.exb_changing.specs.Deciding.{Ready, decide, release}
 use Rattle.exb_changing.specs.Fitting.{Fits}

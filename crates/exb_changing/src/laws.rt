@@ -1,10 +1,10 @@
 //! What is true of rows, sets and plans, of the requests of all plans, and of every run of the machine of changes.
-ghost use Rattle.exb_changing.specs.Planning.Carrying.{CarriedFromTheTop, GroupWordsCarry, ChannelWordsCarry, ControlWordsCarry};
-ghost use Rattle.exb_changing.specs.Planning.Rows.{RowsCover};
-ghost use Rattle.exb_changing.specs.Planning.Laying.{RowsLie};
-ghost use Rattle.exb_changing.specs.Planning.Sets.{SetsOfEach};
-ghost use Rattle.exb_changing.specs.Planning.Laws.{RefusedAsCommanded, HeldGoesOn, BeginsHeld};
-ghost use Rattle.exb_changing.specs.Planning.Uses.{UsesChange, SetsAreUsed, FreshAreTouched, GoneAreTouched, UsedAreSets};
+ghost use Rattle.exb_changing.specs.Plans.Carrying.{CarriedFromTheTop, GroupWordsCarry, ChannelWordsCarry, ControlWordsCarry};
+ghost use Rattle.exb_changing.specs.Plans.Rows.{RowsCover};
+ghost use Rattle.exb_changing.specs.Plans.Laying.{RowsLie};
+ghost use Rattle.exb_changing.specs.Plans.Sets.{SetsOfEach};
+ghost use Rattle.exb_changing.specs.Plans.Laws.{RefusedAsCommanded, HeldGoesOn, BeginsHeld};
+ghost use Rattle.exb_changing.specs.Plans.Uses.{UsesChange, SetsAreUsed, FreshAreTouched, GoneAreTouched, UsedAreSets};
 ghost use Rattle.exb_changing.specs.Planned.{ChangesAreShort, ReleasedIsFreed, ReleasedIsNeeded};
 ghost use Rattle.exb_changing.specs.Runs.Requests.{PlansRun, OpeningsRun, RestIsLaidOut, ClaimedIsLaidOut, NothingIsLaid};
 ghost use Rattle.exb_changing.specs.Runs.Begins.{SetupsBegin, Begins, RunsFromTheBeginning};

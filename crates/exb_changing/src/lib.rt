@@ -1,7 +1,7 @@
 //! Plans of changes, and the machine that carries changes out one after another, as definitions (after IEEE 802.1BR; the
 //! protocol is this project's own), with what is true of both. No code stands here but laws.
 //!
-//! Plans (`plans`, `specs/Planning`): the rows of a set of ports, the sets that a configuration needs, the numbers that
+//! Plans (`planning`, `specs/Plans`): the rows of a set of ports, the sets that a configuration needs, the numbers that
 //! are held, and the plan of a change between two configurations: what is asked of the extenders, which numbers are claimed
 //! and freed, or why it is refused. Their laws: rows carry words to exactly the ports of a set, a plan is refused where a
 //! command is, the next plan may follow, and what a command touches.
@@ -25,8 +25,8 @@
 pub mod asked;
 pub mod job;
 pub mod laws;
-pub mod plans;
+pub mod planning;
 
 pub use asked::Asked;
 pub use job::{Job, Phase};
-pub use plans::{Change, Decision, GroupAt, Number, Row, SetAt, Step};
+pub use planning::{Change, Decision, GroupAt, Number, Row, SetAt, Step};

@@ -1,5 +1,5 @@
 -- What a change of the tables is to the configuration that they stand for.
-use Rattle.std.proofs.Common.{◌≡◌, ℕ, Bool, cond, ◌&&◌, ◌==◌, List, [], refl, sym, ap, ◌∙◌, inl, inr, ◌⊎◌, eq-eqb}
+use Rattle.std.proofs.Common.{◌≡◌, ℕ, Bool, cond, ◌&&◌, ◌==◌, List, [], refl, ap, inl, inr, eq-eqb}
 use Rattle.std.specs.Prelude.{Option, None}
 use Rattle.std.proofs.lemmas.Bool.{cases_eq, ne_eqb}
 use Rattle.exb_model.specs.declared.port_set.PortSet.{PortSet}
@@ -12,7 +12,7 @@ use Rattle.exb_config.specs.declared.members.Members.{Members}
 use Rattle.exb_config.specs.Rows.{member_of, rule_of}
 use Rattle.exb_config.specs.Tables.{Tables, bridge_of}
 
-pub members_changed : (t : Tables) (rows : List (ℕ × Members)) (f : ℕ → ℕ → Option Kind) → ((v q : ℕ) → member_of rows v q ≡ f v q) →
+pub members_changed : (t : Tables) (rows : List (Option Members)) (f : ℕ → ℕ → Option Kind) → ((v q : ℕ) → member_of rows v q ≡ f v q) →
     bridge_of (record t { vlans = rows }) ≡ record (bridge_of t) { member = f }
 unfolding bridge_of
 members_changed t rows f h = λ i. record {
@@ -61,12 +61,12 @@ one_rule rules p old f e q =
       | inr other ↦ rw (ne_eqb q p other) refl
     ]
 
-pub first_tables : (s : PortSet) (rows : List (ℕ × Members)) (rules : List PortRule) (statics : List StaticAt) → rows ≡ [] → statics ≡ [] →
+pub first_tables : (s : PortSet) (rows : List (Option Members)) (rules : List PortRule) (statics : List StaticAt) → ((v q : ℕ) → member_of rows v q ≡ None) → statics ≡ [] →
     ((q : ℕ) → rule_of rules q ≡ default_rule) → bridge_of (record { present = s; vlans = rows; rules = rules; statics = statics }) ≡ empty_bridge (port_in s)
 unfolding bridge_of
 first_tables s rows rules statics no_rows no_statics all = λ i. record {
   present = port_in s;
-  member = λ v q. member_of (no_rows i) v q;
+  member = λ v q. no_rows v q i;
   rule = λ q. all q i;
   statics = no_statics i;
 }

@@ -1,7 +1,7 @@
 -- What the rows of the tables stand for.
-use Rattle.std.specs.Prelude.{◌≡◌, ℕ, Bool, List, Option, Some, None, nat_eq, is_some, map, slice_index_or}
+use Rattle.std.specs.Prelude.{◌≡◌, ℕ, Bool, List, Option, Some, None, Box, is_some, map, option_map, slice_index_or}
+use Rattle.std.specs.Global.{Global}
 use Rattle.std.specs.List.{list_any}
-use Rattle.std.specs.Map.{lookup}
 use Rattle.exb_model.specs.declared.port_set.PortSet.{PortSet}
 use Rattle.exb_model.specs.declared.vlan.Kind.{Kind}
 use Rattle.exb_model.specs.declared.rules.PortRule.{PortRule}
@@ -21,13 +21,25 @@ abbrev pub kind_by : Option Members → ℕ → Option Kind
 kind_by None q = None
 kind_by (Some m) q = kind_in m.tagged m.untagged q
 
+-- the row of a VLAN at the place of its number
+abbrev pub row_at : List (Option Members) → ℕ → Option Members
+row_at rows v = slice_index_or rows v None
+
 -- how a port (second) is a member of a VLAN (first)
-abbrev pub member_of : List (ℕ × Members) → ℕ → ℕ → Option Kind
-member_of rows v q = kind_by (lookup (nat_eq v) rows) q
+abbrev pub member_of : List (Option Members) → ℕ → ℕ → Option Kind
+member_of rows v q = kind_by (row_at rows v) q
 
 -- a VLAN has a row exactly where it has a member
-abbrev pub KeepsKnown : List (ℕ × Members) → Type 0
-KeepsKnown rows = (v : ℕ) → list_any (λ q. is_some (member_of rows v q)) all_ports ≡ is_some (lookup (nat_eq v) rows)
+abbrev pub KeepsKnown : List (Option Members) → Type 0
+KeepsKnown rows = (v : ℕ) → list_any (λ q. is_some (member_of rows v q)) all_ports ≡ is_some (row_at rows v)
+
+-- the row in a box
+abbrev pub boxed : Option (Box Members Global) → Option Members
+boxed = option_map (λ b. b.value)
+
+-- those in boxes
+abbrev pub rows_of : List (Option (Box Members Global)) → List (Option Members)
+rows_of = map boxed
 
 -- ---- rules
 abbrev pub rule_of : List PortRule → ℕ → PortRule

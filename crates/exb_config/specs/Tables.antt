@@ -1,5 +1,5 @@
 -- The configuration that the tables stand for.
-use Rattle.std.specs.Prelude.{ℕ, List}
+use Rattle.std.specs.Prelude.{List, Option}
 use Rattle.exb_model.specs.declared.port_set.PortSet.{PortSet}
 use Rattle.exb_model.specs.declared.rules.PortRule.{PortRule}
 use Rattle.exb_model.specs.declared.rules.StaticAt.{StaticAt}
@@ -8,10 +8,10 @@ use Rattle.exb_model.specs.Configuration.{Bridge}
 use Rattle.exb_config.specs.declared.members.Members.{Members}
 use Rattle.exb_config.specs.Rows.{member_of, rule_of}
 
--- the present ports, the members of each VLAN that has any, a rule for each port, and the static entries
+-- the present ports, the members of each VLAN that has any at the place of its number, a rule for each port, and the static entries
 pub record Tables : Type 0 where
   pub present : PortSet
-  pub vlans : List (ℕ × Members)
+  pub vlans : List (Option Members)
   pub rules : List PortRule
   pub statics : List StaticAt
 

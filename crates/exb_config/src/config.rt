@@ -2,7 +2,7 @@
 ghost use Rattle.std.specs.Prelude.{◌≡◌, ℕ, ◌+◌, ◌*◌, ◌<◌, ◌&&◌, is_some, slice_get, option_copied, option_map, IfOk, OnOk, OnErr};
 ghost use Rattle.exb_model.specs.Masks.{bits_of};
 ghost use Rattle.exb_model.specs.Ports.{port_in};
-ghost use Rattle.exb_model.specs.Configuration.{Bridge, after, empty_bridge, is_known};
+ghost use Rattle.exb_model.specs.Configuration.{after, empty_bridge, is_known};
 ghost use Rattle.exb_model.specs.Targets.{static_for};
 ghost use Rattle.exb_model.specs.Refusals.{is_kind};
 ghost use Rattle.exb_config.specs.Pvids.{HasPvids, IsVlan};
@@ -57,7 +57,7 @@ impl Config {
     {
         Ok(Config {
             present: *present,
-            vlans: VlanTable::new(alloc),
+            vlans: VlanTable::new(alloc)?,
             rules: PortRules::new(alloc)?,
             statics: StaticEntries::new(alloc),
         })

@@ -1,5 +1,5 @@
 //! The static entries, in their order.
-ghost use Rattle.std.specs.Prelude.{◌≡◌, ℕ, [], not, filter, slice_get, option_copied, option_map, IfOk, OnOk, OnErr};
+ghost use Rattle.std.specs.Prelude.{◌≡◌, [], not, filter, slice_get, option_copied, option_map, IfOk, OnOk, OnErr};
 ghost use Rattle.exb_model.specs.Configuration.{is_for, put_static};
 ghost use Rattle.exb_model.specs.Targets.{static_for};
 

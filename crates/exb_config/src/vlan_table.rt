@@ -1,54 +1,96 @@
 //! The members of each VLAN.
-ghost use Rattle.std.specs.Prelude.{◌≡◌, ℕ, ◌==◌, [], is_some, option_copied, if◌then◌else◌, IfOk, OnOk, OnErr};
+ghost use Rattle.std.specs.Prelude.{◌≡◌, ℕ, ◌==◌, None, Some, is_some, option_copied, if◌then◌else◌, replicate, IfOk, OnOk, OnErr};
 ghost use Rattle.std.specs.List.{list_any};
 ghost use Rattle.exb_model.specs.Ports.{all_ports};
 ghost use Rattle.exb_model.specs.Configuration.{kind_in};
-ghost use Rattle.exb_config.specs.Rows.{kind_by, member_of};
+ghost use Rattle.exb_config.specs.Rows.{has_member, kind_by, member_of, boxed};
 
 use crate::members::Members;
 use exb_model::memory::NoMemory;
 use exb_model::port::PortId;
 use exb_model::vlan::{Kind, Vid};
-use indexmap::IndexMap;
 use std::alloc::Global;
 use std::marker::Model;
 
-/// A row of members for each VLAN that has any, found by the VLAN's number.
+/// As many places as VLANs can have numbers, with 0 and 4,095, which none has.
+const PLACES: usize = 4096;
+
+/// A row of members for each VLAN that has any, at the place of the VLAN's number, so that nothing is searched.
 #[derive(Drop)]
 pub struct VlanTable {
-    rows: IndexMap<u16, Members>,
+    rows: Vec<Option<Box<Members>>>,
 }
 
 impl Model for VlanTable {
-    ghost use Rattle.std.specs.Prelude.{ℕ, List};
+    ghost use Rattle.std.specs.Prelude.{◌≡◌, List, Option, length};
     ghost use Rattle.exb_config.specs.declared.members.Members.{Members};
 
-    ghost Value = { List (ℕ × Members) };
+    ghost Value = { List (Option Members) };
 
-    ghost use Rattle.exb_config.specs.Rows.{KeepsKnown};
+    ghost use Rattle.exb_config.specs.Rows.{rows_of, KeepsKnown};
 
-    ghost view = { λ t. t.rows.entries };
+    ghost view = { λ t. rows_of t.rows.items };
 
-    ghost invariant = { λ t. KeepsKnown t.rows.entries };
+    ghost invariant = { λ t. (length t.rows.items ≡ 4096) × KeepsKnown (rows_of t.rows.items) };
+}
+
+// The row of a VLAN with these members, if there are any.
+fn row_of(alloc: Global, members: &Members) -> Result<Option<Box<Members>>, NoMemory>
+    ensures { IfOk result (λ row. boxed row ≡ (if has_member members.now then Some members.now else None)) }
+{
+    if members.is_empty() {
+        return Ok(None);
+    }
+    match Box::new(alloc, *members) {
+        Ok(row) => Ok(Some(row)),
+        Err(_) => Err(NoMemory),
+    }
+}
+
+// An equal row, if there is one.
+fn copy_of(alloc: Global, row: &Option<Box<Members>>) -> Result<Option<Box<Members>>, NoMemory>
+    ensures { IfOk result (λ made. boxed made ≡ boxed row.now) }
+{
+    match row {
+        Some(members) => match Box::new(alloc, **members) {
+            Ok(made) => Ok(Some(made)),
+            Err(_) => Err(NoMemory),
+        },
+        None => Ok(None),
+    }
+}
+
+// So many places without a row.
+fn no_rows(alloc: Global, count: usize) -> Result<Vec<Option<Box<Members>>>, NoMemory>
+    ensures { IfOk result (λ made. made.items ≡ replicate count None) }
+{
+    let mut rows = Vec::new(alloc);
+    for _ in 0..count {
+        rows.push(None)?;
+    }
+    Ok(rows)
 }
 
 impl VlanTable {
     /// No VLAN has a member.
-    pub fn new(alloc: Global) -> VlanTable
-        ensures { result ≡ [] }
+    pub fn new(alloc: Global) -> Result<VlanTable, NoMemory>
+        ensures { IfOk result (λ made. (v q : ℕ) → member_of made v q ≡ None) }
     {
-        VlanTable {
-            rows: IndexMap::new(alloc),
-        }
+        Ok(VlanTable {
+            rows: no_rows(alloc, PLACES)?,
+        })
     }
 
     /// An equal table.
     pub fn copy(&self) -> Result<VlanTable, NoMemory>
         ensures { IfOk result (λ made. made ≡ self.now) }
     {
-        Ok(VlanTable {
-            rows: self.rows.clone()?,
-        })
+        let alloc = *self.rows.allocator();
+        let mut rows = Vec::with_capacity(alloc, PLACES)?;
+        for row in &self.rows {
+            rows.push(copy_of(alloc, row)?)?;
+        }
+        Ok(VlanTable { rows })
     }
 
     /// The row of a VLAN; None exactly where it has no member.
@@ -56,15 +98,18 @@ impl VlanTable {
         ensures kinds { (q : ℕ) → kind_by (option_copied result) q ≡ member_of self.now vid q }
         ensures known { is_some (option_copied result) ≡ list_any (λ q. is_some (member_of self.now vid q)) all_ports }
     {
-        self.rows.get(&vid.number())
+        match &self.rows[vid.number() as usize] {
+            Some(members) => Some(members.as_ref()),
+            None => None,
+        }
     }
 
     /// The members of a VLAN.
     pub fn members(&self, vid: Vid) -> Members
         ensures { (q : ℕ) → kind_in result.tagged result.untagged q ≡ member_of self.now vid q }
     {
-        match self.rows.get(&vid.number()) {
-            Some(members) => *members,
+        match &self.rows[vid.number() as usize] {
+            Some(members) => **members,
             None => Members::none(),
         }
     }
@@ -73,7 +118,7 @@ impl VlanTable {
     pub fn kind(&self, vid: Vid, port: PortId) -> Option<Kind>
         ensures { result ≡ member_of self.now vid port }
     {
-        match self.rows.get(&vid.number()) {
+        match &self.rows[vid.number() as usize] {
             Some(members) => members.kind(port),
             None => None,
         }
@@ -83,7 +128,7 @@ impl VlanTable {
     pub fn is_known(&self, vid: Vid) -> bool
         ensures { result ≡ list_any (λ q. is_some (member_of self.now vid q)) all_ports }
     {
-        self.rows.contains_key(&vid.number())
+        self.rows[vid.number() as usize].is_some()
     }
 
     /// Sets the members of a VLAN. It has a row exactly while it has a member.
@@ -92,11 +137,8 @@ impl VlanTable {
             ≡ (if w == vid then kind_in members.tagged members.untagged q else member_of self.old w q)) }
         ensures err { OnErr result (self.new ≡ self.old) }
     {
-        if members.is_empty() {
-            self.rows.swap_remove(&vid.number());
-        } else {
-            self.rows.insert(vid.number(), members)?;
-        }
+        let row = row_of(*self.rows.allocator(), &members)?;
+        self.rows[vid.number() as usize] = row;
         Ok(())
     }
 }

@@ -9,7 +9,7 @@ use Rattle.exb_numbers.specs.Channels.{holder}
 use Rattle.exb_numbers.specs.Groups.{Groups, set_of}
 use Rattle.exb_numbers.specs.Spaces.{Spaces, has_space, channels_at, groups_at, no_groups, with_channels, with_groups}
 use Rattle.exb_plan.specs.Spaces.{HasSpaces, held_by}
-use Rattle.exb_changing.specs.Planning.Held.{is_place, in_spaces}
+use Rattle.exb_changing.specs.Plans.Held.{is_place, in_spaces}
 use Rattle.exb_changing.proofs.Places.{placed_same, place_true}
 use Rattle.exb_control.proofs.Spaces.{space_parts}
 

@@ -11,16 +11,16 @@ use Rattle.exb_model.specs.Setup.{Limits, NamesExternal}
 use Rattle.exb_model.specs.Configuration.{Bridge, after}
 use Rattle.exb_csp.specs.declared.message.Request.TheVariants.{PortCreate}
 use Rattle.exb_csp.specs.declared.ask_at.AskAt.{AskAt}
-use Rattle.exb_changing.specs.declared.plans.step.Step.TheVariants.{Lay}
-use Rattle.exb_changing.specs.declared.plans.change.Change.{Change}
-use Rattle.exb_changing.specs.declared.plans.change.Decision.{Decision}
-use Rattle.exb_changing.specs.declared.plans.change.Decision.TheVariants as decision
-use Rattle.exb_changing.specs.Planning.Asks.{ask, create_asks, port_number}
-use Rattle.exb_changing.specs.Planning.Held.{Held, HoldsNeeded, in_spaces}
-use Rattle.exb_changing.specs.Planning.Between.{refusal_between}
-use Rattle.exb_changing.specs.Planning.Plans.{change_of, claimed, decision as plan_decision, decision_by, held_after as plan_held, held_by_cause}
-use Rattle.exb_changing.proofs.Planning.Each.{few-filter}
-use Rattle.exb_changing.proofs.Planning.Trunks.{extended_external}
+use Rattle.exb_changing.specs.declared.planning.step.Step.TheVariants.{Lay}
+use Rattle.exb_changing.specs.declared.planning.change.Change.{Change}
+use Rattle.exb_changing.specs.declared.planning.change.Decision.{Decision}
+use Rattle.exb_changing.specs.declared.planning.change.Decision.TheVariants as decision
+use Rattle.exb_changing.specs.Plans.Asks.{ask, create_asks, port_number}
+use Rattle.exb_changing.specs.Plans.Held.{Held, HoldsNeeded, in_spaces}
+use Rattle.exb_changing.specs.Plans.Between.{refusal_between}
+use Rattle.exb_changing.specs.Plans.Plans.{change_of, claimed, decision as plan_decision, decision_by, held_after as plan_held, held_by_cause}
+use Rattle.exb_changing.proofs.Plans.Each.{few-filter}
+use Rattle.exb_changing.proofs.Plans.Trunks.{extended_external}
 use Rattle.exb_changing.specs.declared.job.Job.{Job}
 use Rattle.exb_changing.specs.declared.job.Job.TheVariants as job
 use Rattle.exb_control.specs.declared.stage.Stage.{Stage}
@@ -29,7 +29,7 @@ use Rattle.exb_changing.specs.Deciding.{Outcome, Refused, Ready, decide, outcome
 use Rattle.exb_changing.specs.Fitting.{Fits, HasExternals}
 use Rattle.exb_control.specs.ActiveConfigs.{HoldsIn, IsShort, stage_of, cause_of, held_after, decision_of}
 use Rattle.exb_changing.specs.Planned.{IsPlanned}
-use Rattle.exb_changing.proofs.Planning.Lengths.{flat_at_most, few_range}
+use Rattle.exb_changing.proofs.Plans.Lengths.{flat_at_most, few_range}
 use Rattle.exb_changing.proofs.Short.{channel_few, changes_are_short}
 use Rattle.exb_changing.proofs.Released.{released_is_needed}
 use Rattle.exb_changing.proofs.Commands.{step_of, external_after}

@@ -9,12 +9,12 @@ use Rattle.exb_model.specs.Tree.{Shape, IsTree, device, trunk, is_cascade_under}
 use Rattle.exb_model.specs.Setup.{Limits}
 use Rattle.exb_model.specs.Numbering.{lowest_free}
 use Rattle.exb_numbers.specs.Spaces.{Spaces, has_space, channels_at, groups_at}
-use Rattle.exb_changing.specs.Planning.Held.{Held, channel_in, channel_used, free_channel, give_channel, is_place, in_spaces}
+use Rattle.exb_changing.specs.Plans.Held.{Held, channel_in, channel_used, free_channel, give_channel, is_place, in_spaces}
 use Rattle.exb_plan.specs.Spaces.{HasSpaces, held_by}
 use Rattle.exb_plan.specs.Working.{CanClaimChannel, channel_limit}
-use Rattle.exb_changing.proofs.Planning.Counting.{IsLowest}
-use Rattle.exb_changing.proofs.Planning.Giving.{gives_channels}
-use Rattle.exb_changing.proofs.Planning.Trunks.{port_extender}
+use Rattle.exb_changing.proofs.Plans.Counting.{IsLowest}
+use Rattle.exb_changing.proofs.Plans.Giving.{gives_channels}
+use Rattle.exb_changing.proofs.Plans.Trunks.{port_extender}
 use Rattle.exb_changing.specs.Beginning.{nothing_held, is_deep, HasChannels}
 use Rattle.exb_changing.proofs.Places.{place_true}
 use Rattle.exb_changing.proofs.Released.{same_held}

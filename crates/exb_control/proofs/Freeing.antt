@@ -8,13 +8,13 @@ use Rattle.exb_model.specs.Tree.{Shape}
 use Rattle.exb_numbers.specs.Channels.{holder}
 use Rattle.exb_numbers.specs.Groups.{Groups, set_of}
 use Rattle.exb_numbers.specs.Spaces.{Spaces, has_space, channels_at, groups_at, no_groups, with_channels, with_groups}
-use Rattle.exb_changing.specs.declared.plans.change.Number.{Number}
-use Rattle.exb_changing.specs.Planning.Held.{Held, is_place, in_spaces}
+use Rattle.exb_changing.specs.declared.planning.change.Number.{Number}
+use Rattle.exb_changing.specs.Plans.Held.{Held, is_place, in_spaces}
 use Rattle.exb_plan.specs.Spaces.{held_by}
 use Rattle.exb_changing.specs.Deciding.{is_number, without_channel, without_group}
 use Rattle.exb_control.proofs.Spaces.{space_parts}
 use Rattle.exb_changing.proofs.Released.{same_held}
-use Rattle.exb_changing.proofs.Planning.Bools.{eq_turned}
+use Rattle.exb_changing.proofs.Plans.Bools.{eq_turned}
 
 -- ---- one number
 channel_freed : (v : Spaces) (x : Number) (now : List (Option ℕ)) → 1 ≤ x.bridge_port → has_space v (x.bridge_port - 1) ≡ true →

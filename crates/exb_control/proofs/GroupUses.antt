@@ -10,15 +10,15 @@ use Rattle.exb_model.specs.Configuration.{Bridge, after}
 use Rattle.exb_model.specs.Refusals.{is_empty_set}
 use Rattle.exb_config.specs.Tables.{Tables, bridge_of}
 use Rattle.exb_numbers.specs.Spaces.{Spaces, groups_at}
-use Rattle.exb_changing.specs.Planning.Sets.{PortsAt, sets_of}
-use Rattle.exb_changing.specs.declared.plans.change.Decision.{Decision}
-use Rattle.exb_changing.specs.declared.plans.change.Decision.TheVariants as decision
-use Rattle.exb_changing.specs.Planning.Held.{Held, HoldsNeeded, free_where, in_spaces}
+use Rattle.exb_changing.specs.Plans.Sets.{PortsAt, sets_of}
+use Rattle.exb_changing.specs.declared.planning.change.Decision.{Decision}
+use Rattle.exb_changing.specs.declared.planning.change.Decision.TheVariants as decision
+use Rattle.exb_changing.specs.Plans.Held.{Held, HoldsNeeded, free_where, in_spaces}
 use Rattle.exb_plan.specs.Spaces.{held_by}
-use Rattle.exb_changing.specs.Planning.Between.{is_gone, refusal_between}
-use Rattle.exb_changing.specs.Planning.Plans.{change_of, claimed}
-use Rattle.exb_changing.proofs.Planning.Trunks.{extended_external}
-use Rattle.exb_changing.specs.Planning.Touched.{uses_of}
+use Rattle.exb_changing.specs.Plans.Between.{is_gone, refusal_between}
+use Rattle.exb_changing.specs.Plans.Plans.{change_of, claimed}
+use Rattle.exb_changing.proofs.Plans.Trunks.{extended_external}
+use Rattle.exb_changing.specs.Plans.Touched.{uses_of}
 use Rattle.exb_plan.specs.Counted.{IsCounted, count_at}
 use Rattle.exb_plan.specs.Decisions.{IfDecided}
 use Rattle.exb_plan.specs.Recount.{HaveRowsOf}

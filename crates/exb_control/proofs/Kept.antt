@@ -7,11 +7,11 @@ use Rattle.exb_model.specs.Configuration.{Bridge}
 use Rattle.exb_config.specs.Tables.{Tables, bridge_of}
 use Rattle.exb_numbers.specs.Spaces.{Spaces}
 use Rattle.exb_config.specs.Pvids.{HasPvids}
-use Rattle.exb_changing.specs.declared.plans.change.Decision.{Decision}
-use Rattle.exb_changing.specs.Planning.Held.{Held, HoldsNeeded, in_spaces}
+use Rattle.exb_changing.specs.declared.planning.change.Decision.{Decision}
+use Rattle.exb_changing.specs.Plans.Held.{Held, HoldsNeeded, in_spaces}
 use Rattle.exb_plan.specs.Spaces.{HasSpaces, held_by}
-use Rattle.exb_changing.specs.Planning.Laws.{IsBeginning, HoldsFirst}
-use Rattle.exb_changing.proofs.Planning.Beginning.{begins_held}
+use Rattle.exb_changing.specs.Plans.Laws.{IsBeginning, HoldsFirst}
+use Rattle.exb_changing.proofs.Plans.Beginning.{begins_held}
 use Rattle.exb_changing.specs.declared.job.Job.{Job}
 use Rattle.exb_control.specs.declared.stage.Stage.{Stage}
 use Rattle.exb_control.specs.declared.stage.Stage.TheVariants.{AtRest, Prepared, InForce}

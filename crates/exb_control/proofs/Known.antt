@@ -6,8 +6,8 @@ use Rattle.exb_model.specs.Tree.{Shape, IsTree, is_extender}
 use Rattle.exb_model.specs.Setup.{Limits}
 use Rattle.exb_model.specs.Configuration.{Bridge}
 use Rattle.exb_csp.specs.declared.ask_at.AskAt.{AskAt}
-use Rattle.exb_changing.specs.declared.plans.change.Change.{Change}
-use Rattle.exb_changing.specs.Planning.Held.{Held}
+use Rattle.exb_changing.specs.declared.planning.change.Change.{Change}
+use Rattle.exb_changing.specs.Plans.Held.{Held}
 use Rattle.exb_changing.specs.declared.job.Job.{Job}
 use Rattle.exb_changing.specs.Deciding.{Ready, decide}
 use Rattle.exb_changing.specs.Fitting.{Fits}

@@ -18,7 +18,7 @@ use Rattle.exb_csp.specs.declared.session.asker.Taken.TheVariants as taken
 use Rattle.exb_csp.specs.Sessions.Asking.{AskerState, asked, took, took_body, beaten, message_again}
 use Rattle.exb_csp.proofs.Sessions.AskerLaws.{stays_sound, asks_spelled}
 use Rattle.exb_csp.proofs.Sessions.Fronts.{each_append, all_from}
-use Rattle.exb_changing.specs.declared.plans.change.Change.{Change}
+use Rattle.exb_changing.specs.declared.planning.change.Change.{Change}
 use Rattle.exb_changing.specs.declared.asked.Asked.{Asked}
 use Rattle.exb_changing.specs.declared.job.Job.{Job}
 use Rattle.exb_changing.specs.declared.job.Job.TheVariants as job

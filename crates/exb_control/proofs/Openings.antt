@@ -6,8 +6,8 @@ use Rattle.exb_model.specs.Tree.{Shape, is_port, is_cascade, is_extender}
 use Rattle.exb_model.proofs.PortLemmas.{range-more}
 use Rattle.exb_csp.specs.declared.message.Request.TheVariants.{Open}
 use Rattle.exb_csp.specs.declared.ask_at.AskAt.{AskAt}
-use Rattle.exb_changing.specs.Planning.Asks.{ask, create_asks}
-use Rattle.exb_changing.specs.Planning.Held.{Held}
+use Rattle.exb_changing.specs.Plans.Asks.{ask, create_asks}
+use Rattle.exb_changing.specs.Plans.Held.{Held}
 use Rattle.exb_plan.proofs.Lists.{flat_more}
 use Rattle.exb_changing.specs.Deciding.{cascade_asks, cascades_of, channel_of, opening_asks}
 

@@ -10,14 +10,14 @@ use Rattle.exb_model.specs.Configuration.{Bridge, after}
 use Rattle.exb_csp.specs.declared.ask_at.AskAt.{AskAt}
 use Rattle.exb_csp.specs.declared.group_rows.GroupRow.{GroupRow}
 use Rattle.exb_csp.specs.Spelling.{IsSpelledRequest}
-use Rattle.exb_changing.specs.declared.plans.row.Row.{Row}
-use Rattle.exb_changing.specs.declared.plans.step.Step.{Step}
-use Rattle.exb_changing.specs.declared.plans.step.Step.TheVariants.{Lay, Clear}
-use Rattle.exb_changing.specs.declared.plans.change.Change.{Change}
-use Rattle.exb_changing.specs.Planning.Held.{Held, Group}
-use Rattle.exb_changing.specs.Planning.Asks.{ask, pieces, in_messages, message, rows_at, asks_with, group_asks, channel_rows, channel_ask, channel_asks, create_asks, delete_asks}
-use Rattle.exb_changing.specs.Planning.Between.{goes_up, refusal_between}
-use Rattle.exb_changing.specs.Planning.Plans.{claimed, change_of, prepare_of, cleanup_of, up_asks, down_asks}
+use Rattle.exb_changing.specs.declared.planning.row.Row.{Row}
+use Rattle.exb_changing.specs.declared.planning.step.Step.{Step}
+use Rattle.exb_changing.specs.declared.planning.step.Step.TheVariants.{Lay, Clear}
+use Rattle.exb_changing.specs.declared.planning.change.Change.{Change}
+use Rattle.exb_changing.specs.Plans.Held.{Held, Group}
+use Rattle.exb_changing.specs.Plans.Asks.{ask, pieces, in_messages, message, rows_at, asks_with, group_asks, channel_rows, channel_ask, channel_asks, create_asks, delete_asks}
+use Rattle.exb_changing.specs.Plans.Between.{goes_up, refusal_between}
+use Rattle.exb_changing.specs.Plans.Plans.{claimed, change_of, prepare_of, cleanup_of, up_asks, down_asks}
 use Rattle.exb_changing.specs.declared.job.Job.{Job}
 use Rattle.exb_changing.specs.declared.job.Job.TheVariants as job
 use Rattle.exb_changing.specs.Deciding.{Ready, decide, channel_of, cascades_of, opening_asks, opening_change, outcome_by}

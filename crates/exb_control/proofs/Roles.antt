@@ -4,7 +4,7 @@ use Rattle.std.proofs.lemmas.Bool.{le-leb, and_from}
 use Rattle.exb_model.specs.declared.role.Role.{Role}
 use Rattle.exb_model.specs.declared.role.Role.TheVariants as role
 use Rattle.exb_model.specs.Tree.{Shape, IsTree, HasRole, is_port, is_cascade}
-use Rattle.exb_changing.proofs.Planning.Trunks.{hung_cascade, other_role}
+use Rattle.exb_changing.proofs.Plans.Trunks.{hung_cascade, other_role}
 use Rattle.exb_changing.specs.Beginning.{is_deep}
 
 -- a port on which an extender hangs

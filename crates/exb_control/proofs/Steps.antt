@@ -6,8 +6,8 @@ use Rattle.exb_model.specs.declared.event.Event.{Event}
 use Rattle.exb_csp.specs.Sessions.Asking.{AskerState}
 use Rattle.exb_learn.specs.Calls.{Table, Forget, after_call}
 use Rattle.exb_csp.specs.declared.ask_at.AskAt.{AskAt}
-use Rattle.exb_changing.specs.declared.plans.change.Change.{Change}
-use Rattle.exb_changing.specs.Planning.Held.{Held}
+use Rattle.exb_changing.specs.declared.planning.change.Change.{Change}
+use Rattle.exb_changing.specs.Plans.Held.{Held}
 use Rattle.exb_model.specs.Configuration.{Bridge}
 use Rattle.exb_changing.specs.declared.asked.Asked.{Asked}
 use Rattle.exb_changing.specs.declared.job.Job.{Job}

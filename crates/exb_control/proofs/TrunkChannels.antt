@@ -9,9 +9,9 @@ use Rattle.exb_model.proofs.TreeWays.{top_low, top_hangs}
 use Rattle.exb_model.specs.Numbering.{is_port}
 use Rattle.exb_numbers.specs.Channels.{channel_of}
 use Rattle.exb_numbers.specs.Spaces.{Spaces, has_space, channels_at}
-use Rattle.exb_changing.specs.Planning.Held.{Held, channel_in}
+use Rattle.exb_changing.specs.Plans.Held.{Held, channel_in}
 use Rattle.exb_plan.specs.Spaces.{held_by}
-use Rattle.exb_changing.specs.Planning.Held.{is_place, in_spaces}
+use Rattle.exb_changing.specs.Plans.Held.{is_place, in_spaces}
 use Rattle.exb_model.proofs.TreeHung.{hung_cascade}
 use Rattle.exb_control.specs.Controls.{channel_at_trunk}
 

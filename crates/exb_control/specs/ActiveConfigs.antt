@@ -7,10 +7,10 @@ use Rattle.exb_model.specs.declared.event.Cause.{Cause}
 use Rattle.exb_config.specs.Tables.{Tables, bridge_of}
 use Rattle.exb_numbers.specs.Spaces.{Spaces}
 use Rattle.exb_config.specs.Pvids.{HasPvids}
-use Rattle.exb_changing.specs.declared.plans.change.Change.{Change}
-use Rattle.exb_changing.specs.declared.plans.change.Decision.{Decision}
-use Rattle.exb_changing.specs.declared.plans.change.Decision.TheVariants as decision
-use Rattle.exb_changing.specs.Planning.Held.{Held, HoldsNeeded, in_spaces}
+use Rattle.exb_changing.specs.declared.planning.change.Change.{Change}
+use Rattle.exb_changing.specs.declared.planning.change.Decision.{Decision}
+use Rattle.exb_changing.specs.declared.planning.change.Decision.TheVariants as decision
+use Rattle.exb_changing.specs.Plans.Held.{Held, HoldsNeeded, in_spaces}
 use Rattle.exb_plan.specs.Spaces.{HasSpaces, held_by}
 use Rattle.exb_changing.specs.declared.job.Job.{Job}
 use Rattle.exb_control.specs.declared.stage.Stage.{Stage}

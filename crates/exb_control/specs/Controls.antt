@@ -9,8 +9,8 @@ use Rattle.exb_csp.specs.Sessions.Asking.{AskerState, begun}
 use Rattle.exb_learn.specs.Calls.{Table, Forget, after_call}
 use Rattle.exb_learn.specs.Entries.{Entries}
 use Rattle.exb_csp.specs.declared.ask_at.AskAt.{AskAt}
-use Rattle.exb_changing.specs.declared.plans.change.Change.{Change}
-use Rattle.exb_changing.specs.Planning.Held.{Held, channel_in}
+use Rattle.exb_changing.specs.declared.planning.change.Change.{Change}
+use Rattle.exb_changing.specs.Plans.Held.{Held, channel_in}
 use Rattle.exb_changing.specs.declared.job.Job.{Job}
 use Rattle.exb_changing.specs.declared.job.Phase.{Phase}
 use Rattle.exb_changing.specs.declared.job.Phase.TheVariants.{Preparing, Cleaning}

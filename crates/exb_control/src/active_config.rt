@@ -4,12 +4,12 @@ ghost use Rattle.exb_model.specs.Setup.{Limits, IsValid, shape_of, limits_of, st
 ghost use Rattle.exb_config.specs.Tables.{bridge_of};
 ghost use Rattle.exb_plan.specs.Spaces.{HasSpaces, held_by};
 ghost use Rattle.exb_plan.specs.Working.{IsAlike};
-ghost use Rattle.exb_changing.specs.declared.plans.change.Change.{Change};
+ghost use Rattle.exb_changing.specs.declared.planning.change.Change.{Change};
 ghost use Rattle.exb_changing.specs.Beginning.{first_held};
 ghost use Rattle.exb_changing.specs.Deciding.{bridge_after, release, decide};
 ghost use Rattle.exb_config.specs.Pvids.{HasPvids};
 ghost use Rattle.exb_control.specs.ActiveConfigs.{bridge_at_end, held_at_end};
-ghost use Rattle.exb_changing.specs.Planning.Held.{in_spaces};
+ghost use Rattle.exb_changing.specs.Plans.Held.{in_spaces};
 
 use crate::beginning::first_spaces;
 use crate::copying::copy_spaces;

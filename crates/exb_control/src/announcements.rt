@@ -1,5 +1,5 @@
 //! Which extenders were heard.
-ghost use Rattle.std.specs.Prelude.{◌≡◌, ◌<◌, ◌≤◌, ◌&&◌, true, false, if◌then◌else◌, nat_lt, slice_index};
+ghost use Rattle.std.specs.Prelude.{◌≡◌, ◌<◌, ◌≤◌, ◌&&◌, false, if◌then◌else◌, nat_lt, slice_index};
 ghost use Rattle.exb_model.specs.Setup.{IsValid, shape_of};
 ghost use Rattle.exb_control.specs.Controls.{address_of, is_announced, is_heard};
 ghost use Rattle.exb_control.specs.Steps.{heard_of, noted, waits_for, unheard_at, unheard_to};

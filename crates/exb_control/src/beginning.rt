@@ -3,11 +3,11 @@ ghost use Rattle.std.specs.Prelude.{◌≡◌, ◌/◌, ◌≤◌, IfOk};
 ghost use Rattle.exb_model.specs.Tree.{trunk};
 ghost use Rattle.exb_model.specs.Setup.{Limits};
 ghost use Rattle.exb_plan.specs.Spaces.{HasSpaces, held_by};
-ghost use Rattle.exb_changing.specs.Planning.Held.{free_channel, give_channel};
+ghost use Rattle.exb_changing.specs.Plans.Held.{free_channel, give_channel};
 ghost use Rattle.exb_plan.specs.Working.{CanClaimChannel, IsAlike, channel_limit};
 ghost use Rattle.exb_changing.specs.Beginning.{nothing_held, is_deep, first_held, HasChannels};
-ghost use Rattle.exb_changing.specs.Planning.Laws.{HoldsFirst};
-ghost use Rattle.exb_changing.specs.Planning.Held.{in_spaces};
+ghost use Rattle.exb_changing.specs.Plans.Laws.{HoldsFirst};
+ghost use Rattle.exb_changing.specs.Plans.Held.{in_spaces};
 
 use exb_model::memory::NoMemory;
 use exb_model::port::{PORTS, PortId};

@@ -1,8 +1,8 @@
 //! Copies of the spaces.
-ghost use Rattle.std.specs.Prelude.{◌≡◌, ℕ, ◌-◌, ◌≤◌, true, IfOk, OnOk};
+ghost use Rattle.std.specs.Prelude.{◌≡◌, ◌-◌, ◌≤◌, true, IfOk, OnOk};
 ghost use Rattle.exb_numbers.specs.Spaces.{has_space, with_channels, with_groups, channels_at, groups_at};
 ghost use Rattle.exb_plan.specs.Spaces.{HasSpaces, held_by};
-ghost use Rattle.exb_changing.specs.Planning.Held.{in_spaces};
+ghost use Rattle.exb_changing.specs.Plans.Held.{in_spaces};
 
 use crate::releasing::is_place;
 use exb_model::memory::NoMemory;

@@ -5,7 +5,7 @@ ghost use Rattle.exb_model.specs.Setup.{Limits};
 ghost use Rattle.exb_config.specs.Tables.{bridge_of};
 ghost use Rattle.exb_numbers.specs.Spaces.{groups_at};
 ghost use Rattle.exb_plan.specs.Spaces.{HasSpaces, held_by};
-ghost use Rattle.exb_changing.specs.Planning.Held.{HoldsNeeded};
+ghost use Rattle.exb_changing.specs.Plans.Held.{HoldsNeeded};
 ghost use Rattle.exb_plan.specs.Working.{SpacesOf};
 ghost use Rattle.exb_plan.specs.Counted.{IsCounted};
 ghost use Rattle.exb_plan.specs.Decisions.{IfDecided};

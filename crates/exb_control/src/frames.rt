@@ -1,12 +1,9 @@
 //! Frames that come to the bridge: they are ignored, or relayed and then learned from.
-ghost use Rattle.std.specs.Prelude.{◌≡◌, ◌≤◌, ◌++◌, ◌∷◌, [], List, ℕ, true, length, IfOk, OnOk};
-ghost use Rattle.exb_model.specs.Tree.{is_external};
+ghost use Rattle.std.specs.Prelude.{◌≡◌, ◌≤◌, ◌∷◌, [], true, length, IfOk, OnOk};
 ghost use Rattle.exb_model.specs.EagerHistory.{is_relayed, arrival_event};
 ghost use Rattle.exb_config.specs.Tables.{bridge_of};
-ghost use Rattle.exb_learn.specs.Entries.{table_of, look_of};
+ghost use Rattle.exb_learn.specs.Entries.{table_of};
 ghost use Rattle.exb_learn.specs.Histories.{relay_call, after_any};
-ghost use Rattle.exb_relay.specs.Spaces.{numbers_of};
-ghost use Rattle.exb_relay.specs.Sends.{sends_of, ingress_of};
 ghost use Rattle.exb_control.specs.ActiveConfigs.{bridge_in};
 ghost use Rattle.exb_control.specs.Arrivals.{arrival_of};
 ghost use Rattle.exb_control.specs.Boxes.{taught, sends_for, ingress_for, vid_in};

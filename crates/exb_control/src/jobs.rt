@@ -1,5 +1,5 @@
 //! The jobs to begin with.
-ghost use Rattle.std.specs.Prelude.{◌≡◌, ◌<◌, ◌++◌, ◌∷◌, [], OnOk, map};
+ghost use Rattle.std.specs.Prelude.{◌≡◌, ◌<◌, ◌++◌, [], OnOk, map};
 ghost use Rattle.exb_model.specs.Tree.{externals_of, is_external};
 ghost use Rattle.exb_changing.specs.Beginning.{first_jobs};
 ghost use Rattle.exb_control.specs.Steps.{up_if};

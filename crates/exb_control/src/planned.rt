@@ -1,5 +1,5 @@
 //! How many exchanges are still to come.
-ghost use Rattle.std.specs.Prelude.{◌≡◌, ◌+◌, ◌*◌, ◌≤◌, ◌<◌, ◌^◌, [], false, Ok, IfOk, OnOk, is_err, length};
+ghost use Rattle.std.specs.Prelude.{◌≡◌, ◌*◌, ◌≤◌, ◌<◌, ◌^◌, [], false, Ok, IfOk, OnOk, is_err, length};
 ghost use Rattle.exb_changing.specs.Counting.{requests_of, requests_in, bridge_left, held_left, planned};
 ghost use Rattle.exb_changing.specs.Fitting.{Fits, AreFit};
 ghost use Rattle.exb_control.specs.ActiveConfigs.{bridge_in, held_in, bridge_at_end, held_at_end};

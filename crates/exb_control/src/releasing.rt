@@ -1,10 +1,10 @@
 //! How the numbers of a change are freed.
-ghost use Rattle.std.specs.Prelude.{◌≡◌, ◌-◌, ◌<◌, ◌&&◌, nat_lt};
+ghost use Rattle.std.specs.Prelude.{◌≡◌, ◌-◌, ◌&&◌, nat_lt};
 ghost use Rattle.exb_model.specs.Setup.{Limits};
 ghost use Rattle.exb_plan.specs.Spaces.{HasSpaces, held_by};
 ghost use Rattle.exb_plan.specs.Working.{IsAlike};
 ghost use Rattle.exb_changing.specs.Deciding.{release, without_channel, without_group};
-ghost use Rattle.exb_changing.specs.Planning.Held.{is_place, in_spaces};
+ghost use Rattle.exb_changing.specs.Plans.Held.{is_place, in_spaces};
 
 use exb_changing::{Change, Number};
 use exb_model::port::PortId;

@@ -1,5 +1,5 @@
 //! The bridge's ends of the sessions with its extenders.
-ghost use Rattle.std.specs.Prelude.{◌≡◌, ◌<◌, ◌^◌, IfOk, IsNone, length, replicate};
+ghost use Rattle.std.specs.Prelude.{◌≡◌, ◌<◌, ◌^◌, IfOk, length, replicate};
 ghost use Rattle.exb_csp.specs.Sessions.Asking.{begun, asked, took, beaten, message_again};
 ghost use Rattle.exb_control.specs.Steps.{askers_of, put, due};
 

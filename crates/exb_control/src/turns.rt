@@ -3,7 +3,6 @@ ghost use Rattle.std.specs.Prelude.{◌≡◌, ◌++◌, ◌∷◌, [], ◌+◌,
 ghost use Rattle.exb_model.specs.Setup.{NamesExternal};
 ghost use Rattle.exb_learn.specs.Entries.{table_of};
 ghost use Rattle.exb_csp.specs.Sessions.Asking.{took};
-ghost use Rattle.exb_control.specs.ActiveConfigs.{bridge_in};
 ghost use Rattle.exb_changing.specs.Fitting.{AreFit};
 ghost use Rattle.exb_changing.specs.Machine.{goes_on, wakes, answered};
 ghost use Rattle.exb_control.specs.Controls.{work_at, decide_of};

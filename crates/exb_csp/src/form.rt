@@ -1,7 +1,7 @@
 //! The types of messages as their numbers.
 
 ghost use Rattle.std.specs.Prelude.{◌≡◌};
-ghost use Rattle.exb_csp.specs.Kinds.{number_of, kind_numbered, type_of, form_of, is_length};
+ghost use Rattle.exb_csp.specs.Kinds.{number_of, kind_numbered, form_of, is_length};
 
 use crate::message::RequestKind;
 

@@ -1,10 +1,10 @@
 //! The plain program of executing requests: a word of 64 bits for each E-CID, and loops that do what
 //! the definition says. Tests and faster programs are held against it.
 
-ghost use Rattle.std.specs.Prelude.{◌≡◌, ◌≢◌, ℕ, ◌+◌, ◌-◌, ◌*◌, ◌<◌, ◌≤◌, ◌==◌, ◌&&◌, ◌||◌, [], ◌∷◌, not, nat_lt, nat_le, Bool, List, length, slice_index, slice_index_or, false, All, IfOk, IsTrue, if◌then◌else◌};
+ghost use Rattle.std.specs.Prelude.{◌≡◌, ◌≢◌, ℕ, ◌+◌, ◌<◌, ◌≤◌, ◌==◌, ◌&&◌, ◌||◌, [], nat_lt, nat_le, List, length, slice_index, slice_index_or, false, All, IfOk, if◌then◌else◌};
 ghost use Rattle.std.specs.List.{list_all};
 ghost use Rattle.std.specs.Int.{bit_at};
-ghost use Rattle.exb_csp.specs.Execute.{is_channel, is_ecid, in_mask, some_port, has_stray, is_named, in_rows, is_listed, create_code, row_code, rows_code, clears_code, code_of, answered_ports, executed, response_to};
+ghost use Rattle.exb_csp.specs.Execute.{is_channel, is_ecid, in_mask, some_port, has_stray, is_named, create_code, row_code, rows_code, clears_code, answered_ports, executed, response_to};
 ghost use Rattle.exb_csp.specs.Plain.{IsPlain, AddsRows, ClearsRows, ClearsPair, tables_in, tables_of, powered_on, is_shut, Created, Deleted, IsChange};
 
 use crate::group_rows::GroupRow;

@@ -1,8 +1,8 @@
 //! Reading the bytes of a control message.
 
-ghost use Rattle.std.specs.Prelude.{◌≡◌, ◌+◌, ◌*◌, ◌/◌, ◌≤◌, ◌<◌, ◌==◌, length, drop, IsTrue, OnOk, IfOk};
+ghost use Rattle.std.specs.Prelude.{◌≡◌, ◌+◌, ◌*◌, ◌≤◌, length, drop, IsTrue, OnOk, IfOk};
 ghost use Rattle.exb_csp.specs.Kinds.{is_length};
-ghost use Rattle.exb_csp.specs.Reading.{u16_at, u64_at, row_at, rows_at, ecids_at, request_in, ports_in, response_in, body_in, form_at, serial_at, read_message};
+ghost use Rattle.exb_csp.specs.Reading.{u16_at, u64_at, rows_at, ecids_at, request_in, ports_in, response_in, body_in, form_at, serial_at, read_message};
 ghost use Rattle.exb_csp.specs.Spelling.{message_bytes, HasSpelling};
 ghost use Rattle.exb_csp.specs.declared.form.Form.TheVariants as forms;
 

@@ -4,11 +4,10 @@ ghost use Rattle.std.specs.Prelude.{◌≡◌, ◌+◌, ◌*◌, ◌≤◌, ◌+
 ghost use Rattle.std.specs.Int.{w16, w64, to_be_bytes};
 ghost use Rattle.std.specs.List.{flat_map};
 ghost use Rattle.arrayvec.specs.ArrayVec.{array_vec_len};
-ghost use Rattle.exb_csp.specs.Kinds.{kind_of, type_of};
-ghost use Rattle.exb_csp.specs.Spelling.{row_bytes, ecid_bytes, request_bytes, answer_bytes, form_in, body_bytes, message_bytes, HasSpelling};
+ghost use Rattle.exb_csp.specs.Spelling.{row_bytes, ecid_bytes, request_bytes, answer_bytes, message_bytes, HasSpelling};
 
 use crate::ecids::Ecids;
-use crate::form::{Form, number_of};
+use crate::form::number_of;
 use crate::group_rows::GroupRows;
 use crate::message::{Body, Message, Request, RequestKind, Response};
 use exb_model::buffers::ControlBuf;

@@ -1,5 +1,5 @@
 -- What reading counts, one call after the other.
-use Rattle.std.proofs.Common.{◌≡◌, ◌∙◌, ℕ, List, Result, Ok, Err, ap, arith, sym, subst}
+use Rattle.std.proofs.Common.{◌≡◌, ◌∙◌, ℕ, Result, Ok, Err, ap, arith, sym, subst}
 use Rattle.std.specs.Prelude.{IfErr}
 use Rattle.exb_shelf.specs.Counting.{one_more}
 use Rattle.exb_shelf.specs.Shelf.{Faults, NoFewer, Rose}

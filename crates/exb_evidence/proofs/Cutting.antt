@@ -1,12 +1,11 @@
 -- Texts that are cut at their newlines, and what is kept of one that is fed in pieces.
-use Rattle.std.proofs.Common.{◌≡◌, ◌≢◌, ◌<◌, ◌≤◌, ◌-◌, ◌+◌, ◌^◌, ◌==◌, ℕ, zero, suc, Bool, true, false, cond, List, [], ◌∷◌, ◌++◌, length, take, drop, get_or, Option, Some, None, refl, ap, sym, subst, inl, inr, ◌∙◌, arith, append_assoc, length-append, take-add}
-use Rattle.std.specs.Prelude.{◌⊎◌, All, is_some, min, option_map, option_and_then, flat_map}
+use Rattle.std.proofs.Common.{◌≡◌, ◌≢◌, ◌<◌, ◌≤◌, ◌-◌, ◌+◌, ◌^◌, ◌==◌, ℕ, suc, Bool, true, false, cond, List, [], ◌∷◌, ◌++◌, length, take, drop, get_or, Option, Some, None, refl, ap, sym, subst, ◌∙◌, arith, append_assoc, length-append, take-add}
+use Rattle.std.specs.Prelude.{is_some, min, option_map, option_and_then}
 use Rattle.std.specs.List.{slice_split}
 use Rattle.std.proofs.lemmas.List.{append-nil, flat_map_more, take-append-drop, take_rest, take_more, take_all, get_or-drop, length-drop}
 use Rattle.std.proofs.lemmas.Bool.{ne_eqb, false≢true, eqb-true}
 use Rattle.std.proofs.lemmas.List.Elements.{All-append, All-nil}
 use Rattle.std.proofs.lemmas.List.Splits.{slice_split_at, slice_split_none, length-slice_split}
-use Rattle.exb_legal.specs.Entries.{entry_in}
 use Rattle.exb_legal.specs.Reading.{Each}
 use Rattle.exb_legal.specs.TextReading.{all_read, each_ended, lines_in}
 use Rattle.exb_legal.proofs.Entries.{each_last}

@@ -1,12 +1,12 @@
 -- Of a text there is one answer.
-use Rattle.std.proofs.Common.{◌≡◌, ◌≢◌, ◌<◌, ◌≤◌, ◌+◌, ◌==◌, ℕ, suc, Bool, true, false, List, [], ◌∷◌, ◌++◌, length, Option, Some, None, cond, refl, ap, sym, subst, ◌∙◌, arith}
+use Rattle.std.proofs.Common.{◌≡◌, ◌+◌, ◌==◌, ℕ, suc, Bool, true, false, List, [], ◌∷◌, ◌++◌, length, Option, Some, None, cond, refl, ap, sym, subst, ◌∙◌, arith}
 use Rattle.std.specs.Prelude.{is_some, option_map, option_and_then}
 use Rattle.std.specs.List.{slice_split}
 use Rattle.exb_model.specs.Traces.{TraceLine}
 use Rattle.exb_legal.specs.Entries.{Entry, entry_in}
 use Rattle.exb_legal.specs.LineTexts.{read_line, read_trace}
 use Rattle.exb_legal.specs.Reading.{Each}
-use Rattle.exb_legal.specs.TextReading.{all_read, each_ended, lines_in}
+use Rattle.exb_legal.specs.TextReading.{all_read, lines_in}
 use Rattle.exb_evidence.specs.declared.texts.LinesFault.{LinesFault}
 use Rattle.exb_evidence.specs.declared.texts.LinesFault.TheVariants.{Memory, Read, Missing, Large, Bad}
 use Rattle.exb_evidence.specs.Feeding.{journal_line}

@@ -1,8 +1,7 @@
 -- Files of frames, one after the other.
-use Rattle.std.proofs.Common.{◌≡◌, ◌<◌, ◌≤◌, ◌-◌, ◌+◌, ◌==◌, if◌then◌else◌, ℕ, List, [], ◌∷◌, ◌++◌, length, take, drop, map, Option, Some, None, Result, Ok, Err, refl, ap, sym, subst, inl, inr, ◌∙◌, arith}
+use Rattle.std.proofs.Common.{◌≡◌, ◌≤◌, ◌-◌, ◌+◌, ◌==◌, if◌then◌else◌, ℕ, List, [], ◌∷◌, ◌++◌, length, map, Option, Some, None, Ok, Err, refl, ap, sym, subst, inl, inr, ◌∙◌, arith}
 use Rattle.std.specs.Prelude.{◌⊎◌}
 use Rattle.exb_model.specs.Input.{Record}
-use Rattle.exb_capture.specs.declared.fault.Fault.{Fault}
 use Rattle.exb_shelf.specs.Files.{Files, bytes_of}
 use Rattle.exb_legal.specs.Reading.{Each}
 use Rattle.exb_audit.specs.declared.frames.PortFrames.{PortFrames}
@@ -10,7 +9,7 @@ use Rattle.exb_audit.specs.Frames.{frames_by}
 use Rattle.exb_evidence.specs.declared.frames.PortFile.{PortFile}
 use Rattle.exb_evidence.specs.declared.frames.FramesFault.{FramesFault}
 use Rattle.exb_evidence.specs.declared.frames.FramesFault.TheVariants.{Memory, Read, Missing, Broken, Large}
-use Rattle.exb_evidence.specs.Frames.{Reading, IsReadFrom, EachIsRead, total, AreRead, IsGood, StandsBy, IsFlaw, IsFirstFault}
+use Rattle.exb_evidence.specs.Frames.{Reading, IsReadFrom, EachIsRead, total, AreRead, IsGood, IsFlaw, IsFirstFault}
 
 pub total_more : (file : Files) (xs ys : List PortFile) → total file (xs ++ ys) ≡ total file xs + total file ys
 total_more file [] ys = omega arith

@@ -1,6 +1,6 @@
 -- A text on a shelf that is read piece by piece.
-use Rattle.std.proofs.Common.{◌≡◌, ◌<◌, ◌≤◌, ◌+◌, ◌-◌, ℕ, false, List, [], ◌++◌, length, take, drop, Option, Some, None, refl, ap, sym, subst, inl, inr, ◌∙◌, arith, take-add, length-take}
-use Rattle.std.specs.Prelude.{◌⊎◌, IsSome, min}
+use Rattle.std.proofs.Common.{◌≡◌, ◌≤◌, ◌+◌, ℕ, false, List, [], ◌++◌, length, take, drop, Option, Some, None, refl, ap, sym, subst, inl, inr, ◌∙◌, arith, take-add, length-take}
+use Rattle.std.specs.Prelude.{◌⊎◌, IsSome}
 use Rattle.std.proofs.lemmas.Bool.{cases_lt}
 use Rattle.std.proofs.lemmas.List.{length-drop, length-take-le, take_all}
 use Rattle.exb_shelf.specs.Files.{Files, SameFiles, bytes_of}

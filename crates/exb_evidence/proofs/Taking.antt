@@ -1,5 +1,5 @@
 -- What is read of a capture in either format, of one that can only be classic.
-use Rattle.std.proofs.Common.{◌≡◌, ◌≢◌, ◌<◌, ◌≤◌, ◌-◌, ◌+◌, ◌*◌, ℕ, zero, suc, List, [], ◌∷◌, ◌++◌, length, take, drop, get_or, map, Option, Some, None, Result, Ok, Err, refl, ap, sym, subst, inl, inr, ◌∙◌, arith, true, false, Bool}
+use Rattle.std.proofs.Common.{◌≡◌, ◌≢◌, ◌<◌, ◌≤◌, ℕ, zero, suc, List, [], ◌∷◌, ◌++◌, length, take, drop, get_or, map, Option, Some, None, Ok, Err, refl, ap, sym, subst, inl, inr, ◌∙◌, arith, true, false, Bool}
 use Rattle.std.specs.Prelude.{◌⊎◌, ◌&&◌, IsSome, nat_lt}
 use Rattle.std.proofs.lemmas.Bool.{ne_eqb, ltb-true, and_parts}
 use Rattle.std.proofs.lemmas.List.{map-append}
@@ -23,7 +23,7 @@ use Rattle.exb_evidence.specs.declared.frames.PortFile.{PortFile}
 use Rattle.exb_evidence.specs.declared.frames.FramesFault.{FramesFault}
 use Rattle.exb_evidence.specs.declared.frames.FramesFault.TheVariants.{Memory, Read, Missing, Broken, Large}
 use Rattle.exb_evidence.specs.Capturing.{BeginsWith, IsTaken, IsTakenOf, halted}
-use Rattle.exb_evidence.specs.Frames.{Reading, HoldsRecords, StandsBy, IsFlaw}
+use Rattle.exb_evidence.specs.Frames.{Reading, StandsBy, IsFlaw}
 
 -- ---- the frames of what was taken
 -- of a file of these bytes some records were taken, and these are their frames

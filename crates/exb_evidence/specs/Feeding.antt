@@ -1,5 +1,5 @@
 -- A text that is fed in pieces, and what is kept of it: what its lines are read as, and the last part, which isn't ended yet.
-use Rattle.std.specs.Prelude.{◌≡◌, ◌+◌, ◌==◌, ◌^◌, ◌-◌, ℕ, Bool, true, false, is_some, if◌then◌else◌, List, [], ◌∷◌, ◌++◌, length, flat_map, min, Option, Some, None, All, IfOk, OnOk, Result}
+use Rattle.std.specs.Prelude.{◌≡◌, ◌==◌, ℕ, Bool, true, false, is_some, if◌then◌else◌, List, [], ◌∷◌, ◌++◌, flat_map, Option, Some, None, All}
 use Rattle.exb_shelf.specs.declared.shelf.OpenFault.{OpenFault}
 use Rattle.exb_shelf.specs.declared.shelf.OpenFault.TheVariants as opening
 use Rattle.exb_shelf.specs.declared.shelf.ShelfFault.{ShelfFault}

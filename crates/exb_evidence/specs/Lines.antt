@@ -1,5 +1,5 @@
 -- Texts that are read line by line, and the first line of one that can't be read.
-use Rattle.std.specs.Prelude.{◌≡◌, ◌≢◌, ◌<◌, ◌≤◌, ◌+◌, ◌==◌, ℕ, true, is_some, List, [], ◌∷◌, ◌++◌, length, Option, Some, None, option_map, Result, Ok, Err, IsErrOf}
+use Rattle.std.specs.Prelude.{◌≡◌, ◌≢◌, ◌<◌, ◌≤◌, ◌+◌, ◌==◌, ℕ, true, is_some, List, [], ◌∷◌, ◌++◌, length, Option, Some, None, Result, Ok, Err, IsErrOf}
 use Rattle.std.specs.List.{slice_split}
 use Rattle.exb_model.specs.Traces.{TraceLine}
 use Rattle.exb_shelf.specs.Counting.{missing_more, reads_more}

@@ -1,5 +1,5 @@
 //! The frames of one file.
-ghost use Rattle.std.specs.Prelude.{◌≡◌, ◌<◌, ◌≤◌, ◌⊎◌, [], None, IfOk, IfErr, IsErrOf};
+ghost use Rattle.std.specs.Prelude.{◌≡◌, ◌≤◌, ◌⊎◌, [], None, IfOk, IfErr, IsErrOf};
 ghost use Rattle.exb_capture.specs.Captures.{capture_records};
 ghost use Rattle.exb_capture.specs.Counts.{after_looking};
 ghost use Rattle.exb_capture.specs.Classic.{pcap_records};

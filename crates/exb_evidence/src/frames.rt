@@ -1,5 +1,5 @@
 //! The frames of several files, by port.
-ghost use Rattle.std.specs.Prelude.{◌≡◌, ◌<◌, ◌≤◌, ◌⊎◌, IfOk, IfErr};
+ghost use Rattle.std.specs.Prelude.{◌≡◌, ◌≤◌, ◌⊎◌, IfOk, IfErr};
 ghost use Rattle.exb_shelf.specs.Files.{SameFiles};
 ghost use Rattle.exb_shelf.specs.Shelf.{Opens, IsReadingOf};
 ghost use Rattle.exb_evidence.specs.Capturing.{IsTakenOf};

@@ -1,5 +1,5 @@
 -- An extender's own frames.
-use Rattle.std.proofs.Common.{◌≡◌, ℕ, zero, suc, ◌+◌, ◌≤◌, ◌==◌, ◌&&◌, Bool, true, false, cond, not, List, [], ◌∷◌, ◌++◌, length, drop, All, Option, Some, None, Result, Ok, Err, refl, sym, ap, subst, arith}
+use Rattle.std.proofs.Common.{◌≡◌, ℕ, zero, suc, ◌≤◌, ◌==◌, ◌&&◌, Bool, true, false, cond, not, List, [], ◌∷◌, ◌++◌, length, drop, All, Option, Some, None, Result, Ok, Err, refl, sym, ap, subst, arith}
 use Rattle.std.specs.Prelude.{nat_le, IfSome}
 use Rattle.std.proofs.lemmas.Bool.{le-leb}
 use Rattle.exb_model.specs.Frames.{is_control_frame}
@@ -11,7 +11,7 @@ use Rattle.exb_ecp.specs.declared.pdu.EcpFault.{EcpFault}
 use Rattle.exb_ecp.specs.declared.stop_and_wait.Beat.{Beat as Due}
 use Rattle.exb_ecp.specs.declared.stop_and_wait.Beat.TheVariants as due
 use Rattle.exb_ecp.specs.Frames.{pdu_in, spelling, carried}
-use Rattle.exb_ecp.specs.Machine.{Sending, State, acknowledged, heard, IsOutstanding, is_fresh, beat_of}
+use Rattle.exb_ecp.specs.Machine.{Sending, acknowledged, heard, IsOutstanding, is_fresh, beat_of}
 use Rattle.exb_ecp.proofs.Spelled.{length_spelling}
 use Rattle.exb_csp.specs.declared.fault.CspFault.{CspFault}
 use Rattle.exb_csp.specs.declared.message.Body.{Body}

@@ -1,6 +1,6 @@
 -- Frames that go on to one side alone.
-use Rattle.std.proofs.Common.{◌≡◌, ◌≢◌, ℕ, ◌+◌, ◌^◌, ◌<◌, ◌≤◌, ◌==◌, ◌&&◌, not, Bool, true, false, cond, nat_le, List, [], ◌∷◌, length, map, inl, inr, refl, ap, sym, ◌∙◌, subst, arith}
-use Rattle.std.specs.Prelude.{Option, Some, None}
+use Rattle.std.proofs.Common.{◌≡◌, ◌≢◌, ℕ, ◌+◌, ◌^◌, ◌<◌, ◌≤◌, ◌==◌, ◌&&◌, not, Bool, true, false, cond, nat_le, List, [], ◌∷◌, length, map, inl, inr, refl, ap, sym, ◌∙◌, arith}
+use Rattle.std.specs.Prelude.{Some, None}
 use Rattle.std.specs.Int.{w64, trailing_zeros}
 use Rattle.std.proofs.lemmas.Bool.{and_parts, cases_Bool, false≢true}
 use Rattle.exb_model.specs.Frames.{is_control_frame, number_at}
@@ -10,12 +10,11 @@ use Rattle.exb_csp.proofs.PlainLemmas.{without}
 use Rattle.exb_extender.specs.declared.sends.Form.{Form}
 use Rattle.exb_extender.specs.declared.sends.Form.TheVariants.{AsIs}
 use Rattle.exb_extender.specs.declared.sends.Out.{Out}
-use Rattle.exb_extender.specs.declared.sends.Side.{Side}
 use Rattle.exb_extender.specs.declared.sends.Side.TheVariants.{Up, Port}
 use Rattle.exb_extender.specs.Forwarding.{Sent, emitted, is_bare_control, names_channel, sent_from_cascade, sent_from_external, up}
 use Rattle.exb_extender.specs.Machine.{ExtenderState, Arrives, react}
 use Rattle.exb_extender.specs.Passing.{GoesAt, GoesTo, IsLow}
-use Rattle.exb_extender.specs.Sending.{CanBeGiven, form_at, listed_at, out_sent, outs_at, outs_where}
+use Rattle.exb_extender.specs.Sending.{form_at, listed_at, out_sent, outs_at, outs_where}
 use Rattle.exb_extender.proofs.ForwardingLemmas.{all_sent, begins, ends, goes_on, lowest, outs_given, tagged_long}
 
 port_low : (k n : ℕ) → 0 < k → k ≤ 64 → Port k ≡ Port n → (0 < n) × (n ≤ 64)

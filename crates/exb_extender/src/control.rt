@@ -1,5 +1,5 @@
 //! The control of an extender: what it hears, answers and sends by itself.
-ghost use Rattle.std.specs.Prelude.{◌≡◌, ◌↔◌, ℕ, ◌≤◌, ◌<◌, ◌++◌, [], ◌∷◌, ◌==◌, ◌&&◌, ◌||◌, not, if◌then◌else◌, length, Bool, false, Ok, None, IsTrue};
+ghost use Rattle.std.specs.Prelude.{◌≡◌, ◌↔◌, ◌≤◌, ◌<◌, ◌++◌, [], ◌∷◌, ◌==◌, ◌&&◌, ◌||◌, not, if◌then◌else◌, length, false, Ok, None, IsTrue};
 ghost use Rattle.exb_csp.specs.Execute.{ExtenderTables};
 ghost use Rattle.exb_ecp.specs.Machine.{new_state, beaten, beat_of, IsSound};
 ghost use Rattle.exb_csp.specs.Sessions.Answering.{fresh};

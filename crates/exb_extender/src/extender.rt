@@ -1,5 +1,5 @@
 //! The extender.
-ghost use Rattle.std.specs.Prelude.{◌≡◌, ◌↔◌, ◌⊎◌, ℕ, ◌≤◌, ◌<◌, [], List, true, false, is_none, All, None, IfOk, IfSome, IsTrue};
+ghost use Rattle.std.specs.Prelude.{◌≡◌, ◌↔◌, ◌⊎◌, ℕ, ◌≤◌, [], List, true, false, is_none, All, None, IfOk, IfSome, IsTrue};
 ghost use Rattle.exb_extender.specs.Control.{state_in};
 ghost use Rattle.exb_extender.specs.Forwarding.{emitted, is_ignored};
 ghost use Rattle.exb_extender.specs.Machine.{comes};

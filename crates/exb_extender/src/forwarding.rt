@@ -1,5 +1,5 @@
 //! Where a frame goes that comes from one side, and in which form (after IEEE 802.1BR).
-ghost use Rattle.std.specs.Prelude.{◌≡◌, ℕ, ◌+◌, ◌<◌, ◌≤◌, ◌==◌, ◌++◌, [], length, map, not, is_none, All, IfSome, IsTrue};
+ghost use Rattle.std.specs.Prelude.{◌≡◌, ◌<◌, ◌≤◌, ◌++◌, [], length, map, is_none, All, IfSome, IsTrue};
 ghost use Rattle.arrayvec.specs.ArrayVec.{array_vec_len};
 ghost use Rattle.exb_model.specs.ETags.{read_etag};
 ghost use Rattle.exb_frame.specs.TagValues.{tag_of};

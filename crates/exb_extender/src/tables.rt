@@ -1,9 +1,8 @@
 //! The tables of an extender, and what a request does to them.
-ghost use Rattle.std.specs.Prelude.{◌≡◌, ◌≢◌, ℕ, ◌+◌, ◌<◌, ◌≤◌, ◌==◌, ◌&&◌, ◌||◌, not, nat_lt, nat_le, [], ◌∷◌, Bool, List, length, slice_index, slice_index_or, false, All, IfOk, if◌then◌else◌};
+ghost use Rattle.std.specs.Prelude.{◌≡◌, ℕ, ◌<◌, ◌≤◌, ◌==◌, ◌&&◌, ◌||◌, nat_lt, nat_le, [], ◌∷◌, All, IfOk};
 ghost use Rattle.std.specs.List.{list_all};
-ghost use Rattle.std.specs.Int.{bit_at};
 ghost use Rattle.exb_extender.specs.MemberSets.{row_of};
-ghost use Rattle.exb_csp.specs.Execute.{is_channel, is_ecid, in_mask, some_port, has_stray, has_pair, is_named, create_code, row_code, rows_code, clears_code, code_of, answered_ports, executed, response_to};
+ghost use Rattle.exb_csp.specs.Execute.{is_ecid, in_mask, some_port, has_stray, has_pair, is_named, create_code, row_code, rows_code, code_of, answered_ports, executed, response_to};
 ghost use Rattle.exb_csp.specs.Plain.{AddsRows, ClearsRows, ClearsPair, powered_on};
 ghost use Rattle.exb_extender.specs.Kept.{IsKept};
 

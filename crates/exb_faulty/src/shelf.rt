@@ -1,5 +1,5 @@
 //! Files whose calls are disturbed.
-ghost use Rattle.std.specs.Prelude.{◌≡◌, ◌++◌, ℕ, [], List, None, length, take, IfOk, OnOk, OnErr};
+ghost use Rattle.std.specs.Prelude.{◌≡◌, ℕ, List, None, OnOk, OnErr};
 ghost use Rattle.std.specs.Option.{option_copied};
 ghost use Rattle.exb_shelf.specs.Files.{SameFiles, Puts};
 ghost use Rattle.exb_shelf.specs.Shelf.{no_id};

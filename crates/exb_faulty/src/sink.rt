@@ -1,5 +1,5 @@
 //! A sink whose calls are disturbed.
-ghost use Rattle.std.specs.Prelude.{◌≡◌, [], IfOk};
+ghost use Rattle.std.specs.Prelude.{◌≡◌, []};
 ghost use Rattle.exb_faulty.specs.Faulty.{printed, print_faults};
 
 use crate::disturbance::{Asked, Call, Disturbance, Turn, note, tell};

@@ -1,5 +1,4 @@
 //! Captures that are read again, each on a shelf that reads at most so many bytes at once, and of which another file was told.
-ghost use Rattle.std.specs.Prelude.{◌<◌, length};
 ghost use Rattle.exb_faulty.specs.Faulty.{ids_of};
 ghost use Rattle.exb_capture.specs.Reading.{IsAt};
 ghost use Rattle.exb_capture.specs.Replaying.{IsKept};

@@ -1,5 +1,5 @@
 //! The history of an eager run.
-ghost use Rattle.std.specs.Prelude.{◌≡◌, ◌≤◌, ◌<◌, ◌+◌, ◌∷◌, ◌++◌, [], ℕ, ◌^◌, None, All, IfOk, IfSome, OnOk, map};
+ghost use Rattle.std.specs.Prelude.{◌≡◌, ◌≤◌, ◌<◌, ◌+◌, ◌∷◌, [], ◌^◌, None, All, IfOk, IfSome, OnOk, map};
 ghost use Rattle.exb_model.specs.History.{bridge_after, command_of};
 ghost use Rattle.exb_model.specs.Refusals.{refusal};
 ghost use Rattle.exb_model.specs.Input.{Eager, second_of, moment_of, segment_of, seconds_after, segments_after};

@@ -1,12 +1,9 @@
 //! The tree of extenders that a setup lays out.
-ghost use Rattle.std.specs.Prelude.{◌∷◌, [], if◌then◌else◌, ◌≡◌, ◌<◌, ◌≤◌, ◌+◌, ◌++◌, ◌-◌, ◌==◌, ◌&&◌, ℕ, length, replicate, set, slice_index, filter, count_by, flat_map, take, nat_lt, IfOk, OnOk};
-ghost use Rattle.std.specs.List.{range_with_len};
-ghost use Rattle.exb_model.specs.Ports.{below};
+ghost use Rattle.std.specs.Prelude.{◌∷◌, [], if◌then◌else◌, ◌≡◌, ◌<◌, ◌≤◌, ◌++◌, ◌==◌, ◌&&◌, length, slice_index, IfOk, OnOk};
 ghost use Rattle.exb_model.specs.Tree.{is_port, is_extender, is_cascade, is_external, is_extended, trunk, is_under, is_cascade_under, cascades_under, depth, by_depth, externals_of, external_ports, opening_ports, hangs_at_depth, level, up, top, on as hangs_on};
 ghost use Rattle.exb_model.specs.Setup.{port_at, lay, shape_of};
 ghost use Rattle.exb_flat_run.specs.Layouts.{under};
 
-use exb_model::list::List;
 use exb_model::memory::NoMemory;
 use exb_model::port::PortId;
 use exb_model::setup::{ExtenderSetup, Place, Setup};

@@ -1,5 +1,5 @@
 //! What comes in a run, in the order in which it is played.
-ghost use Rattle.std.specs.Prelude.{◌≡◌, ◌<◌, ◌≤◌, ◌*◌, ◌+◌, ◌^◌, ◌++◌, ◌∷◌, [], ◌==◌, length, map, take, drop, filter, find, is_ok, IfOk, OnOk, All};
+ghost use Rattle.std.specs.Prelude.{◌≡◌, ◌<◌, ◌≤◌, ◌^◌, ◌++◌, ◌∷◌, ◌==◌, length, map, take, drop, filter, find, is_ok, IfOk, OnOk, All};
 ghost use Rattle.exb_model.specs.Ports.{all_ports};
 ghost use Rattle.exb_model.specs.Input.{Input, Coming as Comes, Captured, merge, by_moment, put_in_order, commands_from, all_arrivals, given_by, moment_of};
 ghost use Rattle.exb_merge.specs.Streams.{to_come};

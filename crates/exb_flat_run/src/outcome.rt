@@ -10,7 +10,7 @@ ghost use Rattle.exb_oracle.specs.Histories.{basis_of};
 ghost use Rattle.exb_flat_run.specs.Sites.{IsSiteOf};
 ghost use Rattle.exb_flat_run.specs.Inputs.{input_of};
 ghost use Rattle.exb_flat_run.specs.Turns.{told};
-ghost use Rattle.exb_flat_run.specs.Outcomes.{text_of, texts_in, capture_at};
+ghost use Rattle.exb_flat_run.specs.Outcomes.{texts_in, capture_at};
 
 use crate::eager::eager;
 use crate::laws::counts_are_counted;

@@ -1,5 +1,5 @@
 //! When a command is refused.
-ghost use Rattle.std.specs.Prelude.{◌≡◌, ◌<◌, ◌≤◌, ◌++◌, ◌∷◌, [], map, fold, length, IfOk, OnOk};
+ghost use Rattle.std.specs.Prelude.{◌≡◌, ◌≤◌, fold, IfOk, OnOk};
 ghost use Rattle.exb_model.specs.Configuration.{after as after_command};
 ghost use Rattle.exb_model.specs.Refusals.{with_set, present_under, groups_needed, channel_at, channels_short, groups_short, refusal};
 ghost use Rattle.exb_flat_run.specs.Limits.{limits_of};

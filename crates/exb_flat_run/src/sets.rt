@@ -1,7 +1,6 @@
 //! The sets of ports that need a group number below a port of the bridge.
-ghost use Rattle.std.specs.Prelude.{◌≡◌, ◌≤◌, ◌&&◌, ◌∷◌, ◌++◌, [], Bool, true, ℕ, length, filter, map, flat_map, fold, bytes_eq, IfOk, OnOk};
+ghost use Rattle.std.specs.Prelude.{◌≡◌, ◌≤◌, fold, bytes_eq, IfOk, OnOk};
 ghost use Rattle.std.specs.List.{list_any};
-ghost use Rattle.exb_model.specs.Ports.{port_in};
 ghost use Rattle.exb_model.specs.Refusals.{is_kind, without_isolated, with_set, sets_at};
 ghost use Rattle.exb_oracle.specs.Configs.{bridge_of};
 ghost use Rattle.exb_flat_run.specs.Sets.{present_in, lists_in, among_of, source, part_in, two_sets, four_sets, vlan_sets, entry_sets};

@@ -1,5 +1,5 @@
 //! What a setup and commands set up for the plain program.
-ghost use Rattle.std.specs.Prelude.{◌≡◌, ◌<◌, ◌==◌, ◌&&◌, ℕ, nat_lt, map, IfOk};
+ghost use Rattle.std.specs.Prelude.{◌≡◌, ◌&&◌, ℕ, nat_lt, map, IfOk};
 ghost use Rattle.exb_model.specs.Ports.{port_in};
 ghost use Rattle.exb_model.specs.Tree.{is_external};
 ghost use Rattle.exb_flat_run.specs.Sites.{IsSiteOf};

@@ -1,5 +1,5 @@
 //! One capture at its next record.
-ghost use Rattle.std.specs.Prelude.{◌≡◌, ◌+◌, ◌*◌, ◌^◌, ◌<◌, ◌≤◌, [], ◌∷◌, Some, None, length, IsOk, IfOk, IfSome, IfNone, IsSome};
+ghost use Rattle.std.specs.Prelude.{◌≡◌, ◌*◌, ◌^◌, ◌<◌, ◌≤◌, [], ◌∷◌, None, length, IsOk, IfOk, IfSome, IfNone, IsSome};
 ghost use Rattle.exb_flat_pcap.specs.Captures.{pcap_records};
 ghost use Rattle.exb_flat_pcap.specs.Taken.{taken};
 ghost use Rattle.exb_merge.specs.Streams.{stream_of, arrivals_of, next_moment};

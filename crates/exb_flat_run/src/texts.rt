@@ -1,5 +1,5 @@
 //! The texts that a run writes.
-ghost use Rattle.std.specs.Prelude.{◌≡◌, ◌<◌, ◌≤◌, ◌*◌, ◌+◌, ◌^◌, ◌++◌, [], All, length, map, IfOk, OnOk, string_bytes};
+ghost use Rattle.std.specs.Prelude.{◌≡◌, ◌++◌, All, map, IfOk, OnOk, string_bytes};
 ghost use Rattle.exb_model.specs.Texts.{capture_text, journal_text, record_text as record_of, summary_line, with_left};
 ghost use Rattle.exb_capture.specs.Written.{CanBeWritten};
 ghost use Rattle.exb_text.specs.Tallies.{counts_of};

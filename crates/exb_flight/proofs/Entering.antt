@@ -14,8 +14,8 @@ use Rattle.exb_model.specs.Tree.{Shape, device, trunk, is_extended}
 use Rattle.exb_model.specs.Setup.{Limits}
 use Rattle.exb_model.specs.Configuration.{Bridge}
 use Rattle.exb_model.specs.History.{Basis, History, ◌then◌, bridge_after}
-use Rattle.exb_changing.specs.Planning.Held.{channel_in}
-use Rattle.exb_changing.proofs.Planning.Trunks.{under_home}
+use Rattle.exb_changing.specs.Plans.Held.{channel_in}
+use Rattle.exb_changing.proofs.Plans.Trunks.{under_home}
 use Rattle.exb_frame.specs.TagValues.{TagRoundTrip}
 use Rattle.exb_relay.specs.Laws.{SendsAreWords, SendsLeaveAsFlat}
 use Rattle.exb_changing.specs.Deciding.{decide}

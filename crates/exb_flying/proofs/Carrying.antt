@@ -14,12 +14,12 @@ use Rattle.exb_relay.specs.Laws.{SendsAreWords, SendsLeaveAsFlat}
 use Rattle.exb_config.specs.Pvids.{HasPvids}
 use Rattle.exb_changing.specs.Runs.Planned.{IsSetting}
 use Rattle.exb_model.specs.Tree.{trunk}
-use Rattle.exb_changing.proofs.Planning.Ways.{from_extended}
+use Rattle.exb_changing.proofs.Plans.Ways.{from_extended}
 use Rattle.exb_extender.specs.declared.sends.Side.TheVariants as side
 use Rattle.exb_csp.specs.AllTables.{tables_at}
 use Rattle.exb_extender.specs.Forwarding.{Sent, up, names_channel, emitted}
 use Rattle.exb_extender.specs.Machine.{ExtenderState, IsExtender}
-use Rattle.exb_changing.specs.Planning.Held.{Held, channel_in}
+use Rattle.exb_changing.specs.Plans.Held.{Held, channel_in}
 use Rattle.exb_relay.specs.Sends.{or_zero}
 use Rattle.exb_changing.specs.Runs.Systems.{System}
 use Rattle.exb_changing.proofs.Runs.Middle.{held_are_numbers}
@@ -42,7 +42,7 @@ use Rattle.exb_machine.specs.Stepping.{first_data}
 use Rattle.exb_machine.specs.Runs.Simulation.{IsSound}
 use Rattle.exb_machine.proofs.Bytes.{stripped_bytes}
 use Rattle.exb_machine.proofs.Words.{each_filter, each_get}
-use Rattle.exb_flight.specs.Items.{Word as Datum, Item, Data, words_of}
+use Rattle.exb_flight.specs.Items.{Word as Datum, Item, Data}
 use Rattle.exb_flight.specs.Items as items
 use Rattle.exb_flight.specs.Tree.{IsLink}
 use Rattle.exb_flight.specs.Flight.{Flight, CarryIn, change}

@@ -10,7 +10,7 @@ use Rattle.exb_model.specs.ETags.{Tag, read_etag}
 use Rattle.exb_model.specs.FlatBridge.{Sent as SentOut}
 use Rattle.exb_model.specs.Tree.{Shape, IsTree, HangsOn, device, on, is_extender, is_external, is_cascade, is_port}
 use Rattle.exb_model.specs.History.{Basis, History}
-use Rattle.exb_changing.proofs.Planning.Ways.{hung_cascade}
+use Rattle.exb_changing.proofs.Plans.Ways.{hung_cascade}
 use Rattle.exb_csp.specs.Execute.{ExtenderTables}
 use Rattle.exb_extender.specs.declared.sends.Side.TheVariants as side
 use Rattle.exb_csp.specs.AllTables.{port_of, tables_at}

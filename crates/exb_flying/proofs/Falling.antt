@@ -28,7 +28,7 @@ use Rattle.exb_machine.specs.Stepping.{first_data, takes_any}
 use Rattle.exb_machine.proofs.Frames.{read_typed, typed_not_bare}
 use Rattle.exb_machine.proofs.Hearing.{seen_as}
 use Rattle.exb_machine.proofs.Words.{at_itself}
-use Rattle.exb_flight.specs.Items.{Word as Datum, Item, words_of, copies, stamped, data_of}
+use Rattle.exb_flight.specs.Items.{Word as Datum, Item, copies, stamped, data_of}
 use Rattle.exb_flight.specs.Items as items
 use Rattle.exb_flight.specs.Tree.{itself}
 use Rattle.exb_flight.specs.Words.{IsWord}

@@ -21,7 +21,7 @@ use Rattle.exb_csp.specs.Reading.{read_message}
 use Rattle.exb_extender.specs.Forwarding.{has_etag_type, channel_tag}
 use Rattle.exb_link.specs.declared.word.Word.{Word}
 use Rattle.exb_link.specs.Words.{is_control}
-use Rattle.exb_changing.specs.Planning.Held.{Held}
+use Rattle.exb_changing.specs.Plans.Held.{Held}
 use Rattle.exb_machine.specs.Worlds.{Way, Up, Down}
 use Rattle.exb_machine.specs.Relaying.{hung_at}
 use Rattle.exb_machine.specs.Runs.Sessions.{Hands, Each, IsOnWay, IsFrameOn, WordFits, KeepsCascades}

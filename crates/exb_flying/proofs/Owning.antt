@@ -28,7 +28,7 @@ use Rattle.exb_extender.specs.Machine.{ExtenderState, Beats, react, submits, exe
 use Rattle.exb_link.specs.declared.word.Stamp.{Stamp}
 use Rattle.exb_link.specs.declared.word.Word.{Word}
 use Rattle.exb_model.specs.Frames.{is_control_frame}
-use Rattle.exb_changing.specs.Planning.Held.{Held}
+use Rattle.exb_changing.specs.Plans.Held.{Held}
 use Rattle.exb_changing.specs.Runs.Planned.{IsSetting}
 use Rattle.exb_machine.specs.Worlds.{World, Up, Out, Left, at, push_up}
 use Rattle.exb_machine.proofs.Answering.{SentFits}

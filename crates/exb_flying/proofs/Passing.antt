@@ -14,7 +14,7 @@ use Rattle.exb_extender.specs.Machine.{ExtenderState, IsExtender}
 use Rattle.exb_link.specs.declared.word.Word.{Word}
 use Rattle.exb_link.specs.Words.{is_control}
 use Rattle.exb_model.specs.Frames.{is_control_frame}
-use Rattle.exb_changing.specs.Planning.Held.{Held}
+use Rattle.exb_changing.specs.Plans.Held.{Held}
 use Rattle.exb_changing.specs.Machine.{State}
 use Rattle.exb_changing.specs.Runs.Planned.{IsSetting}
 use Rattle.exb_machine.specs.Worlds.{World, Way, Up, Down, Out, Left, at, with_far, push_up, push_down}

@@ -1,5 +1,5 @@
 -- A control word that is put on a link, down or up, is a token that may come there, or nothing.
-use Rattle.std.proofs.Common.{◌≡◌, ◌⊎◌, ℕ, ◌==◌, ◌<◌, ◌≤◌, true, false, if◌then◌else◌, List, [], ◌∷◌, ◌++◌, Option, Some, None, refl, sym, ◌∙◌, ap, subst, arith, inl, inr}
+use Rattle.std.proofs.Common.{◌≡◌, ◌⊎◌, ℕ, ◌==◌, ◌<◌, ◌≤◌, true, false, List, [], ◌∷◌, ◌++◌, Option, Some, None, refl, sym, ◌∙◌, ap, subst, arith, inl, inr}
 use Rattle.std.proofs.lemmas.Bool.{cases_Bool, cases_eq, and_parts, eq-eqb, ne_eqb, eqb-true}
 use Rattle.std.proofs.lemmas.List.{append-nil, append_assoc}
 use Rattle.exb_model.specs.Tree.{Shape, IsTree, device, on}
@@ -9,7 +9,7 @@ use Rattle.exb_frame.specs.TagValues.{TagRoundTrip}
 use Rattle.exb_csp.specs.declared.message.Response.{Response}
 use Rattle.exb_link.specs.declared.word.Word.{Word}
 use Rattle.exb_link.specs.Words.{is_control}
-use Rattle.exb_changing.specs.Planning.Held.{Held}
+use Rattle.exb_changing.specs.Plans.Held.{Held}
 use Rattle.exb_changing.specs.Machine.{Work}
 use Rattle.exb_changing.specs.Runs.Systems.{System}
 use Rattle.exb_machine.specs.Worlds.{World, Way, Up, Down, Left, Line, at, push_down, push_up}

@@ -34,7 +34,7 @@ use Rattle.exb_changing.specs.Runs.Planned.{IsSetting}
 use Rattle.exb_machine.specs.Worlds.{World, Down, Left, with_table, left_at}
 use Rattle.exb_machine.specs.Effects.{Effect, only, then_do, each}
 use Rattle.exb_machine.specs.Extending.{hung_on, stamp_of}
-use Rattle.exb_changing.specs.Planning.Held.{numbers_in}
+use Rattle.exb_changing.specs.Plans.Held.{numbers_in}
 use Rattle.exb_machine.specs.Relaying.{puts_word, sent_by, sends_in, sends_all, comes}
 use Rattle.exb_machine.specs.Runs.Simulation.{system_of}
 use Rattle.exb_machine.proofs.Frames.{tagged_to_control, egress_to_control, egress_long, control_refused, relayed_long}

@@ -12,7 +12,7 @@ use Rattle.exb_machine.specs.Effects.{Effect}
 use Rattle.exb_machine.specs.Stepping.{done_by, stepped}
 use Rattle.exb_machine.specs.Runs.Simulation.{IsSound}
 use Rattle.exb_machine.specs.Runs.Laws.{MayMake}
-use Rattle.exb_flight.specs.Flight.{Flight, tables_of}
+use Rattle.exb_flight.specs.Flight.{Flight}
 use Rattle.exb_flight.specs.Flight as flights
 use Rattle.exb_flight.specs.Steps.{run, Runs}
 use Rattle.exb_flight.specs.Facts.{Facts}

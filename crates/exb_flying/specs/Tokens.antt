@@ -19,7 +19,7 @@ use Rattle.exb_extender.specs.Forwarding.{has_etag_type}
 use Rattle.exb_link.specs.declared.word.Stamp.{Stamp}
 use Rattle.exb_link.specs.declared.word.Word.{Word}
 use Rattle.exb_link.specs.Words.{is_control}
-use Rattle.exb_changing.specs.Planning.Held.{Held}
+use Rattle.exb_changing.specs.Plans.Held.{Held}
 use Rattle.exb_machine.specs.Worlds.{Way, Up, Down}
 use Rattle.exb_machine.specs.Relaying.{hung_at}
 use Rattle.exb_flight.specs.Items.{Word as Datum, Key, Item, Data, Token}

@@ -42,7 +42,7 @@ use Rattle.exb_extender.proofs.KeepsLemmas.{stays_extender}
 use Rattle.exb_link.specs.declared.word.Stamp.{Stamp}
 use Rattle.exb_link.specs.declared.word.Word.{Word}
 use Rattle.exb_link.specs.Words.{is_control, is_data, without_data, without_control}
-use Rattle.exb_changing.specs.Planning.Held.{Held, channel_in, numbers_in}
+use Rattle.exb_changing.specs.Plans.Held.{Held, channel_in, numbers_in}
 use Rattle.exb_relay.specs.declared.send.SendTo.{SendTo}
 use Rattle.exb_relay.specs.Laws.{IsAt, IsSent, SendsAreWords}
 use Rattle.exb_model.specs.Numbers.{Numbers}

@@ -13,7 +13,7 @@ use Rattle.exb_model.specs.Configuration.{Bridge}
 use Rattle.exb_model.specs.Input.{Arrival}
 use Rattle.exb_model.specs.Tree.{Shape, IsTree, device, on, is_external, is_extended}
 use Rattle.exb_model.specs.History.{History, ◌then◌}
-use Rattle.exb_changing.proofs.Planning.Ways.{from_extended}
+use Rattle.exb_changing.proofs.Plans.Ways.{from_extended}
 use Rattle.exb_link.specs.declared.word.Stamp.{Stamp}
 use Rattle.exb_link.specs.declared.word.Word.{Word}
 use Rattle.exb_machine.specs.Worlds.{World}

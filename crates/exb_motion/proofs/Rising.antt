@@ -18,8 +18,8 @@ use Rattle.exb_extender.specs.Machine.{ExtenderState, IsExtender, Arrives, react
 use Rattle.exb_link.specs.declared.word.Stamp.{Stamp}
 use Rattle.exb_link.specs.declared.word.Word.{Word}
 use Rattle.exb_link.specs.Words.{is_control, is_data, without_data}
-use Rattle.exb_changing.specs.Planning.Held.{channel_in}
-use Rattle.exb_changing.proofs.Planning.Giving.{channel_found}
+use Rattle.exb_changing.specs.Plans.Held.{channel_in}
+use Rattle.exb_changing.proofs.Plans.Giving.{channel_found}
 use Rattle.exb_relay.specs.Sends.{or_zero}
 use Rattle.exb_changing.specs.Runs.Planned.{IsSetting}
 use Rattle.exb_machine.specs.Worlds.{World, Up, Arrive, Carry, at, with_up}

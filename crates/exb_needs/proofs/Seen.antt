@@ -5,8 +5,8 @@ use Rattle.std.proofs.lemmas.List.{length-map}
 use Rattle.std.proofs.lemmas.List.Sums.{length-filter}
 use Rattle.exb_model.specs.Tree.{Shape}
 use Rattle.exb_model.specs.Configuration.{Bridge}
-use Rattle.exb_changing.specs.declared.plans.set_at.SetAt.{SetAt}
-use Rattle.exb_changing.specs.Planning.Sets.{PortsAt, SetsOfEach, sets_of, seen}
+use Rattle.exb_changing.specs.declared.planning.set_at.SetAt.{SetAt}
+use Rattle.exb_changing.specs.Plans.Sets.{PortsAt, SetsOfEach, sets_of, seen}
 use Rattle.exb_needs.specs.Needed.{sets_below}
 
 filter-seen : (k : ℕ) (xs : List SetAt) → length (filter (λ s. s.bridge_port == k) (map seen xs)) ≡ length (filter (λ (s : SetAt). s.bridge_port == k) xs)

@@ -1,5 +1,5 @@
 //! How many channels are needed.
-ghost use Rattle.std.specs.Prelude.{◌≡◌, ◌+◌, ◌-◌, ◌/◌, ◌≤◌, ◌<◌, true, count_by};
+ghost use Rattle.std.specs.Prelude.{◌≡◌, ◌-◌, ◌≤◌, ◌<◌, count_by};
 ghost use Rattle.exb_model.specs.Ports.{all_ports};
 ghost use Rattle.exb_model.specs.Tree.{is_under};
 ghost use Rattle.exb_needs.specs.Needed.{greatest_below, channels_below};

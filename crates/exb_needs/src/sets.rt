@@ -1,9 +1,9 @@
 //! How many sets are needed.
-ghost use Rattle.std.specs.Prelude.{◌≡◌, ◌==◌, ◌+◌, ◌<◌, ℕ, List, filter, length, map, count_by, IfOk};
+ghost use Rattle.std.specs.Prelude.{◌≡◌, ◌==◌, ◌<◌, map, count_by, IfOk};
 ghost use Rattle.exb_model.specs.Tree.{Shape};
 ghost use Rattle.exb_model.specs.Configuration.{Bridge};
 ghost use Rattle.exb_config.specs.Tables.{bridge_of};
-ghost use Rattle.exb_changing.specs.Planning.Sets.{sets_of, seen};
+ghost use Rattle.exb_changing.specs.Plans.Sets.{sets_of, seen};
 ghost use Rattle.exb_needs.specs.Needed.{greatest_below, sets_below};
 
 use exb_changing::SetAt;

@@ -1,11 +1,11 @@
 -- What a frame that arrives leaves.
-use Rattle.std.proofs.Common.{◌≡◌, ℕ, ◌-◌, ◌++◌, ◌==◌, List, [], ◌∷◌, length, drop, map, Some, refl, ap, ◌∙◌, subst, inl, inr}
+use Rattle.std.proofs.Common.{◌≡◌, ℕ, ◌++◌, ◌==◌, List, [], ◌∷◌, length, drop, map, Some, refl, ap, ◌∙◌, subst, inl, inr}
 use Rattle.std.specs.Prelude.{Result, Ok, Err, OnOk}
 use Rattle.std.proofs.lemmas.Bool.{cases_Bool}
 use Rattle.exb_machine.specs.Worlds.{left_at, Arrive, Left}
 use Rattle.exb_nets.specs.NetHistory.{Crossing, crosses}
 use Rattle.exb_model.specs.Input.{Arrival}
-use Rattle.exb_network.specs.declared.log.Left.{Left as Leaving}
+use Rattle.exb_boxes.specs.declared.log.Left.{Left as Leaving}
 use Rattle.exb_network.specs.Networks.{Network}
 use Rattle.exb_network.specs.Worlds.{all_left}
 use Rattle.exb_schedule.specs.Segments.{IsPlayedOut}

@@ -19,8 +19,12 @@ with_one marks bridge k is b none =
 pub of_both : (marks others b : ℕ) → mark_of (bit_or marks others) b ≡ 0 → (mark_of marks b ≡ 0) × (mark_of others b ≡ 0)
 of_both marks others b none = (let either = bit_at_or marks others (min b 63) in (omega (arith, either, none), omega (arith, either, none)))
 
-pub not_in_all : (b : ℕ) → mark_of 18_446_744_073_709_551_615 b ≡ 0 → ⊥
-not_in_all b none = let one = bit_at_ones 64 (min b 63) (omega arith) in omega (arith, one, none)
+-- ---- none and all
+pub in_none : (b : ℕ) → mark_of 0 b ≡ 0
+in_none b = bit_at-zero (min b 63)
+
+pub in_all : (b : ℕ) → mark_of 18_446_744_073_709_551_615 b ≡ 1
+in_all b = bit_at_ones 64 (min b 63) (omega arith)
 
 -- ---- the first from one on
 shifted_to : (marks k n : ℕ) → k ≤ n → bit_at marks n ≡ bit_at (marks / 2 ^ k) (n - k)

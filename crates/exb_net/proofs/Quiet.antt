@@ -1,13 +1,12 @@
 -- Bridges that told nothing.
-use Rattle.std.proofs.Common.{ℕ, List, refl, arith}
+use Rattle.std.proofs.Common.{◌≡◌, ℕ, List, refl, arith}
 use Rattle.exb_network.specs.Networks.{IsQuiet, Network}
 use Rattle.exb_schedule.specs.Worlds.{network_of}
 use Rattle.exb_net.specs.declared.ends.WiredEnd.{WiredEnd}
 use Rattle.exb_net.specs.declared.node.Node.{Node}
 use Rattle.exb_net.specs.Lists.{AreEach}
-use Rattle.exb_net.specs.Marks.{AreQuietBut}
+use Rattle.exb_net.specs.Marks.{AreQuietBut, mark_of}
 use Rattle.exb_net.specs.Nodes.{HasForgotten}
-use Rattle.exb_net.proofs.MarkLemmas.{not_in_all}
 use Rattle.exb_net.proofs.Places.{is_there}
 use Rattle.std.proofs.lemmas.Option.{slice_get_within}
 
@@ -17,8 +16,8 @@ forgets_nothing w ends quiet = record { world = refl; same = record { site = ref
 
 module _ {V : Type 0} {X : V → Type 0} where
   -- where all are marked
-  pub all_marked : (nodes : List (Node V X)) → AreQuietBut 18_446_744_073_709_551_615 nodes
-  all_marked nodes = record { each = λ b x is none. absurd (not_in_all b none) }
+  pub all_marked : (marks : ℕ) → ((b : ℕ) → mark_of marks b ≡ 1) → (nodes : List (Node V X)) → AreQuietBut marks nodes
+  all_marked marks all nodes = record { each = λ b x is none. absurd (let one = all b in omega (arith, one, none)) }
 
   -- where all have forgotten, whatever is marked
   pub all_quiet : (marks : ℕ) (xs ys : List (Node V X)) → AreEach (λ b u v. HasForgotten (network_of u.world) (network_of v.world) u.ends.items v.ends.items) xs ys → AreQuietBut marks ys

@@ -14,7 +14,7 @@ ghost use Rattle.exb_net.specs.Turns.{Turn, IsTurn, HasDelivered, IsComing, Begi
 
 use crate::crossing::Crossing;
 use crate::making::make_all;
-use crate::marks::{ALL, both, first_marked, with_mark};
+use crate::marks::Marks;
 use crate::node::{Node, enter, forget, let_come, let_pass, open_one, order};
 use exb_fate::Fate;
 use exb_model::memory::NoMemory;
@@ -39,7 +39,7 @@ pub struct Net {
     pub(crate) failed: bool,
     pub(crate) alloc: Global,
     /// The bridges to which something came since they were cleared.
-    pub(crate) touched: u64,
+    pub(crate) touched: Marks,
     ghost quiet: { AreQuietBut touched nodes.items },
 }
 
@@ -68,13 +68,13 @@ fn pass_all(nodes: &mut Vec<Node>, seconds: u32) -> Result<(), WorldFault>
 }
 
 /// Forgets what was told and has left, where something came.
-fn clear_all(nodes: &mut Vec<Node>, touched: u64)
+fn clear_all(nodes: &mut Vec<Node>, touched: Marks)
     requires { AreQuietBut touched nodes.old.items }
     ensures forgotten { AreEach (λ b x y. HasForgotten (network_of x.world) (network_of y.world) x.ends.items y.ends.items) nodes.old.items nodes.new.items }
     ensures fates { AreEach (λ b x y. left (fate_in y.world) ≤ left (fate_in x.world)) nodes.old.items nodes.new.items }
 {
     let mut from = 0;
-    'clearing: while let Some(bridge) = first_marked(touched, from) {
+    'clearing: while let Some(bridge) = touched.first_from(from) {
         if bridge >= nodes.len() {
             return;
         }
@@ -111,7 +111,7 @@ fn deliver_all(
     nodes: &mut Vec<Node>,
     wires: usize,
     queue: &mut VecDeque<Crossing>,
-) -> Result<u64, NoMemory>
+) -> Result<Marks, NoMemory>
     requires turn { (m : Turn) × (IsTurn m × (HasDelivered m 0 nodes.old.items queue.old.items × (wires ≡ length m.net.wires))) }
     requires few { All (λ x. left (fate_in x.world) < 2 ^ 57) nodes.old.items }
     ensures ok { OnOk result ((m : Turn) → IsTurn m → HasDelivered m 0 nodes.old.items queue.old.items → wires ≡ length m.net.wires
@@ -120,12 +120,12 @@ fn deliver_all(
     ensures fates { OnOk result (AreEach (λ b x y. left (fate_in y.world) ≤ left (fate_in x.world)) nodes.old.items nodes.new.items) }
 {
     deliveries_end_soon();
-    let mut touched = 0;
+    let mut touched = Marks::none();
     for _delivery in 0..wires {
         let Some(crossing) = queue.pop_front() else {
             return Ok(touched);
         };
-        touched = with_mark(touched, crossing.to.bridge as usize);
+        touched.mark(crossing.to.bridge as usize);
         deliver(alloc, nodes, crossing, queue)?;
     }
     Ok(touched)
@@ -158,7 +158,7 @@ fn play_arrival(
     queue: &mut VecDeque<Crossing>,
     bridge: u8,
     arrival: &Arrival,
-) -> Result<u64, NoMemory>
+) -> Result<Marks, NoMemory>
     requires can { (n : Wired) × ((s : Dones) × ((told : Dones) × (IsComing n bridge (arrived arrival.now) s told nodes.old.items queue.old.items × (wires ≡ length n.wires)))) }
     requires few { All (λ x. left (fate_in x.world) < 2 ^ 57) nodes.old.items }
     ensures ok { OnOk result ((n : Wired) (s told : Dones) → IsComing n bridge (arrived arrival.now) s told nodes.old.items queue.old.items → wires ≡ length n.wires
@@ -167,8 +167,9 @@ fn play_arrival(
     ensures fates { OnOk result (AreEach (λ b x y. left (fate_in y.world) ≤ left (fate_in x.world)) nodes.old.items nodes.new.items) }
 {
     begin(alloc, nodes, queue, bridge, arrival)?;
-    let touched = deliver_all(alloc, nodes, wires, queue)?;
-    Ok(with_mark(touched, bridge as usize))
+    let mut touched = deliver_all(alloc, nodes, wires, queue)?;
+    touched.mark(bridge as usize);
+    Ok(touched)
 }
 
 impl Net {
@@ -193,7 +194,7 @@ impl Net {
                 came: 0,
                 failed: false,
                 alloc,
-                touched: ALL,
+                touched: Marks::all(),
             }),
             Err(_) => {
                 // By a call, since a block's end is far longer to prove where it lets worlds go.
@@ -217,7 +218,7 @@ impl Net {
         if self.failed {
             return Err(WorldFault::Failed);
         }
-        self.touched = ALL;
+        self.touched = Marks::all();
         match open_all(&mut self.nodes) {
             Ok(()) => Ok(()),
             Err(_) => {
@@ -244,7 +245,7 @@ impl Net {
         if seconds == 0 {
             return Ok(());
         }
-        self.touched = ALL;
+        self.touched = Marks::all();
         match pass_all(&mut self.nodes, seconds) {
             Ok(()) => Ok(()),
             Err(_) => {
@@ -275,12 +276,12 @@ impl Net {
         let queue = &mut self.queue;
         match play_arrival(self.alloc, nodes, self.wires, queue, bridge, arrival) {
             Ok(touched) => {
-                self.touched = both(self.touched, touched);
+                self.touched.join(touched);
                 self.came += 1;
                 Ok(())
             }
             Err(_) => {
-                self.touched = ALL;
+                self.touched = Marks::all();
                 self.failed = true;
                 Err(WorldFault::Memory)
             }
@@ -303,7 +304,7 @@ impl Net {
         if self.failed {
             return Err(WorldFault::Failed);
         }
-        self.touched = with_mark(self.touched, bridge as usize);
+        self.touched.mark(bridge as usize);
         match order(&mut self.nodes[bridge as usize], command) {
             Ok(()) => Ok(()),
             Err(_) => {
@@ -327,7 +328,7 @@ impl Net {
         ensures found { IfSome result (λ b. (from ≤ b) × (b < length self.now.nodes.items) × AreQuietFrom from b self.now.nodes.items) }
         ensures none { IfNone result (AreQuietFrom from (length self.now.nodes.items) self.now.nodes.items) }
     {
-        let Some(bridge) = first_marked(self.touched, from) else {
+        let Some(bridge) = self.touched.first_from(from) else {
             return None;
         };
         if bridge < self.nodes.len() {
@@ -345,6 +346,6 @@ impl Net {
         ensures fates { AreEach (λ b x y. left (fate_in y.world) ≤ left (fate_in x.world)) self.old.nodes.items self.new.nodes.items }
     {
         clear_all(&mut self.nodes, self.touched);
-        self.touched = 0;
+        self.touched = Marks::none();
     }
 }

@@ -9,7 +9,7 @@ use Rattle.exb_model.specs.Tree.{Shape, IsTree, external_ports, is_external}
 use Rattle.exb_counters.specs.Counting.{FitsCounts, nothing, plus_events}
 use Rattle.exb_machine.specs.Stepping.{Stepped}
 use Rattle.exb_machine.specs.Worlds.{Left as Leaving, left_at}
-use Rattle.exb_network.specs.declared.log.Left.{Left}
+use Rattle.exb_boxes.specs.declared.log.Left.{Left}
 use Rattle.exb_network.specs.Networks.{Network}
 use Rattle.exb_network.specs.Worlds.{all_left, copies_of}
 use Rattle.exb_nets.specs.Nets.{Net}

@@ -7,7 +7,7 @@ use Rattle.exb_merge.specs.declared.agenda.BridgeFault.{BridgeFault}
 use Rattle.exb_merge.specs.declared.replays.CaptureFault.{CaptureFault}
 use Rattle.exb_merge.specs.declared.replays.CaptureFault.TheVariants as again
 use Rattle.exb_inputs.specs.declared.fault.Fault.{Fault}
-use Rattle.exb_inputs.specs.declared.fault.Fault.TheVariants.{Changed, MemberChanged, Memory, Read}
+use Rattle.exb_inputs.specs.declared.fault.Fault.TheVariants.{MemberChanged, Memory, Read}
 use Rattle.exb_shelf.specs.Shelf.{Faults, NoFewer}
 use Rattle.exb_inputs.specs.Answers.{fault_again}
 use Rattle.exb_inputs.specs.Counting.{CountsFault}

@@ -1,5 +1,5 @@
 -- The programmes of all bridges, before anything is taken: what they begin with, and that all that comes is still to come.
-use Rattle.std.proofs.Common.{◌≡◌, ◌≢◌, ℕ, zero, suc, ◌+◌, ◌≤◌, ◌*◌, ◌==◌, ◌||◌, Bool, true, false, List, [], ◌∷◌, ◌++◌, length, map, filter, get_or, Option, Some, None, refl, ap, sym, subst, ◌∙◌, arith, codes, cond, inl, inr, if◌then◌else◌}
+use Rattle.std.proofs.Common.{◌≡◌, ℕ, zero, suc, ◌+◌, ◌≤◌, ◌*◌, ◌==◌, ◌||◌, Bool, true, false, List, [], ◌∷◌, ◌++◌, length, map, filter, get_or, Option, Some, None, refl, ap, sym, subst, ◌∙◌, arith, codes, cond, inl, inr, if◌then◌else◌}
 use Rattle.std.specs.Prelude.{All, AllPairs, is_some, nat_lt, slice_get, sum_by}
 use Rattle.std.specs.List.{list_any}
 use Rattle.std.specs.declared.alloc.Global.{Global}

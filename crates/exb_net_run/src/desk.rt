@@ -1,5 +1,5 @@
 //! What one bridge of a net writes and counts.
-ghost use Rattle.std.specs.Prelude.{◌≡◌, ◌∷◌, ℕ, List, [], All, IfErr, OnErr, OnOk};
+ghost use Rattle.std.specs.Prelude.{◌≡◌, ◌∷◌, ℕ, List, [], All, OnErr, OnOk};
 ghost use Rattle.exb_machine.specs.Stepping.{Stepped};
 ghost use Rattle.exb_model.specs.FlatBridge.{Sent};
 ghost use Rattle.exb_shelf.specs.Files.{Files};
@@ -7,19 +7,17 @@ ghost use Rattle.exb_schedule.specs.Worlds.{network_of};
 ghost use Rattle.exb_text.specs.declared.output.Output.{Output};
 ghost use Rattle.exb_text.specs.declared.output.Output.TheVariants as output;
 ghost use Rattle.exb_text.specs.Tallies.{FitsTally, counts_of};
-ghost use Rattle.exb_inputs.specs.Shelving.{CountsFaults};
 ghost use Rattle.exb_outputs.specs.Sent.{AreCountedAt, HasSent};
-ghost use Rattle.exb_outputs.specs.Shelving.{IsOfWriting, OnlyWrites};
+ghost use Rattle.exb_outputs.specs.Shelving.{CountsWrites, OnlyWrites};
 ghost use Rattle.exb_outputs.specs.Writing.{AreCut, HasTexts, IsReady, lines_of, pieces_of, with_more};
 ghost use Rattle.exb_writers.specs.Counts.{AreCountsOf, GoTogether, counts_text};
 ghost use Rattle.exb_writers.specs.Leaving.{CanBeWritten, sent_with, with_left_frames};
 ghost use Rattle.exb_net_run.specs.Desks.{AreFronts, CanNote, IsMore, IsNoted, IsWhole, text_of};
 ghost use Rattle.exb_net_run.specs.Summing.{added};
 
-use exb_inputs::Fault;
 use exb_outputs::{Manifest, Outputs};
 use exb_schedule::{World, count_left};
-use exb_shelf::Shelf;
+use exb_shelf::{Shelf, ShelfFault};
 use exb_text::{LineRoom, Tally};
 use exb_writers::{Counted, write_counters, write_events, write_left};
 
@@ -45,7 +43,7 @@ fn write_new<S: Shelf>(
     manifest: &Manifest,
     outputs: &mut Outputs,
     world: &World,
-) -> Result<(), Fault>
+) -> Result<(), ShelfFault>
     requires ready { IsReady manifest.now (S.ids shelf.old) outputs.old }
     requires frames { All (λ x. CanBeWritten manifest.now x) (network_of world.now).log.left }
     ensures ready { IsReady manifest.now (S.ids shelf.new) outputs.new }
@@ -57,8 +55,7 @@ fn write_new<S: Shelf>(
         (with_left_frames (with_more text output.Journal (lines_of (network_of world.now).log.events)) (network_of world.now).log.left)) }
     ensures sent { OnOk result ((sent : ℕ → List Sent) → HasSent manifest.now outputs.old sent → HasSent manifest.now outputs.new (sent_with sent (network_of world.now).log.left)) }
     ensures only { OnlyWrites S.tells manifest.now (S.file shelf.old) (S.file shelf.new) (S.ids shelf.old) (S.ids shelf.new) }
-    ensures causes { IfErr result IsOfWriting }
-    ensures faults { CountsFaults result (S.faults shelf.old) (S.faults shelf.new) }
+    ensures faults { CountsWrites result (S.faults shelf.old) (S.faults shelf.new) }
 {
     write_events(shelf, manifest, outputs, &mut room.line, world.events())?;
     write_left(shelf, manifest, outputs, world.left())
@@ -70,7 +67,7 @@ pub(crate) fn note<S: Shelf>(
     room: &mut Room,
     desk: &mut Desk,
     world: &World,
-) -> Result<(), Fault>
+) -> Result<(), ShelfFault>
     requires ready { IsReady desk.old.manifest (S.ids shelf.old) desk.old.outputs }
     requires can { CanNote desk.old.manifest desk.old.counted (network_of world.now) }
     ensures manifest { desk.new.manifest ≡ desk.old.manifest }
@@ -80,8 +77,7 @@ pub(crate) fn note<S: Shelf>(
     ensures cut { S.tells → OnErr result ((told done : Stepped) → IsMore told done (network_of world.now)
         → IsNoted S.tells (S.file shelf.old) desk.old told → AreFronts desk.old.manifest (S.file shelf.new) done) }
     ensures only { OnlyWrites S.tells desk.old.manifest (S.file shelf.old) (S.file shelf.new) (S.ids shelf.old) (S.ids shelf.new) }
-    ensures causes { IfErr result IsOfWriting }
-    ensures faults { CountsFaults result (S.faults shelf.old) (S.faults shelf.new) }
+    ensures faults { CountsWrites result (S.faults shelf.old) (S.faults shelf.new) }
 {
     write_new(shelf, room, &desk.manifest, &mut desk.outputs, world)?;
     desk.counted.note(
@@ -99,7 +95,7 @@ fn write_counts<S: Shelf>(
     manifest: &Manifest,
     outputs: &mut Outputs,
     counted: &Counted,
-) -> Result<(), Fault>
+) -> Result<(), ShelfFault>
     requires ready { IsReady manifest.now (S.ids shelf.old) outputs.old }
     requires counted { AreCountsOf manifest.now counted.now.ports }
     requires sent { AreCountedAt manifest.now outputs.old }
@@ -109,8 +105,7 @@ fn write_counts<S: Shelf>(
     ensures cut { S.tells → OnErr result ((orig : Files) (text : Output → List ℕ) → HasTexts manifest.now (pieces_of outputs.old) orig (S.file shelf.old) text
         → AreCut manifest.now orig (S.file shelf.new) (with_more text output.Counters (counts_text manifest.now counted.now.ports outputs.old))) }
     ensures only { OnlyWrites S.tells manifest.now (S.file shelf.old) (S.file shelf.new) (S.ids shelf.old) (S.ids shelf.new) }
-    ensures causes { IfErr result IsOfWriting }
-    ensures faults { CountsFaults result (S.faults shelf.old) (S.faults shelf.new) }
+    ensures faults { CountsWrites result (S.faults shelf.old) (S.faults shelf.new) }
 {
     match &counted.ports {
         Some(counters) => write_counters(shelf, manifest, outputs, &mut room.text, counters),
@@ -119,7 +114,11 @@ fn write_counts<S: Shelf>(
 }
 
 /// Writes the counters of a bridge, where they are asked for, and all that isn't written yet.
-pub(crate) fn finish<S: Shelf>(shelf: &mut S, room: &mut Room, desk: &mut Desk) -> Result<(), Fault>
+pub(crate) fn finish<S: Shelf>(
+    shelf: &mut S,
+    room: &mut Room,
+    desk: &mut Desk,
+) -> Result<(), ShelfFault>
     requires ready { IsReady desk.old.manifest (S.ids shelf.old) desk.old.outputs }
     requires counted { AreCountsOf desk.old.manifest desk.old.counted.ports }
     requires sent { AreCountedAt desk.old.manifest desk.old.outputs }
@@ -129,8 +128,7 @@ pub(crate) fn finish<S: Shelf>(shelf: &mut S, room: &mut Room, desk: &mut Desk) 
         → IsWhole desk.old.manifest (S.file shelf.new) (text_of done (counts_text desk.old.manifest desk.old.counted.ports desk.old.outputs))) }
     ensures cut { S.tells → OnErr result ((done : Stepped) → IsNoted S.tells (S.file shelf.old) desk.old done → AreFronts desk.old.manifest (S.file shelf.new) done) }
     ensures only { OnlyWrites S.tells desk.old.manifest (S.file shelf.old) (S.file shelf.new) (S.ids shelf.old) (S.ids shelf.new) }
-    ensures causes { IfErr result IsOfWriting }
-    ensures faults { CountsFaults result (S.faults shelf.old) (S.faults shelf.new) }
+    ensures faults { CountsWrites result (S.faults shelf.old) (S.faults shelf.new) }
 {
     write_counts(
         shelf,

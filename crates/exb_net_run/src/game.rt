@@ -14,7 +14,7 @@ ghost use Rattle.exb_schedule.specs.Playing.{arrived};
 ghost use Rattle.exb_schedule.specs.Worlds.{fate_in};
 ghost use Rattle.exb_text.specs.Tallies.{FitsTally, counts_of};
 ghost use Rattle.exb_inputs.specs.Shelving.{CountsFaults, OnlyReads};
-ghost use Rattle.exb_outputs.specs.Shelving.{IsOfWriting};
+ghost use Rattle.exb_outputs.specs.Shelving.{CountsWrites, IsOfWriting};
 ghost use Rattle.exb_writers.specs.Counts.{IsSummary};
 ghost use Rattle.exb_net_run.specs.Answers.{IsOfNetPlay};
 ghost use Rattle.exb_net_run.specs.Desks.{AllGoTogether, AreAllFronts, AreMore, AreNoted, AreManifestsApart, AreReady, CanEndAll, CanNoteAll, OnlyWritesAll, AreWhole, manifests_in, tallies_in};
@@ -31,7 +31,7 @@ use exb_net::Net;
 use exb_net_file::NetRest;
 use exb_net_inputs::of_member;
 use exb_schedule::{Arrival, WorldFault};
-use exb_shelf::Shelf;
+use exb_shelf::{Shelf, ShelfFault};
 use exb_text::Tally;
 use exb_wiring::laws::{
     counts_go_on, events_add_one, nets_are_played_eagerly, opened_nets_are_new, opened_nets_run,
@@ -143,7 +143,7 @@ fn note_all<S: Shelf>(
     room: &mut Room,
     desks: &mut Vec<Desk>,
     net: &Net,
-) -> Result<(), Fault>
+) -> Result<(), ShelfFault>
     requires ready { AreReady (S.ids shelf.old) desks.old.items }
     requires apart { AreManifestsApart (manifests_in desks.old.items) }
     requires can { CanNoteAll desks.old.items net.now.nodes.items }
@@ -154,8 +154,7 @@ fn note_all<S: Shelf>(
     ensures cut { S.tells → OnErr result ((told dones : Dones) → AllGoTogether told net.now.nodes.items → AreMore told dones net.now.nodes.items
         → AreNoted S.tells (S.file shelf.old) desks.old.items told → AreAllFronts (manifests_in desks.old.items) (S.file shelf.new) dones) }
     ensures only { OnlyWritesAll S.tells (manifests_in desks.old.items) (S.file shelf.old) (S.file shelf.new) (S.ids shelf.old) (S.ids shelf.new) }
-    ensures causes { IfErr result IsOfWriting }
-    ensures faults { CountsFaults result (S.faults shelf.old) (S.faults shelf.new) }
+    ensures faults { CountsWrites result (S.faults shelf.old) (S.faults shelf.new) }
 {
     let mut from = 0;
     'noting: while let Some(bridge) = net.first_touched(from) {
@@ -166,7 +165,11 @@ fn note_all<S: Shelf>(
 }
 
 /// Writes what is still to be written of all bridges.
-fn finish_all<S: Shelf>(shelf: &mut S, room: &mut Room, desks: &mut Vec<Desk>) -> Result<(), Fault>
+fn finish_all<S: Shelf>(
+    shelf: &mut S,
+    room: &mut Room,
+    desks: &mut Vec<Desk>,
+) -> Result<(), ShelfFault>
     requires ready { AreReady (S.ids shelf.old) desks.old.items }
     requires apart { AreManifestsApart (manifests_in desks.old.items) }
     requires can { CanEndAll desks.old.items }
@@ -175,8 +178,7 @@ fn finish_all<S: Shelf>(shelf: &mut S, room: &mut Room, desks: &mut Vec<Desk>) -
     ensures texts { S.tells → OnOk result ((dones : Dones) → AreNoted S.tells (S.file shelf.old) desks.old.items dones → AreWhole desks.old.items (S.file shelf.new) dones) }
     ensures cut { S.tells → OnErr result ((dones : Dones) → AreNoted S.tells (S.file shelf.old) desks.old.items dones → AreAllFronts (manifests_in desks.old.items) (S.file shelf.new) dones) }
     ensures only { OnlyWritesAll S.tells (manifests_in desks.old.items) (S.file shelf.old) (S.file shelf.new) (S.ids shelf.old) (S.ids shelf.new) }
-    ensures causes { IfErr result IsOfWriting }
-    ensures faults { CountsFaults result (S.faults shelf.old) (S.faults shelf.new) }
+    ensures faults { CountsWrites result (S.faults shelf.old) (S.faults shelf.new) }
 {
     for bridge in 0..desks.len() {
         finish(shelf, room, &mut desks[bridge])?;
@@ -198,7 +200,7 @@ fn count_all(desks: &[Desk]) -> Tally
 
 impl NetGame {
     /// Writes and counts what happened since all bridges were cleared, and clears them.
-    fn note<S: Shelf>(&mut self, shelf: &mut S) -> Result<(), Fault>
+    fn note<S: Shelf>(&mut self, shelf: &mut S) -> Result<(), ShelfFault>
         requires ready { AreReady (S.ids shelf.old) self.old.desks.items }
         requires apart { AreManifestsApart (manifests_in self.old.desks.items) }
         requires can { CanNoteAll self.old.desks.items self.old.net.nodes.items }
@@ -212,8 +214,7 @@ impl NetGame {
         ensures came { OnOk result (self.new.net.came ≡ self.old.net.came) }
         ensures fates { OnOk result (AreEach (λ b x y. left (fate_in y.world) ≤ left (fate_in x.world)) self.old.net.nodes.items self.new.net.nodes.items) }
         ensures only { OnlyWritesAll S.tells (manifests_in self.old.desks.items) (S.file shelf.old) (S.file shelf.new) (S.ids shelf.old) (S.ids shelf.new) }
-        ensures causes { IfErr result IsOfWriting }
-        ensures faults { CountsFaults result (S.faults shelf.old) (S.faults shelf.new) }
+        ensures faults { CountsWrites result (S.faults shelf.old) (S.faults shelf.new) }
     {
         note_all(shelf, &mut self.room, &mut self.desks, &self.net)?;
         self.net.clear();
@@ -228,7 +229,7 @@ impl NetGame {
         seconds: u32,
         due: NetNext,
         buffer: &mut Vec<u8>,
-    ) -> Result<(), Fault>
+    ) -> Result<(), ShelfFault>
         requires due { (r : NetRun) × ((second : ℕ) × ((ps : List Programme) × (IsDue S.tells r (S.file shelf.old) (S.ids shelf.old) seconds second self.old due ps × (AreOfRests rests.now ps × IsPaid self.old.net.nodes.items (λ x. left (fate_in x.world)) rests.now due ps)))) }
         ensures manifests { manifests_in self.new.desks.items ≡ manifests_in self.old.desks.items }
         ensures told { OnOk result ((r : NetRun) (second : ℕ) (ps : List Programme) → IsDue S.tells r (S.file shelf.old) (S.ids shelf.old) seconds second self.old due ps → AreOfRests rests.now ps
@@ -237,18 +238,17 @@ impl NetGame {
         ensures cut { S.tells → OnErr result ((r : NetRun) (second : ℕ) (ps : List Programme) → IsDue S.tells r (S.file shelf.old) (S.ids shelf.old) seconds second self.old due ps → AreOfRests rests.now ps
             → IsCutOff r (S.file shelf.new)) }
         ensures only { OnlyWritesAll S.tells (manifests_in self.old.desks.items) (S.file shelf.old) (S.file shelf.new) (S.ids shelf.old) (S.ids shelf.new) }
-        ensures causes { IfErr result IsOfWriting }
-        ensures faults { CountsFaults result (S.faults shelf.old) (S.faults shelf.new) }
+        ensures faults { CountsWrites result (S.faults shelf.old) (S.faults shelf.new) }
     {
         agendas_stay();
         events_add_one();
         steps_tell_passed();
         seconds_pass();
         if self.net.tick(seconds).is_err() {
-            return Err(Fault::Memory);
+            return Err(ShelfFault::Memory);
         }
         if give(&mut self.net, rests, due, buffer).is_err() {
-            return Err(Fault::Memory);
+            return Err(ShelfFault::Memory);
         }
         self.note(shelf)
     }

@@ -13,9 +13,9 @@ use Rattle.exb_machine.specs.Stepping.{if_there}
 use Rattle.exb_machine.specs.Worlds.{World, at, with_near}
 use Rattle.exb_machine.proofs.Hearing.{to_extender_control}
 use Rattle.exb_machine.proofs.Words.{at_here}
-use Rattle.exb_network.specs.declared.log.Log.{Log}
+use Rattle.exb_boxes.specs.declared.log.Log.{Log}
 use Rattle.exb_network.specs.declared.site.Core.{Core}
-use Rattle.exb_network.specs.Ends.{near_of}
+use Rattle.exb_boxes.specs.Ends.{near_of}
 use Rattle.exb_network.specs.Sites.{Site}
 use Rattle.exb_network.specs.Worlds.{world_in, IsAt, Does}
 use Rattle.exb_network.proofs.Cores.{near_in, near_at, tells_nothing}

@@ -2,7 +2,6 @@
 use Rattle.std.proofs.Common.{◌≡◌, ℕ, ◌+◌, ◌-◌, ◌^◌, ◌<◌, ◌≤◌, ◌&&◌, Bool, true, false, not, min, List, drop, None, inl, inr, refl, arith, sym, ap, subst, ◌∙◌}
 use Rattle.exb_model.specs.Setup.{Limits}
 use Rattle.std.specs.Prelude.{if◌then◌else◌, is_none, Option, Some, slice_get, slice_index}
-use Rattle.std.specs.Int.{bit_at}
 use Rattle.std.proofs.lemmas.Bool.{and_parts, cases_Bool, false_from_ne_true, false≢true}
 use mathlib.Core.Path.{fun_ext}
 use Rattle.exb_model.specs.Tree.{Shape, IsTree, is_extender}
@@ -19,10 +18,11 @@ use Rattle.exb_machine.specs.Hearing.{beats_control, beats_near, moves}
 use Rattle.exb_machine.specs.Stepping.{all_extenders, beats_all, if_there}
 use Rattle.exb_machine.specs.Worlds.{World, next_beat}
 use Rattle.exb_machine.specs.Runs.Asks.{AsksWell}
-use Rattle.exb_network.specs.declared.log.Log.{Log}
+use Rattle.exb_boxes.specs.Numbers.{number_in}
+use Rattle.exb_boxes.specs.declared.log.Log.{Log}
 use Rattle.exb_network.specs.declared.site.Core.{Core}
-use Rattle.exb_network.specs.Devices.{Devices, state_at, far_of, has_extender, if_rests, is_there}
-use Rattle.exb_network.specs.Ends.{near_of}
+use Rattle.exb_boxes.specs.Devices.{Devices, state_at, far_of, has_extender, if_rests, is_there}
+use Rattle.exb_boxes.specs.Ends.{near_of}
 use Rattle.exb_network.specs.Leading.{Leads}
 use Rattle.exb_network.specs.Sites.{Site}
 use Rattle.exb_network.specs.Worlds.{world_in, IsAt, Does}
@@ -164,8 +164,8 @@ still_rests s =
 
 -- after it, those whose bits are set are the extenders that don't rest
 pub waiting_bit : (s : Site) (c : Core) (far : Devices) (waiting : ℕ) → IsAt s (record c { far = far }) → ((n : ℕ) → far_of far n ≡ if_rests (far_of c.far n)) →
-    ((n : ℕ) → bit_at waiting n ≡ (if has_extender far n && not (rests (far_of far n)) then 1 else 0)) →
-    (k : ℕ) → bit_at waiting k ≡ (if is_extender s.tree k && not (resting_in (world_in c) k) then 1 else 0)
+    ((n : ℕ) → number_in waiting n ≡ (if has_extender far n && not (rests (far_of far n)) then 1 else 0)) →
+    (k : ℕ) → number_in waiting k ≡ (if is_extender s.tree k && not (resting_in (world_in c) k) then 1 else 0)
 waiting_bit s c far waiting at is bits k =
     let rest : rests (far_of far k) ≡ resting_in (world_in c) k = ap rests (is k) ∙ still_rests (far_of c.far k) in
     bits k ∙ ap (λ (b : Bool). if has_extender far k && not b then 1 else 0) rest ∙ ap (λ (b : Bool). if b && not (resting_in (world_in c) k) then 1 else 0) there

@@ -27,7 +27,7 @@ use Rattle.exb_numbers.specs.Channels.{channel_of}
 use Rattle.exb_numbers.specs.Groups.{group_of}
 use Rattle.exb_numbers.specs.Spaces.{Spaces}
 use Rattle.exb_model.specs.Numbering.{is_port}
-use Rattle.exb_changing.specs.Planning.Held.{Held, channel_in, group_in, in_spaces, is_place, numbers_in}
+use Rattle.exb_changing.specs.Plans.Held.{Held, channel_in, group_in, in_spaces, is_place, numbers_in}
 use Rattle.exb_plan.specs.Spaces.{held_by}
 use Rattle.exb_network.specs.Sends.{CanSend}
 

@@ -33,7 +33,7 @@ use Rattle.exb_control.specs.Controls.{Parts, state_of}
 use Rattle.exb_machine.specs.Worlds.{World, with_table}
 use Rattle.exb_machine.specs.Effects.{only, each}
 use Rattle.exb_machine.specs.Relaying.{passed_by, sends_all, sends_for, sends_in}
-use Rattle.exb_network.specs.declared.log.Log.{Log}
+use Rattle.exb_boxes.specs.declared.log.Log.{Log}
 use Rattle.exb_network.specs.declared.site.Core.{Core}
 use Rattle.exb_network.specs.Sends.{CanSend, HasPassed, is_passed, is_relay_first, passed_in, told_by}
 use Rattle.exb_network.specs.Sites.{Site}

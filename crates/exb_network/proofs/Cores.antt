@@ -8,15 +8,16 @@ use Rattle.exb_link.specs.declared.word.Word.{Word}
 use Rattle.exb_machine.specs.Telling.{all_told, told}
 use Rattle.exb_machine.specs.Worlds.{World, Line, Left as Leaving, at, with_near, with_far, with_down, with_up}
 use Rattle.exb_machine.specs.Effects.{Effect, only, sending, leaving}
-use Rattle.exb_network.specs.declared.log.Left.{Left}
-use Rattle.exb_network.specs.declared.log.Log.{Log}
+use Rattle.exb_boxes.specs.declared.log.Left.{Left}
+use Rattle.exb_boxes.specs.declared.log.Log.{Log}
 use Rattle.exb_network.specs.declared.site.Core.{Core}
-use Rattle.exb_network.specs.Devices.{Devices, far_of, AreSame}
-use Rattle.exb_network.specs.Directions.{words_of}
-use Rattle.exb_network.specs.Ends.{near_of}
+use Rattle.exb_boxes.specs.Devices.{Devices, far_of, AreSame}
+use Rattle.exb_boxes.specs.Directions.{words_of}
+use Rattle.exb_boxes.specs.Ends.{near_of}
 use Rattle.exb_network.specs.Sites.{Site}
-use Rattle.exb_network.specs.Rows.{Row, ports_in}
-use Rattle.exb_network.specs.Worlds.{world_in, all_left, copies_at, copies_of, if_tracing, IsAt, Does, HasLeft}
+use Rattle.exb_boxes.specs.Rows.{Row, ports_in}
+use Rattle.exb_boxes.specs.Logs.{if_tracing}
+use Rattle.exb_network.specs.Worlds.{world_in, all_left, copies_at, copies_of, IsAt, Does, HasLeft}
 
 -- ---- the world
 module _ (c : Core) (n : ℕ) where

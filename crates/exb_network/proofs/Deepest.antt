@@ -1,14 +1,15 @@
 -- The extenders from the deepest: how many there are, and how the list is made.
 use Rattle.std.proofs.Common.{false, ◌≡◌, ℕ, zero, suc, ◌+◌, ◌-◌, ◌<◌, ◌≤◌, ◌++◌, List, [], All, true, length, slice_index, refl, ap, sym, ◌∙◌, arith, inl, inr, add-one, length-append}
-use Rattle.std.proofs.lemmas.Bool.{and_from, and_parts, cases_Bool, false_from_ne_true, lt-ltb}
+use Rattle.std.proofs.lemmas.Bool.{and_from, and_parts, cases_Bool, false_from_ne_true, lt-ltb, ltb-true}
 use Rattle.std.proofs.lemmas.List.{append-nil, append_assoc}
 use Rattle.std.proofs.lemmas.List.Elements.{All-nil, All-weaker, All-push, All-append}
 use Rattle.std.specs.Prelude.{nat_lt, ◌==◌}
 use Rattle.exb_model.specs.Tree.{Shape, IsTree, depth, hangs_at_depth, is_extender, level, levels, by_depth}
 use Rattle.exb_model.proofs.TreeHung.{extender-low}
 use Rattle.exb_model.proofs.TreeLoops.{level_none, level_in, level_out, levels_none, levels_more, by_depth_is}
-use Rattle.exb_changing.proofs.Planning.Lengths.{few_extenders}
+use Rattle.exb_changing.proofs.Plans.Lengths.{few_extenders}
 use Rattle.exb_machine.specs.Settling.{deepest_first}
+use Rattle.exb_boxes.specs.Numbers.{IsNumber}
 
 -- ---- how it is made
 -- the lowest i of 64 depths
@@ -73,6 +74,13 @@ deepest_extends t = extends_first t 64
 
 pub all_low : (t : Shape) (ns : List ℕ) → IsTree t → All (λ n. is_extender t n ≡ true) ns → All (λ n. n < 65) ns
 all_low t ns tree all = All-weaker (λ n. is_extender t n ≡ true) (λ n. n < 65) (λ n h. extender-low t tree n h) ns all
+
+-- each has a number
+pub extender_number : (t : Shape) → IsTree t → (n : ℕ) → is_extender t n ≡ true → IsNumber n
+extender_number t tree n is = (ltb-true 0 n (and_parts (nat_lt 0 n) (nat_lt 0 (slice_index t.ports n)) is).0, extender-low t tree n is)
+
+pub all_numbered : (t : Shape) (ns : List ℕ) → IsTree t → All (λ n. is_extender t n ≡ true) ns → All (λ n. IsNumber n) ns
+all_numbered t ns tree all = All-weaker (λ n. is_extender t n ≡ true) (λ n. IsNumber n) (λ n h. extender_number t tree n h) ns all
 
 -- none has a number past 64
 pub extender_past : (t : Shape) → IsTree t → (n : ℕ) → 65 ≤ n → is_extender t n ≡ false

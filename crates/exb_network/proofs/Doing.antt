@@ -6,10 +6,11 @@ use Rattle.exb_model.specs.Traces.{TraceLine}
 use Rattle.exb_machine.specs.Telling.{all_told, told as told_line}
 use Rattle.exb_machine.specs.Worlds.{World, Line}
 use Rattle.exb_machine.specs.Effects.{Effect, only, joined, then_do, each}
-use Rattle.exb_network.specs.declared.log.Log.{Log}
+use Rattle.exb_boxes.specs.declared.log.Log.{Log}
 use Rattle.exb_network.specs.declared.site.Core.{Core}
 use Rattle.exb_network.specs.Sites.{Site}
-use Rattle.exb_network.specs.Worlds.{world_in, all_left, if_tracing, IsAt, Does}
+use Rattle.exb_boxes.specs.Logs.{if_tracing}
+use Rattle.exb_network.specs.Worlds.{world_in, all_left, IsAt, Does}
 use Rattle.exb_network.specs.Leading.{Leads}
 
 -- nothing is done yet

@@ -10,7 +10,7 @@ use Rattle.exb_control.specs.Boxes.{IsMoved}
 use Rattle.exb_machine.specs.Worlds.{with_control, with_table}
 use Rattle.exb_machine.specs.Controls.{forgotten_all}
 use Rattle.exb_network.specs.declared.site.Core.{Core}
-use Rattle.exb_network.specs.Devices.{Devices, far_of, has_extender}
+use Rattle.exb_boxes.specs.Devices.{Devices, far_of, has_extender}
 use Rattle.exb_network.specs.Sites.{Site}
 use Rattle.exb_network.specs.Worlds.{world_in, IsAt}
 

@@ -1,17 +1,19 @@
 -- Who hangs on a port, by the role of the port.
-use Rattle.std.proofs.Common.{◌≡◌, ℕ, ◌<◌, true, not, refl, ap, sym, subst, ◌∙◌}
+use Rattle.std.proofs.Common.{◌≡◌, ℕ, true, not, refl, ap, sym, subst, ◌∙◌}
 use Rattle.std.specs.Prelude.{Option, Some, None}
 use Rattle.std.proofs.lemmas.Bool.{and_parts, false≢true}
 use Rattle.exb_model.specs.declared.role.Role.{Role}
 use Rattle.exb_model.specs.declared.role.Role.TheVariants as role
 use Rattle.exb_model.specs.Tree.{Shape, IsTree, HasRole, HangsOn, is_port, is_cascade}
-use Rattle.exb_model.proofs.TreeHung.{hung_cascade, extender-low}
+use Rattle.exb_model.proofs.TreeHung.{hung_cascade}
 use Rattle.exb_machine.specs.Extending.{hung_on}
 use Rattle.exb_machine.proofs.Trees.{hung_is, hung_found, extender_there}
+use Rattle.exb_boxes.specs.Numbers.{IsNumber}
+use Rattle.exb_network.proofs.Deepest.{extender_number}
 
--- it has a number below 65
-pub hung_low : (t : Shape) → IsTree t → (p n : ℕ) → hung_on t p ≡ Some n → n < 65
-hung_low t tree p n is = extender-low t tree n (extender_there t n p (hung_is t p n is))
+-- it has a number
+pub hung_numbered : (t : Shape) → IsTree t → (p n : ℕ) → hung_on t p ≡ Some n → IsNumber n
+hung_numbered t tree p n is = extender_number t tree n (extender_there t n p (hung_is t p n is))
 
 pub hung_some : (t : Shape) (p : ℕ) (r : Role) (n : ℕ) → IsTree t → HasRole t p r → r ≡ role.Cascade n → Some n ≡ hung_on t p
 hung_some t p r n tree has is = let h : HasRole t p (role.Cascade n) = subst (HasRole t p) is has in sym (hung_found t tree n p h.1)

@@ -28,9 +28,9 @@ use Rattle.exb_machine.specs.Worlds.{World, at, with_control, with_table}
 use Rattle.exb_machine.specs.Runs.Asks.{AsksGo, AsksWell, CanGo}
 use Rattle.exb_machine.specs.Runs.Sessions.{AreLow, Each}
 use Rattle.exb_machine.proofs.Hearing.{to_extender_control}
-use Rattle.exb_network.specs.declared.log.Log.{Log}
+use Rattle.exb_boxes.specs.declared.log.Log.{Log}
 use Rattle.exb_network.specs.declared.site.Core.{Core}
-use Rattle.exb_network.specs.Ends.{near_of}
+use Rattle.exb_boxes.specs.Ends.{near_of}
 use Rattle.exb_network.specs.Sites.{Site, limits_in}
 use Rattle.exb_network.specs.Worlds.{world_in, IsAt, Does}
 use Rattle.exb_network.proofs.Doing.{does_then}

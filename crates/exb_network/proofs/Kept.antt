@@ -20,7 +20,7 @@ use Rattle.exb_machine.specs.Runs.Laws.{HasBytes, RunsStaySound, SetupsBeginSoun
 use Rattle.exb_machine.specs.Runs.Sessions.{AreLow}
 use Rattle.exb_machine.specs.Runs.Simulation.{IsSound}
 use Rattle.exb_machine.specs.Runs.Written.{AreWritten, BeginsWritten, StepsStayWritten, WrittenAreShort}
-use Rattle.exb_network.specs.declared.log.Log.{Log}
+use Rattle.exb_boxes.specs.declared.log.Log.{Log}
 use Rattle.exb_network.specs.declared.site.Core.{Core}
 use Rattle.exb_network.specs.Idle.{IsIdle}
 use Rattle.exb_network.specs.Networks.{IsLive}

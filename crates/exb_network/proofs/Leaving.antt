@@ -1,15 +1,13 @@
 -- A frame that leaves at each port of a row.
-use Rattle.std.proofs.Common.{◌≡◌, ℕ, ◌+◌, ◌-◌, ◌*◌, ◌%◌, ◌/◌, ◌<◌, ◌≤◌, Bool, true, false, List, [], ◌∷◌, ◌++◌, length, map, drop, take, get_or, refl, ap, sym, subst, ◌∙◌, arith, append_assoc, append-nil}
+use Rattle.std.proofs.Common.{◌≡◌, ℕ, ◌+◌, ◌-◌, ◌*◌, ◌<◌, ◌≤◌, false, List, [], ◌∷◌, ◌++◌, length, map, drop, take, get_or, refl, ap, sym, subst, ◌∙◌, arith, append_assoc, append-nil}
 use Rattle.std.specs.Prelude.{Option, Some, None}
-use Rattle.std.specs.List.{flat_map, AllByRecursion}
 use Rattle.std.proofs.lemmas.Bool.{both_ways}
 use Rattle.std.proofs.lemmas.List.{drop_all, drop_more, length-append, length-map, map-append, take_more}
 use Rattle.exb_csp.specs.AllTables.{port_of}
-use Rattle.exb_extender.specs.declared.sends.Form.TheVariants.{Stripped}
 use Rattle.exb_extender.specs.declared.sends.Out.{Out}
 use Rattle.exb_extender.specs.declared.sends.Side.TheVariants.{Port}
 use Rattle.exb_extender.specs.Forwarding.{Sent}
-use Rattle.exb_extender.specs.Sending.{CanBeGiven, out_sent}
+use Rattle.exb_extender.specs.Sending.{out_sent}
 use Rattle.exb_link.specs.declared.word.Stamp.{Stamp}
 use Rattle.exb_machine.specs.Effects.{Effect, only, each, joined, then_do}
 use Rattle.exb_machine.specs.Extending.{hung_on, port_number, sends, sent_at}
@@ -19,18 +17,18 @@ use Rattle.exb_machine.specs.Worlds.{Left as Leaving, Out as LineOut}
 use Rattle.exb_machine.proofs.Trees.{hung_is}
 use Rattle.exb_model.specs.ETags.{stripped}
 use Rattle.exb_model.specs.Traces.{TraceLine}
-use Rattle.exb_model.specs.Traces.{Out as LineText}
 use Rattle.exb_model.specs.Tree.{Shape, IsTree, device, is_cascade}
 use Rattle.exb_model.proofs.TreeHung.{hung_cascade}
-use Rattle.exb_network.specs.declared.log.Left.{Left}
-use Rattle.exb_network.specs.declared.log.Log.{Log}
+use Rattle.exb_boxes.specs.declared.log.Left.{Left}
+use Rattle.exb_boxes.specs.declared.log.Log.{Log}
 use Rattle.exb_network.specs.declared.site.Core.{Core}
-use Rattle.exb_network.specs.Forms.{IsSide, CanGo}
+use Rattle.exb_boxes.specs.Forms.{CanGo}
 use Rattle.exb_network.specs.Leading.{Leads}
-use Rattle.exb_network.specs.Leaving.{row_sent, AreOuter, GoesBehind, IsOuter, Joins, JoinsAt}
-use Rattle.exb_network.specs.Rows.{Row, ports_in, HasSome}
+use Rattle.exb_network.specs.Leaving.{row_sent, AreOuter, GoesBehind, IsOuter, Joins}
+use Rattle.exb_boxes.specs.Rows.{Row, ports_in, HasSome}
 use Rattle.exb_network.specs.Sites.{Site}
-use Rattle.exb_network.specs.Worlds.{world_in, all_left, copies_of, if_tracing, row_outs, IsAt, Does}
+use Rattle.exb_boxes.specs.Logs.{if_tracing, row_outs}
+use Rattle.exb_network.specs.Worlds.{world_in, all_left, copies_of, IsAt, Does}
 use Rattle.exb_network.proofs.Cores.{left_more}
 use Rattle.exb_network.proofs.Doing.{each_parts, leads_end, leads_on}
 
@@ -45,34 +43,6 @@ counted_more left i x inside is n m before this =
     let copy : ℕ → Leaving = λ (q : ℕ). record { port = q; moment = x.moment; bytes = x.bytes } in
     let ports : length (copies_of x) ≡ length (ports_in x.row) = length-map (ports_in x.row) copy in
     omega (arith, all, both, ports, before, this)
-
--- ---- the lines of what goes out by a row
-pub outs_next : (frame ports rest : List ℕ) (port who side : ℕ) (so_far now whole : List TraceLine) → ports ≡ port ∷ rest → who ≡ device port → side ≡ port_number port → now ≡ so_far ++ LineText who side frame ∷ [] →
-    so_far ++ row_outs frame ports ≡ whole → now ++ row_outs frame rest ≡ whole
-outs_next frame ports rest port who side so_far now whole is who_is side_is put all =
-    ap (λ (ls : List TraceLine). ls ++ row_outs frame rest) put
-    ∙ append_assoc so_far (LineText who side frame ∷ []) (row_outs frame rest)
-    ∙ ap (λ (d : ℕ). so_far ++ LineText d side frame ∷ row_outs frame rest) who_is
-    ∙ ap (λ (k : ℕ). so_far ++ LineText (device port) k frame ∷ row_outs frame rest) side_is
-    ∙ ap (λ (qs : List ℕ). so_far ++ row_outs frame qs) (sym is)
-    ∙ all
-
-pub outs_end : (frame ports : List ℕ) (now whole : List TraceLine) → ports ≡ [] → now ++ row_outs frame ports ≡ whole → now ≡ whole
-outs_end frame ports now whole none all = sym (append-nil now) ∙ ap (λ (qs : List ℕ). now ++ row_outs frame qs) (sym none) ∙ all
-
-pub not_traced : (lines xs : List TraceLine) (tracing : Bool) → tracing ≡ false → lines ≡ lines ++ if_tracing tracing xs
-not_traced lines xs tracing off = sym (append-nil lines) ∙ ap (λ (ls : List TraceLine). lines ++ ls) (sym (ap (λ (b : Bool). if_tracing b xs) off ∙ none xs))
-  where
-    none : (ys : List TraceLine) → if_tracing false ys ≡ []
-    none [] = refl
-    none (y ∷ ys) = none ys
-
-pub all_traced : (lines xs now : List TraceLine) (tracing : Bool) → tracing ≡ true → now ≡ lines ++ xs → now ≡ lines ++ if_tracing tracing xs
-all_traced lines xs now tracing on put = put ∙ ap (λ (ls : List TraceLine). lines ++ ls) (sym (ap (λ (b : Bool). if_tracing b xs) on ∙ all xs))
-  where
-    all : (ys : List TraceLine) → if_tracing true ys ≡ ys
-    all [] = refl
-    all (y ∷ ys) = ap (λ (zs : List TraceLine). y ∷ zs) (all ys)
 
 -- ---- at ports on which no extender hangs
 outer_none : (t : Shape) → IsTree t → (p : ℕ) → is_cascade t p ≡ false → hung_on t p ≡ None

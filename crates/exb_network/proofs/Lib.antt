@@ -1,14 +1,10 @@
 pub mod Doing
-pub mod Places
 pub mod BridgeSends
 pub mod Fields
 pub mod Moving
 pub mod Coming
 pub mod Relayed
 pub mod Stepped
-pub mod Sides
-pub mod Fars
-pub mod Forwards
 pub mod ToExtenders
 pub mod Hearings
 pub mod Again
@@ -18,12 +14,10 @@ pub mod Beats
 pub mod Kept
 pub mod Lines
 pub mod Hanging
-pub mod RowPorts
 pub mod Leaving
 pub mod Cores
 pub mod Reacting
 pub mod Sendings
-pub mod Bits
 pub mod Idling
 pub mod Deepest
 pub mod Turning

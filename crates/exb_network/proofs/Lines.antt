@@ -8,11 +8,12 @@ use Rattle.exb_machine.specs.Effects.{Effect}
 use Rattle.exb_machine.specs.Stepping.{done_by, line_at, lines_in, stepped}
 use Rattle.exb_machine.specs.Telling.{all_told, told}
 use Rattle.exb_machine.specs.Worlds.{Line, Journal, Step}
-use Rattle.exb_network.specs.declared.log.Log.{Log}
+use Rattle.exb_boxes.specs.declared.log.Log.{Log}
 use Rattle.exb_network.specs.declared.site.Core.{Core}
 use Rattle.exb_network.specs.Networks.{IsStepped, network_of}
 use Rattle.exb_network.specs.Sites.{Site, limits_in}
-use Rattle.exb_network.specs.Worlds.{world_in, all_left, if_tracing, Does}
+use Rattle.exb_boxes.specs.Logs.{if_tracing}
+use Rattle.exb_network.specs.Worlds.{world_in, all_left, Does}
 
 -- ---- where a trace is kept, and where it isn't
 pub all_kept : (xs : List TraceLine) → if_tracing true xs ≡ xs

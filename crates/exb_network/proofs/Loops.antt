@@ -6,7 +6,7 @@ use Rattle.exb_machine.specs.Effects.{Effect, only, each}
 use Rattle.exb_machine.specs.Stepping.{all_extenders}
 use Rattle.exb_machine.specs.Worlds.{World}
 use Rattle.exb_machine.specs.Runs.Sessions.{Each}
-use Rattle.exb_network.specs.declared.log.Log.{Log}
+use Rattle.exb_boxes.specs.declared.log.Log.{Log}
 use Rattle.exb_network.specs.declared.site.Core.{Core}
 use Rattle.exb_network.specs.Leading.{Leads}
 use Rattle.exb_network.specs.Sites.{Site}

@@ -1,7 +1,7 @@
 -- What extenders do with what comes to them.
-use Rattle.std.proofs.Common.{◌≡◌, ◌↔◌, ℕ, ◌<◌, ◌%◌, true, false, List, [], ◌∷◌, ◌++◌, refl, ap, sym, subst, ◌∙◌, arith, inl, inr, eq-eqb}
+use Rattle.std.proofs.Common.{◌≡◌, ℕ, ◌<◌, ◌%◌, true, false, List, [], ◌∷◌, ◌++◌, refl, ap, sym, subst, ◌∙◌, arith, inl, inr, eq-eqb}
 use Rattle.std.specs.Prelude.{Option, Some, All, IsTrue}
-use Rattle.std.proofs.lemmas.Bool.{cases_eq, ne_eqb, ltb-true, cases_Bool}
+use Rattle.std.proofs.lemmas.Bool.{cases_eq, ne_eqb, ltb-true}
 use Rattle.std.proofs.lemmas.List.{append-nil}
 use mathlib.Core.Path.{fun_ext}
 use Rattle.exb_model.specs.declared.event.Event.TheVariants as event
@@ -21,11 +21,11 @@ use Rattle.exb_extender.specs.Sending.{bytes_in, out_sent, sent_by}
 use Rattle.exb_machine.specs.Worlds.{World, at, with_far}
 use Rattle.exb_machine.specs.Effects.{Effect, each}
 use Rattle.exb_machine.specs.Extending.{does, sends, reacts, takes_from_below, arrives_at, ignored, stamp_of, port_number}
-use Rattle.exb_network.specs.declared.log.Log.{Log}
+use Rattle.exb_boxes.specs.declared.log.Log.{Log}
 use Rattle.exb_network.specs.declared.site.Core.{Core}
 use Rattle.exb_network.specs.Arrivals.{IsPortAt}
-use Rattle.exb_network.specs.Devices.{Devices, far_of}
-use Rattle.exb_network.specs.Forms.{CanGo}
+use Rattle.exb_boxes.specs.Devices.{Devices, far_of}
+use Rattle.exb_boxes.specs.Forms.{CanGo}
 use Rattle.exb_network.specs.Sites.{Site}
 use Rattle.exb_network.specs.Worlds.{world_in, all_left, IsAt, Does, KeepsTrace}
 use Rattle.exb_network.proofs.Cores.{far_in, does_nothing}

@@ -15,7 +15,7 @@ use Rattle.exb_link.specs.Words.{is_control}
 use Rattle.exb_machine.specs.Worlds.{World}
 use Rattle.exb_machine.specs.Effects.{Effect, each}
 use Rattle.exb_machine.specs.Relaying.{arrival_by, bridge_takes, comes, comes_from, holder_by, takes_control}
-use Rattle.exb_network.specs.declared.log.Log.{Log}
+use Rattle.exb_boxes.specs.declared.log.Log.{Log}
 use Rattle.exb_network.specs.declared.site.Core.{Core}
 use Rattle.exb_network.specs.Leading.{Leads}
 use Rattle.exb_network.specs.Sites.{Site}

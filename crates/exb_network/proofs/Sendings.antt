@@ -1,20 +1,18 @@
 -- What an extender sends of its own, and all that it sends.
-use Rattle.std.proofs.Common.{◌≡◌, ℕ, List, [], ◌∷◌, ◌++◌, map, All, refl, ap, sym, subst, arith}
+use Rattle.std.proofs.Common.{◌≡◌, ℕ, List, [], ◌∷◌, ◌++◌, map, refl, ap, sym, subst}
 use Rattle.std.specs.Prelude.{Option}
 use Rattle.exb_model.specs.Tree.{Shape}
 use Rattle.exb_link.specs.declared.word.Stamp.{Stamp}
 use Rattle.exb_extender.specs.declared.sends.Sends.{Sends}
 use Rattle.exb_extender.specs.declared.sends.Form.TheVariants.{AsIs}
 use Rattle.exb_extender.specs.declared.sends.Out.{Out}
-use Rattle.exb_extender.specs.declared.sends.Side.{Side}
 use Rattle.exb_extender.specs.declared.sends.Side.TheVariants.{Up}
-use Rattle.exb_extender.specs.Forwarding.{Sent, up}
+use Rattle.exb_extender.specs.Forwarding.{up}
 use Rattle.exb_extender.specs.Sending.{bytes_in, own_sent, out_sent, sent_by}
 use Rattle.exb_machine.specs.Effects.{Effect, each}
 use Rattle.exb_machine.specs.Extending.{sends, sent_to}
-use Rattle.exb_network.specs.declared.log.Log.{Log}
+use Rattle.exb_boxes.specs.declared.log.Log.{Log}
 use Rattle.exb_network.specs.declared.site.Core.{Core}
-use Rattle.exb_network.specs.Forms.{IsSide, CanGo, GoesOn}
 use Rattle.exb_network.specs.Sites.{Site}
 use Rattle.exb_network.specs.Worlds.{world_in, IsAt, Does}
 use Rattle.exb_network.proofs.Cores.{does_nothing}
@@ -40,24 +38,6 @@ pub all_sent : (t : Shape) (n : ℕ) (stamp : Option Stamp) (f : List ℕ) (x : 
 all_sent t n stamp f x s b c d e old told more new frames first second =
     does_parts (sends t n stamp) (map (out_sent f) x.frames.items) (own_sent x.first.items ++ own_sent x.second.items) (world_in b) s c e old told new frames
     (does_parts (sends t n stamp) (own_sent x.first.items) (own_sent x.second.items) (world_in c) s d e told more new first second)
-
--- a frame that goes on to one side alone
-pub sent_on : (f : List ℕ) (x : Sends) (side : Side) → GoesOn x side → sent_by f x ≡ record { side = side; bytes = f } ∷ []
-sent_on f x side on = rw (on.frames, on.first, on.second) refl
-
-pub went_on : (t : Shape) (n : ℕ) (stamp : Option Stamp) (f : List ℕ) (x : Sends) (side : Side) (s : Site) (c d : Core) (old new : Log) → GoesOn x side →
-    Does (sent_to t n stamp side f (world_in c)) s d old new → Does (each (sends t n stamp) (sent_by f x) (world_in c)) s d old new
-went_on t n stamp f x side s c d old new on done =
-    let one : Sent = record { side = side; bytes = f } in
-    subst (λ (xs : List Sent). Does (each (sends t n stamp) xs (world_in c)) s d old new) (sym (sent_on f x side on))
-    (subst (λ (e : Effect). Does e s d old new) (sym (each_one (sends t n stamp) one (world_in c))) done)
-
--- and the side is one that there is
-pub on_side : (f : List ℕ) (x : Sends) (side : Side) → GoesOn x side → All (CanGo f) x.frames.items → IsSide side
-on_side f x side on can =
-    let out : Out = record { to = side; form = AsIs } in
-    let all : All (CanGo f) (out ∷ []) = subst (λ (xs : List Out). All (CanGo f) xs) on.frames can in
-    (all 0 out (omega arith)).side
 
 -- a frame that goes on as it is
 pub as_it_is : (t : Shape) (n : ℕ) (stamp : Option Stamp) (f : List ℕ) (out : Out) (s : Site) (c d : Core) (old new : Log) → out.form ≡ AsIs →

@@ -23,11 +23,11 @@ use Rattle.exb_machine.specs.Relaying.{bridge_takes, comes}
 use Rattle.exb_machine.specs.Stepping.{arrives, control_at, counted, done_by, first_data, rest_of, takes, takes_any, takes_up, with_words, words_on}
 use Rattle.exb_machine.specs.Runs.Asks.{AsksWell}
 use Rattle.exb_machine.proofs.Trees.{above_there}
-use Rattle.exb_network.specs.declared.log.Log.{Log}
+use Rattle.exb_boxes.specs.declared.log.Log.{Log}
 use Rattle.exb_network.specs.declared.site.Core.{Core}
 use Rattle.exb_network.specs.Arrivals.{IsPortAt}
-use Rattle.exb_network.specs.Directions.{words_of}
-use Rattle.exb_network.specs.Indices.{next_of}
+use Rattle.exb_boxes.specs.Directions.{words_of}
+use Rattle.exb_boxes.specs.Indices.{next_of}
 use Rattle.exb_network.specs.Sites.{Site, limits_in}
 use Rattle.exb_network.specs.Worlds.{world_in, all_left, IsAt, Does, KeepsTrace}
 use Rattle.exb_network.proofs.Coming.{learned_world, learned_at}

@@ -3,33 +3,27 @@ use Rattle.std.proofs.Common.{◌≡◌, ◌≢◌, ℕ, ◌+◌, ◌-◌, ◌*�
 use Rattle.std.specs.Prelude.{if◌then◌else◌, nat_lt}
 use Rattle.std.proofs.lemmas.Bool.{lt-ltb, le-ltb}
 use Rattle.exb_model.specs.ETags.{TagFits, tagged}
-use Rattle.exb_model.specs.Tree.{Shape, IsTree, on, trunk, device, is_extender}
-use Rattle.exb_model.proofs.TreeHung.{extender-low}
+use Rattle.exb_model.specs.Tree.{Shape, on, trunk, device, is_extender}
 use Rattle.exb_ecp.specs.Machine.{State as Ecp, submitted, stopped}
 use Rattle.exb_extender.specs.Forwarding.{channel_tag}
 use Rattle.exb_link.specs.declared.word.Word.{Word}
-use Rattle.exb_changing.specs.Planning.Held.{Held, channel_in}
-use Rattle.exb_changing.proofs.Planning.Giving.{channel_found}
+use Rattle.exb_changing.specs.Plans.Held.{Held, channel_in}
+use Rattle.exb_changing.proofs.Plans.Giving.{channel_found}
 use Rattle.exb_csp.specs.Sessions.Asking.{AskerState}
 use Rattle.exb_machine.specs.Worlds.{World, BridgeOut, at, control_word}
 use Rattle.exb_machine.specs.Controls.{channel_at_trunk}
 use Rattle.exb_machine.specs.Extending.{hung_on}
 use Rattle.exb_machine.specs.Hearing.{bridge_request, puts, puts_tagged, to_extender, submits}
 use Rattle.exb_machine.specs.Runs.Sessions.{AreLow}
-use Rattle.exb_machine.proofs.Trees.{extender_there, hung_is}
-use Rattle.exb_network.specs.declared.log.Log.{Log}
+use Rattle.exb_boxes.specs.declared.log.Log.{Log}
 use Rattle.exb_network.specs.declared.site.Core.{Core}
-use Rattle.exb_network.specs.Directions.{words_of}
-use Rattle.exb_network.specs.Ends.{near_of}
+use Rattle.exb_boxes.specs.Directions.{words_of}
+use Rattle.exb_boxes.specs.Ends.{near_of}
 use Rattle.exb_network.specs.Sites.{Site}
 use Rattle.exb_network.specs.Worlds.{world_in, IsAt, Does}
 use Rattle.exb_network.proofs.Cores.{IsNoted, near_in, does_nothing, sends_down}
 
 -- ---- numbers
--- the extender that hangs somewhere has a number below 65
-pub hung_low : (t : Shape) → IsTree t → (p n : ℕ) → hung_on t p ≡ Some n → n < 65
-hung_low t tree p n is = extender-low t tree n (extender_there t n p (hung_is t p n is))
-
 -- a channel fits an E-TAG
 pub channel_fits : (t : Shape) (h : Held) (p channel : ℕ) → channel_at_trunk t h p ≡ Some channel → TagFits (channel_tag channel)
 channel_fits t h p channel is = by_test (is_extender t (device p)) is

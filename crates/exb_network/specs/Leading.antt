@@ -2,8 +2,9 @@
 use Rattle.std.specs.Prelude.{◌≡◌, ◌++◌}
 use Rattle.exb_machine.specs.Effects.{Effect}
 use Rattle.exb_machine.specs.Telling.{all_told}
-use Rattle.exb_network.specs.declared.log.Log.{Log}
-use Rattle.exb_network.specs.Worlds.{all_left, if_tracing}
+use Rattle.exb_boxes.specs.declared.log.Log.{Log}
+use Rattle.exb_boxes.specs.Logs.{if_tracing}
+use Rattle.exb_network.specs.Worlds.{all_left}
 
 -- Of a whole effect that began with a log this rest is still to be done: it leads to the same world, and what it tells
 -- stands behind what was told so far.

@@ -8,15 +8,14 @@ use Rattle.exb_extender.specs.declared.sends.Side.TheVariants.{Port}
 use Rattle.exb_extender.specs.Forwarding.{Sent}
 use Rattle.exb_extender.specs.Sending.{out_sent}
 use Rattle.exb_link.specs.declared.word.Stamp.{Stamp}
-use Rattle.exb_machine.specs.Effects.{Effect, each, then_do}
+use Rattle.exb_machine.specs.Effects.{Effect, each}
 use Rattle.exb_machine.specs.Extending.{hung_on, port_number, sends}
-use Rattle.exb_machine.specs.Worlds.{World}
 use Rattle.exb_model.specs.ETags.{stripped}
 use Rattle.exb_model.specs.Tree.{Shape, device}
-use Rattle.exb_network.specs.declared.log.Log.{Log}
+use Rattle.exb_boxes.specs.declared.log.Log.{Log}
 use Rattle.exb_network.specs.declared.site.Core.{Core}
 use Rattle.exb_network.specs.Leading.{Leads}
-use Rattle.exb_network.specs.Rows.{Row, ports_in}
+use Rattle.exb_boxes.specs.Rows.{Row, ports_in}
 use Rattle.exb_network.specs.Sites.{Site}
 use Rattle.exb_network.specs.Worlds.{world_in, IsAt}
 

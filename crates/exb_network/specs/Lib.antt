@@ -1,15 +1,8 @@
-pub mod Numbers
-pub mod Ends
-pub mod Devices
-pub mod Directions
-pub mod Indices
 pub mod Sites
-pub mod Forms
 pub mod Arrivals
 pub mod Sends
 pub mod Steps
 pub mod Turns
-pub mod Rows
 pub mod Worlds
 pub mod Networks
 pub mod Leading

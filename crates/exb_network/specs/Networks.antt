@@ -5,7 +5,7 @@ use Rattle.exb_model.specs.Setup.{Limits}
 use Rattle.exb_machine.specs.Worlds.{World, Step, Arrive, Carry, Control, Lose, Beat, Tick, Order, Mark}
 use Rattle.exb_machine.specs.Stepping.{stepped}
 use Rattle.exb_machine.specs.Telling.{all_told}
-use Rattle.exb_network.specs.declared.log.Log.{Log}
+use Rattle.exb_boxes.specs.declared.log.Log.{Log}
 use Rattle.exb_network.specs.declared.site.Core.{Core}
 use Rattle.exb_network.specs.declared.step.Step.{Step as Made}
 use Rattle.exb_network.specs.declared.step.Step.TheVariants as made

@@ -1,9 +1,9 @@
 -- What never changes in a network.
 use Rattle.std.specs.Prelude.{◌≡◌, ℕ, ◌<◌, if◌then◌else◌, List, Some, slice_get, slice_index}
-use Rattle.std.specs.Int.{bit_at}
 use Rattle.exb_model.specs.Tree.{Shape, by_depth, is_extender}
 use Rattle.exb_model.specs.Setup.{Limits}
 use Rattle.exb_machine.specs.Settling.{deepest_first}
+use Rattle.exb_boxes.specs.Numbers.{number_in}
 
 -- the tree, and how many E-channels and groups the space of a bridge port has
 pub record Site : Type 0 where
@@ -16,7 +16,7 @@ limits_in s = record { channels = s.channels; groups = s.groups }
 
 -- exactly the extenders of a tree are in a set of numbers
 abbrev pub AreExtenders : Shape → ℕ → Type 0
-AreExtenders t bits = (n : ℕ) → bit_at bits n ≡ (if is_extender t n then 1 else 0)
+AreExtenders t bits = (n : ℕ) → number_in bits n ≡ (if is_extender t n then 1 else 0)
 
 -- by extender its place in an order, and 64 where it isn't in it
 pub record ArePlaces (order places : List ℕ) : Type 0 where

@@ -1,23 +1,23 @@
 -- The world of the machine for which the parts of a network stand, and how they make its steps.
-use Rattle.std.specs.Prelude.{◌≡◌, ℕ, ◌++◌, Bool, true, false, List, [], ◌∷◌, map, filter, flat_map, slice_index}
-use Rattle.exb_model.specs.Traces.{TraceLine, Out}
-use Rattle.exb_model.specs.Tree.{device, is_extender}
+use Rattle.std.specs.Prelude.{◌≡◌, ℕ, ◌++◌, true, false, List, [], ◌∷◌, map, flat_map, slice_index}
+use Rattle.exb_model.specs.Traces.{TraceLine}
+use Rattle.exb_model.specs.Tree.{is_extender}
 use Rattle.exb_learn.specs.Entries.{table_of}
 use Rattle.exb_control.specs.Controls.{state_of}
 use Rattle.exb_machine.specs.Worlds.{World}
 use Rattle.exb_machine.specs.Worlds.{Left as Leaving}
 use Rattle.exb_machine.specs.Effects.{Effect}
-use Rattle.exb_machine.specs.Extending.{port_number}
 use Rattle.exb_machine.specs.Telling.{all_told}
-use Rattle.exb_network.specs.declared.log.Left.{Left}
-use Rattle.exb_network.specs.declared.log.Log.{Log}
+use Rattle.exb_boxes.specs.declared.log.Left.{Left}
+use Rattle.exb_boxes.specs.declared.log.Log.{Log}
 use Rattle.exb_network.specs.declared.site.Core.{Core}
-use Rattle.exb_network.specs.Rows.{ports_in}
+use Rattle.exb_boxes.specs.Rows.{ports_in}
 use Rattle.exb_network.specs.Sites.{Site, limits_in}
-use Rattle.exb_network.specs.Directions.{words_of}
-use Rattle.exb_network.specs.Devices.{far_of, has_extender}
-use Rattle.exb_network.specs.Ends.{near_of}
-use Rattle.exb_network.specs.Indices.{next_of}
+use Rattle.exb_boxes.specs.Directions.{words_of}
+use Rattle.exb_boxes.specs.Devices.{far_of, has_extender}
+use Rattle.exb_boxes.specs.Ends.{near_of}
+use Rattle.exb_boxes.specs.Indices.{next_of}
+use Rattle.exb_boxes.specs.Logs.{if_tracing}
 
 -- ---- the world
 abbrev pub world_in : Core → World
@@ -53,14 +53,6 @@ copies_of x = copies_at x.moment x.bytes (ports_in x.row)
 
 abbrev pub all_left : List Left → List Leaving
 all_left xs = flat_map copies_of xs
-
--- these lines, where a trace is kept, and else none
-abbrev pub if_tracing : Bool → List TraceLine → List TraceLine
-if_tracing tracing lines = filter (λ line. tracing) lines
-
--- the lines of a frame that goes out by these ports
-abbrev pub row_outs : List ℕ → List ℕ → List TraceLine
-row_outs frame ports = map (λ q. Out (device q) (port_number q) frame) ports
 
 -- A frame has left, and the line of what went out is gathered; nothing else is told.
 pub record HasLeft (x : Leaving) (line : TraceLine) (old new : Log) : Type 0 where

@@ -1,5 +1,5 @@
 //! Which steps may be made.
-ghost use Rattle.std.specs.Prelude.{◌≡◌, ◌↔◌, ◌+◌, ◌<◌, ◌≤◌, ◌^◌, IsTrue};
+ghost use Rattle.std.specs.Prelude.{◌↔◌, ◌+◌, ◌<◌, ◌≤◌, ◌^◌, IsTrue};
 ghost use Rattle.exb_model.specs.Setup.{NamesExternal};
 ghost use Rattle.exb_machine.specs.Allowing.{Can, MayArrive};
 ghost use Rattle.exb_machine.specs.Worlds.{Carry, Lose, Order};

@@ -1,22 +1,24 @@
 //! What the bridge sends to its extenders: messages, in control frames over the acknowledged transport (ECP, IEEE 802.1Q,
 //! clause 43).
-ghost use Rattle.std.specs.Prelude.{◌≡◌, ◌<◌, ◌≤◌, ℕ, true, OnOk, length};
+ghost use Rattle.std.specs.Prelude.{◌≡◌, ◌<◌, ◌≤◌, true, OnOk, length};
 ghost use Rattle.exb_model.specs.Tree.{is_extender, on, trunk};
 ghost use Rattle.exb_extender.specs.Machine.{control_pdu};
 ghost use Rattle.exb_changing.specs.Machine.{Moved};
 ghost use Rattle.exb_machine.specs.Controls.{channel_at_trunk, forgotten_all};
 ghost use Rattle.exb_machine.specs.Effects.{each};
 ghost use Rattle.exb_machine.specs.Extending.{hung_on};
-ghost use Rattle.exb_machine.specs.Hearing.{asks, bridge_acknowledgement, bridge_request, moves, puts, puts_tagged, submits, to_extender};
+ghost use Rattle.exb_machine.specs.Hearing.{asks, bridge_acknowledgement, bridge_request, moves, puts, puts_tagged, to_extender};
 ghost use Rattle.exb_machine.specs.Worlds.{World, with_control, with_table};
 ghost use Rattle.exb_machine.specs.Runs.Asks.{CanGo};
 ghost use Rattle.exb_machine.specs.Runs.Sessions.{AreLow, Each};
+ghost use Rattle.exb_boxes.specs.Numbers.{IsNumber};
 ghost use Rattle.exb_network.specs.Worlds.{world_in, IsAt, Does};
 
-use crate::forms::channel_tag;
-use crate::log::{Post, add_events, note_out};
 use crate::sending::hung_on;
 use crate::site::{Buffers, Core, Room, Site};
+use exb_boxes::Post;
+use exb_boxes::forms::channel_tag;
+use exb_boxes::log::{add_events, note_out};
 use exb_changing::Asked;
 use exb_ecp::Pdu;
 use exb_frame::etag::tag_into;
@@ -59,15 +61,6 @@ pub(crate) fn spell_acknowledgement(sequence: u16, into: &mut ControlBuf)
     exb_ecp::write(BRIDGE, &header(true, sequence), &[], into);
 }
 
-/// That the number of an extender of the tree is below 65, as a fact for whoever calls it. It does nothing.
-pub(crate) fn has_low_number(site: &Site, extender: u8)
-    requires { is_extender site.now.tree extender ≡ true }
-    ensures { extender < 65 }
-{
-    let tree = site.tree();
-    tree.is_tree();
-}
-
 /// A control frame goes out at a port of the bridge, counted from 0, onto the link of the extender that hangs there.
 fn put(
     site: &Site,
@@ -79,7 +72,7 @@ fn put(
 ) -> Result<(), NoMemory>
     requires at { IsAt site.now core.old }
     requires place { place < 64 }
-    requires known { below < 65 }
+    requires known { IsNumber below }
     ensures { OnOk result (Does (puts place below frame (world_in core.old)) site.now core.new post.old.log post.new.log) }
 {
     let _ = site;
@@ -145,7 +138,7 @@ pub(crate) fn send_to_extender(
     requires long { 12 ≤ length frame.now }
     ensures { OnOk result (Does (to_extender site.now.tree extender frame.now (world_in core.old)) site.now core.new post.old.log post.new.log) }
 {
-    has_low_number(site, extender);
+    site.has_low_number(extender);
     let port = site.on(extender);
     if port.device() == 0 {
         let bytes = post.store.copy(post.alloc, frame)?;
@@ -169,7 +162,7 @@ fn ask(
     requires askable { CanGo site.now.tree asked.now }
     ensures { OnOk result (Does (asks site.now.tree asked.now (world_in core.old)) site.now core.new post.old.log post.new.log) }
 {
-    has_low_number(site, asked.extender);
+    site.has_low_number(asked.extender);
     exb_csp::write(&asked.message, &mut buffers.message);
     let payload = buffers.message.as_slice();
     let sequence = core.near.submit(asked.extender, payload);

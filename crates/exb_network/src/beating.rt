@@ -11,11 +11,11 @@ ghost use Rattle.exb_machine.specs.Runs.Asks.{AsksWell};
 ghost use Rattle.exb_network.specs.Sites.{limits_in};
 ghost use Rattle.exb_network.specs.Worlds.{world_in, IsAt, Does};
 
-use crate::asking::{follow, has_low_number, send_to_extender, spell_request};
-use crate::log::Post;
-use crate::numbers::first_in;
+use crate::asking::{follow, send_to_extender, spell_request};
 use crate::site::{Buffers, Core, Room, Site};
 use crate::taking;
+use exb_boxes::Post;
+use exb_boxes::numbers::first_in;
 use exb_ecp::{Beat, Ecp};
 use exb_model::memory::NoMemory;
 
@@ -43,7 +43,7 @@ fn beat_near(
     requires there { is_extender site.now.tree number ≡ true }
     ensures { OnOk result (Does (beats_near site.now.tree number (world_in core.old)) site.now core.new post.old.log post.new.log) }
 {
-    has_low_number(site, number);
+    site.has_low_number(number);
     if core.near.beat(number) != Beat::SendAgain {
         return Ok(());
     }

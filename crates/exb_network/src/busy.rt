@@ -1,16 +1,17 @@
 //! Which direction of a link has its turn next.
-ghost use Rattle.std.specs.Prelude.{◌≡◌, ℕ, ◌<◌, ◌≤◌, [], IfNone, IfSome, Some, length, slice_get};
+ghost use Rattle.std.specs.Prelude.{◌≡◌, ℕ, ◌≤◌, [], IfNone, IfSome, Some, length, slice_get};
 ghost use Rattle.std.specs.List.{All};
 ghost use Rattle.exb_machine.specs.Stepping.{words_on};
-ghost use Rattle.exb_network.specs.Directions.{words_of};
+ghost use Rattle.exb_boxes.specs.Directions.{words_of};
+ghost use Rattle.exb_boxes.specs.Numbers.{IsNumber};
 ghost use Rattle.exb_network.specs.Steps.{way_of};
 ghost use Rattle.exb_network.specs.Sites.{ArePlaces};
 ghost use Rattle.exb_network.specs.Turns.{order_of, IsEarlier, IsFirst, IsTurn};
 ghost use Rattle.exb_network.specs.Worlds.{world_in};
 
-use crate::links::Direction;
 use crate::site::{Core, Site};
 use crate::step::Way;
+use exb_boxes::Direction;
 use exb_model::port::DEVICES;
 
 /// A direction that has a word: its place in the order in which a round goes through the directions of one way, and its
@@ -73,7 +74,7 @@ fn first_among(
 /// The turn of the link at a place in the order, if that has a word.
 #[inline(always)]
 fn turn_here(order: &[u8], links: &Direction, place: u8) -> Option<Turn>
-    requires low { All (λ n. n < 65) order.now }
+    requires low { All IsNumber order.now }
     requires few { length order.now ≤ 64 }
     ensures { IfSome result (IsFirst order.now links.now place) }
 {
@@ -93,7 +94,7 @@ fn first_busy(
     links: &Direction,
     from: u8,
 ) -> Option<Turn>
-    requires low { All (λ n. n < 65) order.now }
+    requires low { All IsNumber order.now }
     requires few { length order.now ≤ 64 }
     requires places { ArePlaces order.now places.now }
     ensures found { IfSome result (IsFirst order.now links.now from) }

@@ -1,18 +1,19 @@
 //! What the bridge hears from its extenders: announcements (LLDP, IEEE 802.1AB), acknowledgements and requests (ECP), and
 //! the answers that these carry.
-ghost use Rattle.std.specs.Prelude.{◌≡◌, ◌<◌, ℕ, List, true, OnOk, Ok};
+ghost use Rattle.std.specs.Prelude.{◌≡◌, ℕ, List, true, OnOk, Ok};
 ghost use Rattle.exb_ecp.specs.Frames.{pdu_in};
 ghost use Rattle.exb_model.specs.Tree.{is_extender};
 ghost use Rattle.exb_machine.specs.Hearing.{hears, hears_frame, hears_message, hears_pdu, hears_request, stops};
 ghost use Rattle.exb_machine.specs.Worlds.{World};
 ghost use Rattle.exb_machine.specs.Runs.Asks.{AsksWell};
-ghost use Rattle.exb_network.specs.Ends.{near_of};
+ghost use Rattle.exb_boxes.specs.Ends.{near_of};
+ghost use Rattle.exb_boxes.specs.Numbers.{IsNumber};
 ghost use Rattle.exb_network.specs.Sites.{limits_in};
 ghost use Rattle.exb_network.specs.Worlds.{world_in, IsAt, Does};
 
-use crate::asking::{follow, has_low_number, send_to_extender, spell_acknowledgement};
-use crate::ends::Ends;
+use crate::asking::{follow, send_to_extender, spell_acknowledgement};
 use crate::site::{Core, Room, Site};
+use exb_boxes::Ends;
 use exb_control::Taken;
 use exb_csp::Message;
 use exb_lldp::Announce;
@@ -43,7 +44,7 @@ fn hear_announcement(
 
 /// An answer that is taken ends the sending of its request.
 fn stop_answered(taken: &Taken, number: u8, near: &mut Ends)
-    requires { number < 65 }
+    requires { IsNumber number }
     ensures { (w : World) → w.near ≡ near_of near.old → stops taken.now number w ≡ record w { near = near_of near.new } }
 {
     match taken {
@@ -66,7 +67,7 @@ fn hear_message(
     requires asks { AsksWell site.now.tree (limits_in site.now) (world_in core.old).control }
     ensures { OnOk result (Does (hears_message site.now.tree (limits_in site.now) number (Ok message.now) (world_in core.old)) site.now core.new room.old.post.log room.new.post.log) }
 {
-    has_low_number(site, number);
+    site.has_low_number(number);
     let Ok(taken) = core.control.answered(number, message, &mut room.outbox) else {
         return Err(NoMemory);
     };
@@ -89,7 +90,7 @@ fn hear_request(
     requires asks { AsksWell site.now.tree (limits_in site.now) (world_in core.old).control }
     ensures { OnOk result (Does (hears_request site.now.tree (limits_in site.now) number sequence payload.now (world_in core.old)) site.now core.new room.old.post.log room.new.post.log) }
 {
-    has_low_number(site, number);
+    site.has_low_number(number);
     spell_acknowledgement(sequence, &mut room.buffers.control);
     let frame = room.buffers.control.as_slice();
     send_to_extender(site, number, frame, core, &mut room.post)?;
@@ -115,7 +116,7 @@ fn hear_pdu(
     requires asks { AsksWell site.now.tree (limits_in site.now) (world_in core.old).control }
     ensures { OnOk result (Does (hears_pdu site.now.tree (limits_in site.now) number (pdu_in frame.now) frame.now (world_in core.old)) site.now core.new room.old.post.log room.new.post.log) }
 {
-    has_low_number(site, number);
+    site.has_low_number(number);
     let Ok(pdu) = exb_ecp::read(frame) else {
         return Ok(());
     };

@@ -1,11 +1,11 @@
 //! The extenders of a tree: from the deepest, as a set, and their places in an order.
-ghost use Rattle.std.specs.Prelude.{◌≡◌, ℕ, ◌+◌, ◌<◌, ◌≤◌, IfOk, length};
+ghost use Rattle.std.specs.Prelude.{◌≡◌, ◌<◌, ◌≤◌, IfOk, length};
 ghost use Rattle.std.specs.List.{All};
 ghost use Rattle.exb_model.specs.Tree.{by_depth, hangs_at_depth, path};
 ghost use Rattle.exb_machine.specs.Settling.{deepest_first};
 ghost use Rattle.exb_network.specs.Sites.{AreExtenders, ArePlaces, StandsOnce};
 
-use crate::numbers::with_bit;
+use exb_boxes::numbers::with_bit;
 use exb_model::memory::NoMemory;
 use exb_model::port::{DEVICES, PortId};
 use exb_model::tree::Tree;
@@ -58,13 +58,13 @@ pub(crate) fn deepest_first(
     Ok(order)
 }
 
-/// The extenders, each a bit of its number.
-pub(crate) fn all_extenders(tree: &Tree) -> u128
+/// The extenders, as a set of numbers.
+pub(crate) fn all_extenders(tree: &Tree) -> u64
     ensures { AreExtenders tree.now result }
 {
     tree.is_tree();
-    let mut extenders = 0u128;
-    for number in 0..DEVICES {
+    let mut extenders = 0u64;
+    for number in 1..DEVICES {
         extenders = with_bit(extenders, number, tree.is_extender(number));
     }
     extenders

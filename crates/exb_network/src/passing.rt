@@ -1,14 +1,15 @@
 //! A word that an extender sends on to one side alone.
-ghost use Rattle.std.specs.Prelude.{◌<◌, OnOk};
+ghost use Rattle.std.specs.Prelude.{OnOk};
 ghost use Rattle.exb_extender.specs.Sending.{out_sent};
 ghost use Rattle.exb_machine.specs.Extending.{sends};
-ghost use Rattle.exb_network.specs.Forms.{CanGo};
+ghost use Rattle.exb_boxes.specs.Forms.{CanGo};
+ghost use Rattle.exb_boxes.specs.Numbers.{IsNumber};
 ghost use Rattle.exb_network.specs.Worlds.{world_in, IsAt, Does};
 
 use crate::arrivals::Came;
-use crate::log::Post;
 use crate::sending::{send_frame, send_to};
 use crate::site::{Core, Site};
+use exb_boxes::Post;
 use exb_extender::{Form, Out};
 use exb_link::Word;
 use exb_model::memory::NoMemory;
@@ -24,7 +25,7 @@ fn change(
     post: &mut Post,
 ) -> Result<(), NoMemory>
     requires at { IsAt site.now core.old }
-    requires number { number < 65 }
+    requires number { IsNumber number }
     requires can { CanGo word.bytes out.now }
     ensures { OnOk result (Does (sends site.now.tree number word.stamp (out_sent word.bytes out.now) (world_in core.old)) site.now core.new post.old.log post.new.log) }
 {
@@ -48,7 +49,7 @@ pub(crate) fn pass_on(
     post: &mut Post,
 ) -> Result<(), NoMemory>
     requires at { IsAt site.now core.old }
-    requires number { number < 65 }
+    requires number { IsNumber number }
     requires can { CanGo word.bytes out.now }
     ensures { OnOk result (Does (sends site.now.tree number word.stamp (out_sent word.bytes out.now) (world_in core.old)) site.now core.new post.old.log post.new.log) }
 {

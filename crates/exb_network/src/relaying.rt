@@ -17,10 +17,10 @@ ghost use Rattle.exb_network.specs.Worlds.{world_in, IsAt, Does, HasLeft, KeepsT
 
 use crate::arrivals::Arrived;
 use crate::hearing::hear;
-use crate::log::{Left, Post, add_events, note_out};
-use crate::rows::Row;
 use crate::sending::hung_on;
 use crate::site::{Core, Room, Site};
+use exb_boxes::log::{add_events, note_out};
+use exb_boxes::{Left, Post, Row};
 use exb_control::{Ingress, Outbox, SendTo};
 use exb_frame::egress::{VlanTag, egress_into, tagged_egress_into};
 use exb_frame::etag::{E_TAG_TYPE, ETag, strip_in_place, strip_into};

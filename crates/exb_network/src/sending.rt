@@ -1,21 +1,22 @@
 //! What an extender sends: it goes onto the link of the extender that hangs there, or leaves the network.
-ghost use Rattle.std.specs.Prelude.{◌≡◌, ◌<◌, ◌≤◌, true, false, IfSome, OnOk, map};
+ghost use Rattle.std.specs.Prelude.{◌≡◌, ◌<◌, ◌≤◌, true, false, OnOk, map};
 ghost use Rattle.std.specs.List.{All};
 ghost use Rattle.exb_csp.specs.AllTables.{port_of};
 ghost use Rattle.exb_extender.specs.Sending.{out_sent, own_sent, sent_by};
 ghost use Rattle.exb_machine.specs.Effects.{each};
 ghost use Rattle.exb_machine.specs.Extending.{hung_on, sent_at, sent_to, sends};
 ghost use Rattle.exb_machine.specs.Worlds.{moment_of};
-ghost use Rattle.exb_network.specs.Forms.{IsSide, CanGo, GoesOn};
+ghost use Rattle.exb_boxes.specs.Forms.{IsSide, CanGo};
 ghost use Rattle.exb_network.specs.Leaving.{row_sent, AreOuter, GoesBehind, Joins, JoinsAt};
-ghost use Rattle.exb_network.specs.Rows.{ports_in};
+ghost use Rattle.exb_boxes.specs.Numbers.{IsNumber};
+ghost use Rattle.exb_boxes.specs.Rows.{ports_in};
 ghost use Rattle.exb_network.specs.Worlds.{world_in, IsAt, Does};
 
 use crate::arrivals::Came;
-use crate::forms::put_form;
-use crate::log::{Left, Post, note_out, note_row};
-use crate::rows::Row;
 use crate::site::{Core, Site};
+use exb_boxes::forms::put_form;
+use exb_boxes::log::{note_out, note_row};
+use exb_boxes::{Left, Post, Row};
 use exb_extender::{Form, Out, Sends, Side};
 use exb_frame::etag::strip_into;
 use exb_link::{Stamp, Word};
@@ -59,7 +60,7 @@ fn send_at(
     post: &mut Post,
 ) -> Result<(), NoMemory>
     requires at { IsAt site.now core.old }
-    requires number { number < 65 }
+    requires number { IsNumber number }
     requires port { (0 < port) × (port ≤ 64) }
     ensures { OnOk result (Does (sent_at number port (hung_on site.now.tree (port_of number port)) word.stamp word.bytes (world_in core.old)) site.now core.new post.old.log post.new.log) }
 {
@@ -97,7 +98,7 @@ fn send_up(
     post: &mut Post,
 ) -> Result<(), NoMemory>
     requires at { IsAt site.now core.old }
-    requires number { number < 65 }
+    requires number { IsNumber number }
     ensures { OnOk result (Does (sent_to site.now.tree number word.stamp Side.Up word.bytes (world_in core.old)) site.now core.new post.old.log post.new.log) }
 {
     let _ = site;
@@ -123,7 +124,7 @@ pub(crate) fn send_to(
     post: &mut Post,
 ) -> Result<(), NoMemory>
     requires at { IsAt site.now core.old }
-    requires number { number < 65 }
+    requires number { IsNumber number }
     requires side { IsSide side }
     ensures { OnOk result (Does (sent_to site.now.tree number word.stamp side word.bytes (world_in core.old)) site.now core.new post.old.log post.new.log) }
 {
@@ -144,7 +145,7 @@ pub(crate) fn send_frame(
     post: &mut Post,
 ) -> Result<(), NoMemory>
     requires at { IsAt site.now core.old }
-    requires number { number < 65 }
+    requires number { IsNumber number }
     requires can { CanGo came.now.frame.now out.now }
     ensures { OnOk result (Does (sends site.now.tree number came.now.stamp (out_sent came.now.frame.now out.now) (world_in core.old)) site.now core.new post.old.log post.new.log) }
 {
@@ -237,7 +238,7 @@ fn send_behind(
     post: &mut Post,
 ) -> Result<(), NoMemory>
     requires at { IsAt site.now core.old }
-    requires number { row.old.device < 65 }
+    requires number { IsNumber row.old.device }
     requires can { CanGo came.now.frame.now out.now }
     requires outer { AreOuter site.now.tree row.old.device came.now.frame.now (ports_in row.old) }
     ensures device { row.new.device ≡ row.old.device }
@@ -263,7 +264,7 @@ fn send_frames(
     post: &mut Post,
 ) -> Result<(), NoMemory>
     requires at { IsAt site.now core.old }
-    requires number { number < 65 }
+    requires number { IsNumber number }
     requires can { All (CanGo came.now.frame.now) outs.now }
     ensures { OnOk result (Does (each (sends site.now.tree number came.now.stamp) (map (out_sent came.now.frame.now) outs.now) (world_in core.old)) site.now core.new post.old.log post.new.log) }
 {
@@ -285,7 +286,7 @@ fn send_own(
     post: &mut Post,
 ) -> Result<(), NoMemory>
     requires at { IsAt site.now core.old }
-    requires number { number < 65 }
+    requires number { IsNumber number }
     ensures { OnOk result (Does (each (sends site.now.tree number stamp) (own_sent frame.now) (world_in core.old)) site.now core.new post.old.log post.new.log) }
 {
     if frame.is_empty() {
@@ -308,7 +309,7 @@ pub(crate) fn send_all(
     post: &mut Post,
 ) -> Result<(), NoMemory>
     requires at { IsAt site.now core.old }
-    requires number { number < 65 }
+    requires number { IsNumber number }
     requires can { All (CanGo came.now.frame.now) reaction.now.frames.items }
     ensures { OnOk result (Does (each (sends site.now.tree number came.now.stamp) (sent_by came.now.frame.now reaction.now) (world_in core.old)) site.now core.new post.old.log post.new.log) }
 {
@@ -318,52 +319,4 @@ pub(crate) fn send_all(
     send_own(site, number, came.stamp, first, core, post)?;
     let second = reaction.second.as_slice();
     send_own(site, number, came.stamp, second, core, post)
-}
-
-/// The one side to which a frame goes on as it is, where it goes nowhere else and nothing else is sent.
-#[inline(always)]
-fn only_side(reaction: &Sends) -> Option<Side>
-    ensures { IfSome result (GoesOn reaction.now) }
-{
-    if !reaction.first.is_empty() || !reaction.second.is_empty() {
-        return None;
-    }
-    match reaction.frames.as_slice() {
-        [
-            Out {
-                to,
-                form: Form::AsIs,
-            },
-        ] => Some(*to),
-        _ => None,
-    }
-}
-
-/// All that an extender sends where this word came goes out. A word that goes on as it is, and nowhere else, is not copied;
-/// of another one the buffer is kept.
-pub(crate) fn send_on(
-    site: &Site,
-    number: u8,
-    word: Word,
-    reaction: &Sends,
-    core: &mut Core,
-    post: &mut Post,
-) -> Result<(), NoMemory>
-    requires at { IsAt site.now core.old }
-    requires number { number < 65 }
-    requires can { All (CanGo word.bytes) reaction.now.frames.items }
-    ensures { OnOk result (Does (each (sends site.now.tree number word.stamp) (sent_by word.bytes reaction.now) (world_in core.old)) site.now core.new post.old.log post.new.log) }
-{
-    match only_side(reaction) {
-        Some(side) => send_to(site, number, side, word, core, post),
-        None => {
-            let came = Came {
-                frame: word.bytes.as_slice(),
-                stamp: word.stamp,
-            };
-            send_all(site, number, &came, reaction, core, post)?;
-            post.store.keep(word.bytes);
-            Ok(())
-        }
-    }
 }

@@ -1,19 +1,15 @@
 //! The parts of a network.
-ghost use Rattle.std.specs.Prelude.{◌≡◌, ◌<◌, [], true, IfOk};
+ghost use Rattle.std.specs.Prelude.{◌≡◌, [], true, IfOk};
 ghost use Rattle.exb_model.specs.Setup.{IsPlace, IsValid, port_at, shape_of, start_of, limits_of};
 ghost use Rattle.exb_model.specs.Tree.{by_depth, is_extender, on};
 ghost use Rattle.exb_machine.specs.Settling.{deepest_first};
 ghost use Rattle.exb_machine.specs.Worlds.{first_world};
+ghost use Rattle.exb_boxes.specs.Numbers.{IsNumber};
 ghost use Rattle.exb_network.specs.Sites.{limits_in, AreExtenders, ArePlaces};
 ghost use Rattle.exb_network.specs.Worlds.{world_in, IsAt};
 
-use crate::ends::Ends;
-use crate::extenders::Extenders;
-use crate::indices::Indices;
-use crate::links::Direction;
-use crate::log::{Log, Post};
 use crate::orders::{all_extenders, deepest_first, downward_places, upward_places};
-use crate::store::Store;
+use exb_boxes::{Direction, Ends, Extenders, Indices, Log, Post, Store};
 use exb_control::{Control, Outbox};
 use exb_extender::Sends;
 use exb_model::buffers::ControlBuf;
@@ -34,8 +30,8 @@ pub(crate) struct Site {
     on: [PortId; DEVICES as usize],
     /// The extenders from the deepest, at one depth by number.
     upwards: Vec<u8>,
-    /// The extenders, each a bit of its number.
-    extenders: u128,
+    /// The extenders, as a set of numbers.
+    extenders: u64,
     /// By extender its place among those from the deepest, and among those by depth; 64 where there is none.
     upward_places: [u8; DEVICES as usize],
     downward_places: [u8; DEVICES as usize],
@@ -107,10 +103,10 @@ impl Site {
         &self.tree
     }
 
-    /// That the number of an extender is below 65, as a fact for whoever calls it. It does nothing.
+    /// That the number of an extender is 1 to 64, as a fact for whoever calls it. It does nothing.
     pub(crate) fn has_low_number(&self, extender: u8)
         requires { is_extender self.now.tree extender ≡ true }
-        ensures { extender < 65 }
+        ensures { IsNumber extender }
     {
         self.tree.is_tree();
     }
@@ -146,8 +142,8 @@ impl Site {
         &self.downward_places
     }
 
-    /// The extenders, each a bit of its number.
-    pub(crate) fn extenders(&self) -> u128
+    /// The extenders, as a set of numbers.
+    pub(crate) fn extenders(&self) -> u64
         ensures { AreExtenders self.now.tree result }
     {
         self.extenders

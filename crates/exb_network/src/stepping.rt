@@ -7,19 +7,19 @@ ghost use Rattle.exb_machine.specs.Worlds.{Carry, Control, Lose, Mark, Order, Ti
 ghost use Rattle.exb_link.specs.Words.{is_control, without_control, without_data};
 ghost use Rattle.exb_network.specs.Arrivals.{arrival_of};
 ghost use Rattle.exb_machine.specs.Runs.Asks.{AsksWell};
-ghost use Rattle.exb_network.specs.Directions.{words_of};
+ghost use Rattle.exb_boxes.specs.Directions.{words_of};
+ghost use Rattle.exb_boxes.specs.Numbers.{IsNumber};
 ghost use Rattle.exb_network.specs.Sites.{limits_in};
 ghost use Rattle.exb_network.specs.Steps.{way_of};
 ghost use Rattle.exb_network.specs.Worlds.{world_in, IsAt, Does};
 
 use crate::arrivals::Arrived;
 use crate::asking::follow;
-use crate::links::Direction;
-use crate::log::Log;
 use crate::relaying::{self, come};
 use crate::site::{Core, Room, Site};
 use crate::step::Way;
 use crate::taking::{arrive_at, take_from_above, take_from_below};
+use exb_boxes::{Direction, Log};
 use exb_link::Word;
 use exb_model::bytes::Bytes;
 use exb_model::command::Command;
@@ -76,7 +76,7 @@ fn take(
 #[inline(always)]
 fn pull_data(site: &Site, number: u8, way: Way, core: &mut Core) -> Option<Word>
     requires at { IsAt site.now core.old }
-    requires known { number < 65 }
+    requires known { IsNumber number }
     ensures word { result ≡ first_data (words_on number (way_of way) (world_in core.old)) }
     ensures rest { world_in core.new ≡ with_words number (way_of way) (without_data (words_on number (way_of way) (world_in core.old))) (world_in core.old) }
     ensures at { IsAt site.now core.new }
@@ -93,7 +93,7 @@ fn pull_data(site: &Site, number: u8, way: Way, core: &mut Core) -> Option<Word>
 #[inline(never)]
 fn pull_control(site: &Site, number: u8, way: Way, place: u64, core: &mut Core) -> Option<Word>
     requires at { IsAt site.now core.old }
-    requires known { number < 65 }
+    requires known { IsNumber number }
     ensures word { result ≡ control_at (words_on number (way_of way) (world_in core.old)) place }
     ensures rest { world_in core.new ≡ with_words number (way_of way) (without_control (words_on number (way_of way) (world_in core.old)) place) (world_in core.old) }
     ensures at { IsAt site.now core.new }
@@ -112,7 +112,7 @@ fn copied(
     number: u8,
     place: u64,
 ) -> Result<Option<Word>, NoMemory>
-    requires { number < 65 }
+    requires { IsNumber number }
     ensures { IfOk result (λ word. word ≡ slice_get (filter is_control (words_of direction.now number)) place) }
 {
     match direction.control_at(number, place) {
@@ -132,7 +132,7 @@ fn copy_control(
     place: u64,
     core: &Core,
 ) -> Result<Option<Word>, NoMemory>
-    requires { number < 65 }
+    requires { IsNumber number }
     ensures { IfOk result (λ word. word ≡ control_at (words_on number (way_of way) (world_in core.now)) place) }
 {
     match way {
@@ -211,7 +211,7 @@ pub(crate) fn repeat(
 /// The control word at a position is lost.
 pub(crate) fn lose(site: &Site, number: u8, way: Way, place: u64, core: &mut Core)
     requires at { IsAt site.now core.old }
-    requires known { number < 65 }
+    requires known { IsNumber number }
     ensures world { world_in core.new ≡ (done_by site.now.tree (limits_in site.now) (Lose number (way_of way) place) (world_in core.old)).world }
     ensures at { IsAt site.now core.new }
 {

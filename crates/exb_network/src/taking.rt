@@ -1,24 +1,24 @@
 //! What extenders do with words and frames that come to them, and at a beat.
-ghost use Rattle.std.specs.Prelude.{◌≡◌, ◌++◌, ◌∷◌, [], true, OnOk, Some, None};
+ghost use Rattle.std.specs.Prelude.{◌≡◌, ◌++◌, ◌∷◌, [], true, OnOk, None};
 ghost use Rattle.exb_model.specs.Tree.{device, is_extender};
 ghost use Rattle.exb_extender.specs.Machine.{Arrives, Beats, CanTake};
 ghost use Rattle.exb_machine.specs.Extending.{arrives_at, port_number, reacts, takes_from_above, takes_from_below};
 ghost use Rattle.exb_network.specs.Arrivals.{arrival_of, IsPortAt};
-ghost use Rattle.exb_network.specs.Devices.{far_of};
+ghost use Rattle.exb_boxes.specs.Devices.{far_of};
 ghost use Rattle.exb_network.specs.Worlds.{world_in, IsAt, Does, KeepsTrace};
 
 use crate::arrivals::{Arrived, Came};
-use crate::log::Log;
 use crate::passing::pass_on;
-use crate::sending::{send_all, send_frame, send_on};
+use crate::sending::{send_all, send_frame};
 use crate::site::{Core, Room, Site};
+use exb_boxes::Log;
 use exb_extender::{Out, Side};
 use exb_link::Word;
 use exb_model::event::Event;
 use exb_model::memory::NoMemory;
 use exb_model::port::PortId;
 
-/// An extender takes a word, and all that it sends for it goes out.
+/// An extender takes a word, and all that it sends for it goes out; the word's buffer is kept.
 #[inline(never)]
 fn take_whole(
     site: &Site,
@@ -34,10 +34,16 @@ fn take_whole(
     ensures { OnOk result (Does (reacts site.now.tree number word.stamp (Arrives from word.bytes) (world_in core.old)) site.now core.new room.old.post.log room.new.post.log) }
 {
     site.has_low_number(number);
-    core.far
-        .take(number, from, word.bytes.as_slice(), &mut room.sends);
+    let frame = word.bytes.as_slice();
+    core.far.take(number, from, frame, &mut room.sends);
+    let came = Came {
+        frame,
+        stamp: word.stamp,
+    };
     let sends = &room.sends;
-    send_on(site, number, word, sends, core, &mut room.post)
+    send_all(site, number, &came, sends, core, &mut room.post)?;
+    room.post.store.keep(word.bytes);
+    Ok(())
 }
 
 /// An extender takes a word. Mostly that goes on to one side alone, and nothing else is to be done.

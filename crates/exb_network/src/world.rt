@@ -12,6 +12,7 @@ ghost use Rattle.exb_machine.specs.Runs.Asks.{AsksWell};
 ghost use Rattle.exb_machine.specs.Runs.Laws.{HasBytes};
 ghost use Rattle.exb_network.specs.Idle.{IsIdle};
 ghost use Rattle.exb_network.specs.Networks.{network_of, step_of, IsLive, IsStepped};
+ghost use Rattle.exb_boxes.specs.Numbers.{IsNumber};
 ghost use Rattle.exb_network.specs.Sites.{limits_in};
 ghost use Rattle.exb_network.specs.Steps.{way_of};
 ghost use Rattle.exb_network.specs.Turns.{order_of, IsTurn};
@@ -19,12 +20,12 @@ ghost use Rattle.exb_network.specs.Worlds.{world_in, IsAt, Does};
 
 use crate::arrivals::Arrived;
 use crate::busy::Turn;
-use crate::log::Left;
 use crate::site::{Core, Room, Site};
 use crate::step::{Step, Way};
 use crate::stepping::{arrive, carry, deliver, lose, mark, order, repeat, tick};
 use crate::telling::{tell_ins, tell_outs};
 use crate::{allowing, beating, busy};
+use exb_boxes::Left;
 use exb_link::{Counts, Link};
 use exb_machine::laws::{
     asks_can_be_sent, begins_written, runs_stay_sound, setups_begin_sound, steps_stay_written,
@@ -32,7 +33,6 @@ use exb_machine::laws::{
 };
 use exb_model::bytes::are_bytes;
 use exb_model::event::Event;
-use exb_model::list::List;
 use exb_model::memory::NoMemory;
 use exb_model::setup::Setup;
 use exb_model::trace::TraceLine;
@@ -380,7 +380,7 @@ pub(crate) fn is_settled(site: &Site, core: &Core) -> bool
 
 /// The link of an extender in a direction.
 pub(crate) fn link_of(core: &Core, number: u8, way: Way) -> &Link
-    requires { number < 65 }
+    requires { IsNumber number }
     ensures { result.now ≡ words_on number (way_of way) (world_in core.now) }
 {
     match way {

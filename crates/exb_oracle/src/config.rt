@@ -1,5 +1,5 @@
 //! The configuration of the VLAN bridge.
-ghost use Rattle.std.specs.Prelude.{◌≡◌, ◌<◌, ◌==◌, ℕ, length, OnOk, OnErr, IfOk, filter, find, not, if◌then◌else◌, slice_index_or, option_map};
+ghost use Rattle.std.specs.Prelude.{◌≡◌, ◌==◌, ℕ, length, OnOk, OnErr, IfOk, filter, find, not, if◌then◌else◌, slice_index_or, option_map};
 ghost use Rattle.exb_model.specs.Lists.{put_first};
 ghost use Rattle.exb_model.specs.Ports.{port_in};
 ghost use Rattle.exb_model.specs.Configuration.{after, is_known, put_static, is_for, kind_in, empty_bridge};

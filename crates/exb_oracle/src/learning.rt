@@ -1,5 +1,5 @@
 //! Which frames pass, and what they teach.
-ghost use Rattle.std.specs.Prelude.{◌≡◌, ℕ, ◌≤◌, [], length, IfOk, IfSome};
+ghost use Rattle.std.specs.Prelude.{◌≡◌, ◌≤◌, [], length, IfOk, IfSome};
 ghost use Rattle.exb_model.specs.History.{◌then◌};
 ghost use Rattle.exb_model.specs.Learning.{accepts_tagged, accepts_untagged, admitted, passes, teaches, is_down_of, kept_unless, live_port, remembered, learned};
 ghost use Rattle.exb_oracle.specs.Configs.{bridge_of};

@@ -1,8 +1,8 @@
 //! Where a frame goes.
-ghost use Rattle.std.specs.Prelude.{◌≡◌, ◌<◌, ◌++◌, ℕ, [], map, IfOk, OnOk, if◌then◌else◌};
+ghost use Rattle.std.specs.Prelude.{◌≡◌, ◌<◌, ◌++◌, [], map, IfOk, OnOk, if◌then◌else◌};
 ghost use Rattle.exb_model.specs.Frames.{destination, is_group};
 ghost use Rattle.exb_model.specs.History.{◌then◌, bridge_after};
-ghost use Rattle.exb_model.specs.Learning.{Look, passes, learned};
+ghost use Rattle.exb_model.specs.Learning.{Look, learned};
 ghost use Rattle.exb_model.specs.Targets.{static_for, is_chosen_by, both_isolated, target, targets};
 ghost use Rattle.exb_oracle.specs.Configs.{bridge_of};
 ghost use Rattle.exb_oracle.specs.Histories.{basis_of, target_of, target_at, reaches, Knows};

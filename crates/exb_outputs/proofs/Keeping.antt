@@ -1,5 +1,5 @@
 -- What stays of captures that are read again, while others are read and outputs are written.
-use Rattle.std.proofs.Common.{◌≡◌, ◌≢◌, ℕ, ◌<◌, ◌-◌, true, false, List, [], ◌∷◌, map, slice_index, refl, ap, sym, subst, ◌∙◌}
+use Rattle.std.proofs.Common.{◌≡◌, ◌≢◌, ℕ, ◌<◌, true, false, List, [], ◌∷◌, map, slice_index, refl, ap, sym, subst, ◌∙◌}
 use mathlib.Core.Path.{fun_ext}
 use Rattle.std.specs.List.{AllByRecursion}
 use Rattle.exb_merge.specs.declared.replays.Again.{Again}

@@ -1,12 +1,11 @@
 -- What is counted of outputs while they are written.
-use Rattle.std.proofs.Common.{◌≡◌, ◌≢◌, ◌<◌, ◌≤◌, ◌+◌, ◌-◌, ◌^◌, ◌%◌, ◌++◌, inl, inr, ℕ, suc, true, List, [], ◌∷◌, length, get_or, set, map, slice_index, refl, ap, sym, ◌∙◌, arith, subst, eq-eqb, length-append, get_or-set_same, get_or-set_other}
+use Rattle.std.proofs.Common.{◌≡◌, ◌≢◌, ◌<◌, ◌≤◌, ◌+◌, ◌^◌, ◌%◌, ◌++◌, inl, inr, ℕ, true, List, [], ◌∷◌, length, get_or, set, map, slice_index, refl, ap, sym, ◌∙◌, arith, subst, eq-eqb, length-append, get_or-set_same, get_or-set_other}
 use Rattle.std.proofs.Math.Nat.{mod-eq_of_lt}
 use Rattle.std.proofs.Math.Seq.{get_or-append_seam}
 use Rattle.std.proofs.lemmas.Bool.{cases_eq, cases_lt, ne_eqb}
 use Rattle.std.proofs.lemmas.List.{get_or-map, get_or_append_left, length-map, length-set, map-set}
 use Rattle.std.proofs.lemmas.List.Sums.{sum_by-append}
 use Rattle.exb_model.specs.FlatBridge.{Sent}
-use Rattle.exb_model.specs.Texts.{record_text}
 use Rattle.exb_model.specs.Tree.{is_external}
 use Rattle.exb_shelf.specs.Shelf.{Id}
 use Rattle.exb_text.specs.declared.output.Output.{Output}
@@ -72,13 +71,6 @@ more_values xs x at is long before here j low = elim (cases_lt j at) [
 -- how far 64 bits count
 pub counts_more : (n m : ℕ) → n + m < 2 ^ 64 → (n + m) % 2 ^ 64 ≡ n + m
 counts_more n m fits = mod-eq_of_lt fits
-
--- a record has 16 bytes before its frame
-pub record_size : (m : ℕ) (bytes : List ℕ) → length (record_text (m, bytes)) ≡ 16 + length bytes
-record_size m bytes =
-    let n : ℕ = length bytes in
-    let e : length (record_text (m, bytes)) ≡ suc (suc (suc (suc (suc (suc (suc (suc (suc (suc (suc (suc (suc (suc (suc (suc n))))))))))))))) = refl in
-    omega (arith, e)
 
 -- an output that got bytes, and no record
 pub grows_at : (old new : Outputs) (at n : ℕ) (was now : Unfinished) → new.files.items ≡ set old.files.items at now → at < length old.files.items → was ≡ get_or old.files.items at was

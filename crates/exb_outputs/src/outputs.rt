@@ -6,21 +6,20 @@ ghost use Rattle.exb_words.specs.Kinds.{is_asked, port_of};
 ghost use Rattle.exb_outputs.specs.Manifests.{Listed, kind_at, output_count, output_name, port_at, port_count};
 ghost use Rattle.exb_outputs.specs.Order.{MakesFile, MakesInOrder};
 ghost use Rattle.exb_inputs.specs.Shelving.{CountsFaults};
-ghost use Rattle.exb_outputs.specs.Shelving.{IsOfWriting, OnlyMakes, OnlyWrites, WritesListed};
+ghost use Rattle.exb_outputs.specs.Shelving.{CountsWrites, IsOfWriting, OnlyMakes, OnlyWrites, WritesListed};
 ghost use Rattle.exb_model.specs.FlatBridge.{Sent};
-ghost use Rattle.exb_model.specs.Texts.{record_text as record_of};
 ghost use Rattle.exb_model.specs.Tree.{is_external};
 ghost use Rattle.exb_text.specs.declared.output.Output.{Output};
 ghost use Rattle.exb_text.specs.declared.output.Output.TheVariants as output;
 ghost use Rattle.exb_outputs.specs.Sent.{GrowsAt, HasSent, SameCaptures, frames_at, records_of, sent_more, size_at, sizes_of};
-ghost use Rattle.exb_outputs.specs.Writing.{ids_of, pieces_of, AreCut, CanBeRecorded, HasTexts, IsReady, first_text, with_more};
+ghost use Rattle.exb_outputs.specs.Writing.{ids_of, pieces_of, AreCut, HasTexts, IsReady, first_text, with_more};
 
 use crate::manifest::Manifest;
-use exb_capture::{header_text, record_text};
+use exb_capture::header_text;
 use exb_inputs::Fault;
 use exb_model::memory::NoMemory;
 use exb_model::port::PortId;
-use exb_shelf::{PIECE, Shelf, write_text};
+use exb_shelf::{PIECE, Shelf, ShelfFault, write_text};
 use exb_text::laws::file_names_differ;
 use exb_text::{Output, file_name};
 use std::alloc::Global;
@@ -137,7 +136,7 @@ pub fn create_all<S: Shelf>(
 /// Writes what is not written yet of one output.
 #[cold]
 #[inline(never)]
-fn flush<S: Shelf>(shelf: &mut S, file: &mut Unfinished) -> Result<(), Fault>
+fn flush<S: Shelf>(shelf: &mut S, file: &mut Unfinished) -> Result<(), ShelfFault>
     requires { IsWriting (S.ids shelf.old file.old.id) }
     ensures written { S.tells → OnOk result (Adds (S.file shelf.old) (S.file shelf.new) (S.ids shelf.old file.old.id).name file.old.piece.items) }
     ensures front { S.tells → OnErr result (AddsFront (S.file shelf.old) (S.file shelf.new) (S.ids shelf.old file.old.id).name file.old.piece.items) }
@@ -147,8 +146,7 @@ fn flush<S: Shelf>(shelf: &mut S, file: &mut Unfinished) -> Result<(), Fault>
     ensures counted { OnOk result (file.old.written + length file.old.piece.items < 2 ^ 64 → file.new.written ≡ file.old.written + length file.old.piece.items) }
     ensures others { S.tells → (m : List ℕ) → m ≢ (S.ids shelf.old file.old.id).name → S.file shelf.new m ≡ S.file shelf.old m }
     ensures kept { (j : ℕ) → S.ids shelf.new j ≡ S.ids shelf.old j }
-    ensures causes { IfErr result IsOfWriting }
-    ensures faults { CountsFaults result (S.faults shelf.old) (S.faults shelf.new) }
+    ensures faults { CountsWrites result (S.faults shelf.old) (S.faults shelf.new) }
 {
     write_text(shelf, file.id, file.piece.as_slice())?;
     file.written = file.written.wrapping_add(file.piece.len() as u64);
@@ -158,7 +156,7 @@ fn flush<S: Shelf>(shelf: &mut S, file: &mut Unfinished) -> Result<(), Fault>
 
 /// Puts bytes behind a piece, and writes the piece where it is full.
 #[inline(always)]
-fn add<S: Shelf>(shelf: &mut S, file: &mut Unfinished, bytes: &[u8]) -> Result<(), Fault>
+fn add<S: Shelf>(shelf: &mut S, file: &mut Unfinished, bytes: &[u8]) -> Result<(), ShelfFault>
     requires { IsWriting (S.ids shelf.old file.old.id) }
     ensures kept_or_written { S.tells → OnOk result (
         (SameFiles (S.file shelf.old) (S.file shelf.new) × (file.new.piece.items ≡ file.old.piece.items ++ bytes.now))
@@ -170,11 +168,10 @@ fn add<S: Shelf>(shelf: &mut S, file: &mut Unfinished, bytes: &[u8]) -> Result<(
         → file.new.written + length file.new.piece.items ≡ file.old.written + length file.old.piece.items + length bytes.now) }
     ensures others { S.tells → (m : List ℕ) → m ≢ (S.ids shelf.old file.old.id).name → S.file shelf.new m ≡ S.file shelf.old m }
     ensures kept { (j : ℕ) → S.ids shelf.new j ≡ S.ids shelf.old j }
-    ensures causes { IfErr result IsOfWriting }
-    ensures faults { CountsFaults result (S.faults shelf.old) (S.faults shelf.new) }
+    ensures faults { CountsWrites result (S.faults shelf.old) (S.faults shelf.new) }
 {
     if file.piece.extend_from_slice(bytes).is_err() {
-        return Err(Fault::Memory);
+        return Err(ShelfFault::Memory);
     }
     if file.piece.len() < PIECE {
         return Ok(());
@@ -189,7 +186,7 @@ fn add_record<S: Shelf>(
     file: &mut Unfinished,
     head: &[u8; 16],
     bytes: &[u8],
-) -> Result<(), Fault>
+) -> Result<(), ShelfFault>
     requires { IsWriting (S.ids shelf.old file.old.id) }
     ensures kept_or_written { S.tells → OnOk result (
         (SameFiles (S.file shelf.old) (S.file shelf.new) × (file.new.piece.items ≡ file.old.piece.items ++ (head.now ++ bytes.now)))
@@ -201,42 +198,15 @@ fn add_record<S: Shelf>(
         → file.new.written + length file.new.piece.items ≡ file.old.written + length file.old.piece.items + length (head.now ++ bytes.now)) }
     ensures others { S.tells → (m : List ℕ) → m ≢ (S.ids shelf.old file.old.id).name → S.file shelf.new m ≡ S.file shelf.old m }
     ensures kept { (j : ℕ) → S.ids shelf.new j ≡ S.ids shelf.old j }
-    ensures causes { IfErr result IsOfWriting }
-    ensures faults { CountsFaults result (S.faults shelf.old) (S.faults shelf.new) }
+    ensures faults { CountsWrites result (S.faults shelf.old) (S.faults shelf.new) }
 {
     if file.piece.extend_from_slice(head).is_err() {
-        return Err(Fault::Memory);
+        return Err(ShelfFault::Memory);
     }
     add(shelf, file, bytes)
 }
 
 impl Outputs {
-    /// Puts a frame that left a port behind the port's capture, with the moment of its record in nanoseconds.
-    #[inline(always)]
-    pub fn write_frame<S: Shelf>(
-        &mut self,
-        shelf: &mut S,
-        manifest: &Manifest,
-        port: PortId,
-        moment: u64,
-        bytes: &[u8],
-    ) -> Result<(), Fault>
-        requires ready { IsReady manifest.now (S.ids shelf.old) self.old }
-        requires frame { CanBeRecorded manifest.now port moment bytes.now }
-        ensures ready { IsReady manifest.now (S.ids shelf.new) self.new }
-        ensures texts { S.tells → OnOk result ((orig : Files) (text : Output → List ℕ) → HasTexts manifest.now (pieces_of self.old) orig (S.file shelf.old) text
-            → HasTexts manifest.now (pieces_of self.new) orig (S.file shelf.new) (with_more text (output.Capture port) (record_of (moment, bytes.now)))) }
-        ensures cut { S.tells → OnErr result ((orig : Files) (text : Output → List ℕ) → HasTexts manifest.now (pieces_of self.old) orig (S.file shelf.old) text
-            → AreCut manifest.now orig (S.file shelf.new) (with_more text (output.Capture port) (record_of (moment, bytes.now)))) }
-        ensures sent { OnOk result ((sent : ℕ → List Sent) → HasSent manifest.now self.old sent → HasSent manifest.now self.new (sent_more sent port (moment, bytes.now))) }
-        ensures only { OnlyWrites S.tells manifest.now (S.file shelf.old) (S.file shelf.new) (S.ids shelf.old) (S.ids shelf.new) }
-        ensures causes { IfErr result IsOfWriting }
-        ensures faults { CountsFaults result (S.faults shelf.old) (S.faults shelf.new) }
-    {
-        let head = record_text(moment, bytes.len() as u32);
-        self.write_record(shelf, manifest, port, &head, bytes)
-    }
-
     /// Puts a record behind the capture of a port: what stands before the bytes of its frame, and these.
     #[inline(always)]
     pub fn write_record<S: Shelf>(
@@ -246,7 +216,7 @@ impl Outputs {
         port: PortId,
         head: &[u8; 16],
         bytes: &[u8],
-    ) -> Result<(), Fault>
+    ) -> Result<(), ShelfFault>
         requires ready { IsReady manifest.now (S.ids shelf.old) self.old }
         requires external { is_external manifest.now.tree port ≡ true }
         requires low { port < 4160 }
@@ -257,8 +227,7 @@ impl Outputs {
             → AreCut manifest.now orig (S.file shelf.new) (with_more text (output.Capture port) (head.now ++ bytes.now))) }
         ensures sent { OnOk result ((moment : ℕ) (sent : ℕ → List Sent) → HasSent manifest.now self.old sent → HasSent manifest.now self.new (sent_more sent port (moment, bytes.now))) }
         ensures only { OnlyWrites S.tells manifest.now (S.file shelf.old) (S.file shelf.new) (S.ids shelf.old) (S.ids shelf.new) }
-        ensures causes { IfErr result IsOfWriting }
-        ensures faults { CountsFaults result (S.faults shelf.old) (S.faults shelf.new) }
+        ensures faults { CountsWrites result (S.faults shelf.old) (S.faults shelf.new) }
     {
         output_names_differ();
         let at = manifest.place(port) as usize;
@@ -268,15 +237,14 @@ impl Outputs {
     }
 
     /// Writes all that is not written yet.
-    pub fn finish<S: Shelf>(&mut self, shelf: &mut S, manifest: &Manifest) -> Result<(), Fault>
+    pub fn finish<S: Shelf>(&mut self, shelf: &mut S, manifest: &Manifest) -> Result<(), ShelfFault>
         requires ready { IsReady manifest.now (S.ids shelf.old) self.old }
         ensures texts { S.tells → OnOk result ((orig : Files) (text : Output → List ℕ) → HasTexts manifest.now (pieces_of self.old) orig (S.file shelf.old) text
             → Filled orig (S.file shelf.new) (output_count manifest.now) (output_name manifest.now) (λ j bytes. bytes ≡ text (kind_at manifest.now j))) }
         ensures cut { S.tells → OnErr result ((orig : Files) (text : Output → List ℕ) → HasTexts manifest.now (pieces_of self.old) orig (S.file shelf.old) text
             → AreCut manifest.now orig (S.file shelf.new) text) }
         ensures only { OnlyWrites S.tells manifest.now (S.file shelf.old) (S.file shelf.new) (S.ids shelf.old) (S.ids shelf.new) }
-        ensures causes { IfErr result IsOfWriting }
-        ensures faults { CountsFaults result (S.faults shelf.old) (S.faults shelf.new) }
+        ensures faults { CountsWrites result (S.faults shelf.old) (S.faults shelf.new) }
     {
         output_names_differ();
         for at in 0..self.files.len() {
@@ -293,7 +261,7 @@ impl Outputs {
         manifest: &Manifest,
         kind: Output,
         bytes: &[u8],
-    ) -> Result<(), Fault>
+    ) -> Result<(), ShelfFault>
         requires asked { is_asked manifest.now.options kind ≡ true }
         requires behind { port_of kind ≡ None }
         requires ready { IsReady manifest.now (S.ids shelf.old) self.old }
@@ -304,8 +272,7 @@ impl Outputs {
             → AreCut manifest.now orig (S.file shelf.new) (with_more text kind bytes.now)) }
         ensures same { OnOk result (SameCaptures manifest.now self.old self.new) }
         ensures only { OnlyWrites S.tells manifest.now (S.file shelf.old) (S.file shelf.new) (S.ids shelf.old) (S.ids shelf.new) }
-        ensures causes { IfErr result IsOfWriting }
-        ensures faults { CountsFaults result (S.faults shelf.old) (S.faults shelf.new) }
+        ensures faults { CountsWrites result (S.faults shelf.old) (S.faults shelf.new) }
     {
         let at = manifest.place_behind(kind);
         self.add_to(shelf, manifest, at, bytes)
@@ -341,7 +308,7 @@ impl Outputs {
         manifest: &Manifest,
         at: u16,
         bytes: &[u8],
-    ) -> Result<(), Fault>
+    ) -> Result<(), ShelfFault>
         requires ready { IsReady manifest.now (S.ids shelf.old) self.old }
         requires within { at < output_count manifest.now }
         ensures ready { IsReady manifest.now (S.ids shelf.new) self.new }
@@ -351,8 +318,7 @@ impl Outputs {
             → AreCut manifest.now orig (S.file shelf.new) (with_more text (kind_at manifest.now at) bytes.now)) }
         ensures grows { OnOk result (GrowsAt at (length bytes.now) self.old self.new) }
         ensures only { OnlyWrites S.tells manifest.now (S.file shelf.old) (S.file shelf.new) (S.ids shelf.old) (S.ids shelf.new) }
-        ensures causes { IfErr result IsOfWriting }
-        ensures faults { CountsFaults result (S.faults shelf.old) (S.faults shelf.new) }
+        ensures faults { CountsWrites result (S.faults shelf.old) (S.faults shelf.new) }
     {
         output_names_differ();
         let at = at as usize;

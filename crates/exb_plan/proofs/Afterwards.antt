@@ -7,21 +7,21 @@ use Rattle.exb_model.specs.Setup.{Limits}
 use Rattle.exb_model.specs.Configuration.{Bridge, after}
 use Rattle.exb_model.specs.Refusals.{is_empty_set}
 use Rattle.exb_numbers.specs.Spaces.{Spaces, has_space, groups_at}
-use Rattle.exb_changing.specs.declared.plans.set_at.SetAt.{SetAt}
-use Rattle.exb_changing.specs.Planning.Sets.{PortsAt, seen}
-use Rattle.exb_changing.specs.Planning.Held.{Held, HoldsNeeded, group_in, group_used}
+use Rattle.exb_changing.specs.declared.planning.set_at.SetAt.{SetAt}
+use Rattle.exb_changing.specs.Plans.Sets.{PortsAt, seen}
+use Rattle.exb_changing.specs.Plans.Held.{Held, HoldsNeeded, group_in, group_used}
 use Rattle.exb_plan.specs.Spaces.{HasSpaces, held_by}
-use Rattle.exb_changing.specs.Planning.Between.{fresh_sets, refusal_between}
+use Rattle.exb_changing.specs.Plans.Between.{fresh_sets, refusal_between}
 use Rattle.exb_plan.specs.Working.{IsPlaced, IsAlike, claimed_by}
-use Rattle.exb_changing.specs.Planning.Making.{AreFresh, has_group}
-use Rattle.exb_changing.proofs.Planning.Each.{each_filter, each_map}
-use Rattle.exb_changing.proofs.Planning.SetFacts.{IsBelow}
-use Rattle.exb_changing.proofs.Planning.Claiming.{AreLow}
-use Rattle.exb_changing.proofs.Planning.Fresh.{fresh_can, fresh_low}
-use Rattle.exb_changing.proofs.Planning.Owning.{IsGroupOf, group_found}
+use Rattle.exb_changing.specs.Plans.Making.{AreFresh, has_group}
+use Rattle.exb_changing.proofs.Plans.Each.{each_filter, each_map}
+use Rattle.exb_changing.proofs.Plans.SetFacts.{IsBelow}
+use Rattle.exb_changing.proofs.Plans.Claiming.{AreLow}
+use Rattle.exb_changing.proofs.Plans.Fresh.{fresh_can, fresh_low}
+use Rattle.exb_changing.proofs.Plans.Owning.{IsGroupOf, group_found}
 use Rattle.exb_plan.proofs.WholePlans.{spaces_of, alike_has}
-use Rattle.exb_changing.proofs.Planning.NotShort.{none_short}
-use Rattle.exb_changing.specs.Planning.Touched.{parts_after}
+use Rattle.exb_changing.proofs.Plans.NotShort.{none_short}
+use Rattle.exb_changing.specs.Plans.Touched.{parts_after}
 use Rattle.exb_plan.specs.Parts.{has_ports}
 use Rattle.exb_plan.specs.Counted.{count_at, uses_at, IsCounted}
 use Rattle.exb_plan.specs.Recount.{AreOwn, HavePlaces, HaveRowsOf, AreRaised, AreUnused}

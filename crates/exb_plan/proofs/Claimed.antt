@@ -9,20 +9,20 @@ use Rattle.exb_model.specs.Setup.{Limits}
 use Rattle.exb_model.specs.Configuration.{Bridge, after}
 use Rattle.exb_model.specs.Refusals.{is_empty_set}
 use Rattle.exb_model.specs.Numbering.{lowest_free}
-use Rattle.exb_changing.specs.Planning.Sets.{PortsAt, is_same_set, sets_of}
-use Rattle.exb_changing.specs.Planning.Held.{Held, Group, HoldsNeeded, group_in, group_used, group_for, or_zero, give, give_all, numbered}
-use Rattle.exb_changing.specs.Planning.Between.{has_set}
-use Rattle.exb_changing.specs.Planning.Making.{AreFresh, has_group}
+use Rattle.exb_changing.specs.Plans.Sets.{PortsAt, is_same_set, sets_of}
+use Rattle.exb_changing.specs.Plans.Held.{Held, Group, HoldsNeeded, group_in, group_used, group_for, or_zero, give, give_all, numbered}
+use Rattle.exb_changing.specs.Plans.Between.{has_set}
+use Rattle.exb_changing.specs.Plans.Making.{AreFresh, has_group}
 use Rattle.exb_plan.specs.Working.{with_up_by, claimed_by}
-use Rattle.exb_changing.specs.Planning.Plans.{with_channel}
-use Rattle.exb_changing.proofs.Planning.Ranges.{IsFound, found}
-use Rattle.exb_changing.proofs.Planning.Claiming.{AreLow, set_is, free_set, given_else}
-use Rattle.exb_changing.proofs.Planning.Owning.{Owns, IsGroupOf, group_found, owns_from, owns_one, owns_all}
-use Rattle.exb_changing.proofs.Planning.NotShort.{fresh_with}
-use Rattle.exb_changing.proofs.Planning.SetFacts.{has_at}
-use Rattle.exb_changing.specs.Planning.Touched.{uses_in, uses_of, parts_after}
-use Rattle.exb_changing.proofs.Planning.Tests.{count-cons}
-use Rattle.exb_changing.proofs.Planning.Uses.{uses_change, sets_are_used}
+use Rattle.exb_changing.specs.Plans.Plans.{with_channel}
+use Rattle.exb_changing.proofs.Plans.Ranges.{IsFound, found}
+use Rattle.exb_changing.proofs.Plans.Claiming.{AreLow, set_is, free_set, given_else}
+use Rattle.exb_changing.proofs.Plans.Owning.{Owns, IsGroupOf, group_found, owns_from, owns_one, owns_all}
+use Rattle.exb_changing.proofs.Plans.NotShort.{fresh_with}
+use Rattle.exb_changing.proofs.Plans.SetFacts.{has_at}
+use Rattle.exb_changing.specs.Plans.Touched.{uses_in, uses_of, parts_after}
+use Rattle.exb_changing.proofs.Plans.Tests.{count-cons}
+use Rattle.exb_changing.proofs.Plans.Uses.{uses_change, sets_are_used}
 use Rattle.exb_plan.specs.Parts.{has_ports}
 use Rattle.exb_plan.specs.Counted.{count_at, uses_at}
 use Rattle.exb_plan.specs.Recount.{parts_at}

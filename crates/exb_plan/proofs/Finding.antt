@@ -6,10 +6,10 @@ use Rattle.exb_model.specs.Ports.{below}
 use Rattle.exb_model.specs.Tree.{Shape, is_cascade}
 use Rattle.exb_model.specs.Setup.{Limits}
 use Rattle.exb_model.specs.Configuration.{Bridge}
-use Rattle.exb_changing.specs.Planning.Sets.{PortsAt}
-use Rattle.exb_changing.specs.Planning.Between.{rises, goes_up}
-use Rattle.exb_changing.specs.Planning.Making.{needed_at, short_at, is_short, short_of, short_by}
-use Rattle.exb_changing.proofs.Planning.Ranges.{find_first, find_none}
+use Rattle.exb_changing.specs.Plans.Sets.{PortsAt}
+use Rattle.exb_changing.specs.Plans.Between.{rises, goes_up}
+use Rattle.exb_changing.specs.Plans.Making.{needed_at, short_at, is_short, short_of, short_by}
+use Rattle.exb_changing.proofs.Plans.Ranges.{find_first, find_none}
 
 pub goes_up_found : (t : Shape) (old new : Bridge) (n : ℕ) → n < 4160 → ((k : ℕ) → k < n → rises t old new k ≡ false) → rises t old new n ≡ true → Some n ≡ goes_up t old new
 unfolding goes_up below

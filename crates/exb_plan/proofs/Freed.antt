@@ -4,11 +4,11 @@ use Rattle.std.proofs.lemmas.Bool.{cases_lt, and_parts, and_from, lt-ltb, false�
 use Rattle.exb_model.specs.Tree.{Shape}
 use Rattle.exb_model.specs.Configuration.{Bridge}
 use Rattle.exb_model.specs.Refusals.{is_empty_set}
-use Rattle.exb_changing.specs.Planning.Sets.{PortsAt, sets_of}
-use Rattle.exb_changing.specs.Planning.Held.{Held, group_used, free_where}
-use Rattle.exb_changing.specs.Planning.Between.{has_set, is_gone}
-use Rattle.exb_changing.specs.Planning.Touched.{uses_of}
-use Rattle.exb_changing.proofs.Planning.Uses.{sets_are_used}
+use Rattle.exb_changing.specs.Plans.Sets.{PortsAt, sets_of}
+use Rattle.exb_changing.specs.Plans.Held.{Held, group_used, free_where}
+use Rattle.exb_changing.specs.Plans.Between.{has_set, is_gone}
+use Rattle.exb_changing.specs.Plans.Touched.{uses_of}
+use Rattle.exb_changing.proofs.Plans.Uses.{sets_are_used}
 use Rattle.exb_plan.specs.Counted.{uses_at, IsCounted}
 
 not_false : (b : Bool) → not b ≡ true → b ≡ true → ⊥

@@ -3,7 +3,7 @@ use Rattle.std.proofs.Common.{◌≡◌, ℕ, ◌+◌, ◌-◌, ◌≤◌, ◌==
 use Rattle.std.proofs.lemmas.Bool.{and_parts, eqb-true}
 use mathlib.Core.Path.{fun_ext}
 use Rattle.exb_model.specs.Refusals.{is_empty_set}
-use Rattle.exb_changing.specs.Planning.Held.{Held, Group, group_used, give, take_back, give_all}
+use Rattle.exb_changing.specs.Plans.Held.{Held, Group, group_used, give, take_back, give_all}
 use Rattle.exb_numbers.specs.Spaces.{Spaces, has_space}
 use Rattle.exb_plan.specs.Working.{IsGiven, AreGiven, IsLaterBy}
 

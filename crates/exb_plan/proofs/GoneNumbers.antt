@@ -1,8 +1,8 @@
 -- The groups of a bridge port that go, from their numbers in rising order.
 use Rattle.std.proofs.Common.{◌≡◌, ℕ, ◌<◌, ◌≤◌, true, List, map, ap}
-use Rattle.exb_changing.specs.Planning.Sets.{PortsAt}
-use Rattle.exb_changing.specs.Planning.Held.{Held}
-use Rattle.exb_changing.specs.Planning.Between.{group_at, is_gone, gone_at}
+use Rattle.exb_changing.specs.Plans.Sets.{PortsAt}
+use Rattle.exb_changing.specs.Plans.Held.{Held}
+use Rattle.exb_changing.specs.Plans.Between.{group_at, is_gone, gone_at}
 use Rattle.exb_plan.specs.Rising.{is_among, IsRising}
 use Rattle.exb_plan.proofs.InOrder.{rising_are}
 

@@ -3,9 +3,9 @@ use Rattle.std.proofs.Common.{◌≡◌, ℕ, zero, suc, ◌+◌, ◌-◌, ◌<�
 use Rattle.std.specs.Prelude.{nat_lt}
 use Rattle.std.proofs.lemmas.Bool.{lt-ltb, and_parts, and_from, eqb-true, false≢true, false_from_ne_true}
 use Rattle.exb_numbers.specs.Spaces.{Spaces, has_space}
-use Rattle.exb_changing.specs.Planning.Sets.{PortsAt}
+use Rattle.exb_changing.specs.Plans.Sets.{PortsAt}
 use Rattle.exb_plan.specs.Spaces.{held_by}
-use Rattle.exb_changing.specs.Planning.Held.{Held, group_in}
+use Rattle.exb_changing.specs.Plans.Held.{Held, group_in}
 use Rattle.exb_plan.specs.Working.{IsPlaced}
 use Rattle.exb_plan.specs.Counted.{count_at}
 use Rattle.exb_plan.specs.Recount.{parts_at, AreOwn}

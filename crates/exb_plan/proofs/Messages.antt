@@ -6,11 +6,11 @@ use Rattle.std.proofs.lemmas.List.{append-nil, append_assoc}
 use Rattle.exb_csp.specs.declared.group_rows.GroupRow.{GroupRow}
 use Rattle.exb_csp.specs.declared.message.Request.TheVariants.{RegisterMany, UnregisterMany}
 use Rattle.exb_model.specs.Tree.{Shape, device}
-use Rattle.exb_changing.specs.declared.plans.row.Row.{Row}
-use Rattle.exb_changing.specs.Planning.Rows.{rows_of}
+use Rattle.exb_changing.specs.declared.planning.row.Row.{Row}
+use Rattle.exb_changing.specs.Plans.Rows.{rows_of}
 use Rattle.exb_csp.specs.declared.ask_at.AskAt.{AskAt}
-use Rattle.exb_changing.specs.declared.plans.step.Step.{Step}
-use Rattle.exb_changing.specs.Planning.Asks.{ask, register, unregister, numbers_of, message, pieces, in_messages, asks_with, channel_rows, channel_ask, channel_asks, put_above}
+use Rattle.exb_changing.specs.declared.planning.step.Step.{Step}
+use Rattle.exb_changing.specs.Plans.Asks.{ask, register, unregister, numbers_of, message, pieces, in_messages, asks_with, channel_rows, channel_ask, channel_asks, put_above}
 use Rattle.exb_plan.proofs.Pieces.{cut_message}
 
 pub register_many : (rows : List GroupRow) → length rows ≢ 1 → register rows ≡ RegisterMany rows

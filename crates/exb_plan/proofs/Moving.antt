@@ -10,17 +10,17 @@ use Rattle.exb_model.specs.Setup.{Limits}
 use Rattle.exb_model.specs.Configuration.{Bridge, after}
 use Rattle.exb_model.specs.Refusals.{is_empty_set, sets_at}
 use Rattle.exb_numbers.specs.Spaces.{Spaces, has_space}
-use Rattle.exb_changing.specs.Planning.Sets.{PortsAt, sets_of}
-use Rattle.exb_changing.specs.Planning.Held.{Held, HoldsNeeded, group_used}
+use Rattle.exb_changing.specs.Plans.Sets.{PortsAt, sets_of}
+use Rattle.exb_changing.specs.Plans.Held.{Held, HoldsNeeded, group_used}
 use Rattle.exb_plan.specs.Spaces.{HasSpaces, held_by}
-use Rattle.exb_changing.specs.Planning.Between.{has_set}
-use Rattle.exb_changing.specs.Planning.Making.{how_many, is_at}
-use Rattle.exb_changing.proofs.Planning.SetFacts.{has_at}
-use Rattle.exb_changing.proofs.Planning.Owning.{IsGroupOf, group_found}
-use Rattle.exb_changing.specs.Planning.Touched.{uses_in, uses_of, parts_before, parts_after}
-use Rattle.exb_changing.proofs.Planning.Uses.{uses_change, sets_are_used}
-use Rattle.exb_changing.proofs.Planning.Going.{gone_are_touched}
-use Rattle.exb_changing.proofs.Planning.InUse.{used_are_sets}
+use Rattle.exb_changing.specs.Plans.Between.{has_set}
+use Rattle.exb_changing.specs.Plans.Making.{how_many, is_at}
+use Rattle.exb_changing.proofs.Plans.SetFacts.{has_at}
+use Rattle.exb_changing.proofs.Plans.Owning.{IsGroupOf, group_found}
+use Rattle.exb_changing.specs.Plans.Touched.{uses_in, uses_of, parts_before, parts_after}
+use Rattle.exb_changing.proofs.Plans.Uses.{uses_change, sets_are_used}
+use Rattle.exb_changing.proofs.Plans.Going.{gone_are_touched}
+use Rattle.exb_changing.proofs.Plans.InUse.{used_are_sets}
 use Rattle.exb_plan.specs.Parts.{has_ports}
 use Rattle.exb_plan.specs.Counted.{count_at, used_in, used_at, uses_at, IsCounted}
 use Rattle.exb_plan.specs.Recount.{parts_at, AreOwn, HavePlaces, AreRaised, AreLowered, AreEnough}

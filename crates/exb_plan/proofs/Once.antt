@@ -13,8 +13,8 @@ use Rattle.exb_model.specs.PortBits.{has_port}
 use Rattle.exb_model.specs.Ports.{port_in}
 use Rattle.exb_model.specs.Refusals.{is_empty_set}
 use Rattle.exb_model.proofs.Words.{same_word}
-use Rattle.exb_changing.specs.declared.plans.set_at.SetAt.{SetAt}
-use Rattle.exb_changing.specs.Planning.Sets.{is_same_set, with_set_at, seen}
+use Rattle.exb_changing.specs.declared.planning.set_at.SetAt.{SetAt}
+use Rattle.exb_changing.specs.Plans.Sets.{is_same_set, with_set_at, seen}
 use Rattle.exb_plan.proofs.SetPorts.{same_sets}
 
 -- what `==` of sets below bridge ports answers

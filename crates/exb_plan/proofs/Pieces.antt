@@ -2,7 +2,7 @@
 use Rattle.std.proofs.Common.{◌≡◌, ℕ, zero, suc, ◌<◌, ◌≤◌, List, [], ◌∷◌, length, take, drop, min, inl, inr, refl, sym, ◌∙◌, ap, arith, length-drop}
 use Rattle.std.proofs.lemmas.Bool.{cases_lt}
 use Rattle.std.proofs.lemmas.List.{take_all, drop_all}
-use Rattle.exb_changing.specs.Planning.Asks.{pieces, in_messages}
+use Rattle.exb_changing.specs.Plans.Asks.{pieces, in_messages}
 
 enough : {X : Type 0} (n m : ℕ) (xs : List X) → length xs ≤ n → length xs ≤ m → pieces n xs ≡ pieces m xs
 unfolding pieces

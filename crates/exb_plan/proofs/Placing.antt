@@ -3,15 +3,15 @@ use Rattle.std.proofs.Common.{◌≡◌, ℕ, ◌-◌, true, not, List, [], ◌�
 use Rattle.exb_model.specs.Tree.{Shape, IsTree}
 use Rattle.exb_model.specs.Configuration.{Bridge}
 use Rattle.exb_numbers.specs.Spaces.{Spaces}
-use Rattle.exb_changing.specs.Planning.Sets.{PortsAt, sets_of}
-use Rattle.exb_changing.specs.Planning.Held.{Held, Group, HoldsNeeded, group_for, give, numbered}
-use Rattle.exb_changing.specs.Planning.Between.{has_set, fresh_sets}
-use Rattle.exb_changing.specs.Planning.Making.{AreFresh}
+use Rattle.exb_changing.specs.Plans.Sets.{PortsAt, sets_of}
+use Rattle.exb_changing.specs.Plans.Held.{Held, Group, HoldsNeeded, group_for, give, numbered}
+use Rattle.exb_changing.specs.Plans.Between.{has_set, fresh_sets}
+use Rattle.exb_changing.specs.Plans.Making.{AreFresh}
 use Rattle.exb_plan.specs.Working.{ArePlaced, AreGiven, SpacesOf}
-use Rattle.exb_changing.proofs.Planning.Each.{Each}
-use Rattle.exb_changing.proofs.Planning.SetFacts.{IsBelow}
-use Rattle.exb_changing.proofs.Planning.Claiming.{free_set}
-use Rattle.exb_changing.proofs.Planning.Fresh.{fresh_below}
+use Rattle.exb_changing.proofs.Plans.Each.{Each}
+use Rattle.exb_changing.proofs.Plans.SetFacts.{IsBelow}
+use Rattle.exb_changing.proofs.Plans.Claiming.{free_set}
+use Rattle.exb_changing.proofs.Plans.Fresh.{fresh_below}
 
 placed_all : (t : Shape) (old : Bridge) (v : Spaces) → SpacesOf t v → (xs : List PortsAt) → Each (λ s. IsBelow t s × (not (has_set (sets_of t old) s) ≡ true)) xs → ArePlaced v xs
 placed_all t old v spaces [] a = tt

@@ -6,17 +6,17 @@ use Rattle.std.proofs.lemmas.Bool.{and_parts, and_from, eqb-true, false≢true, 
 use Rattle.exb_model.specs.Refusals.{is_empty_set}
 use Rattle.exb_numbers.specs.Groups.{Groups, group_of}
 use Rattle.exb_numbers.specs.Spaces.{Spaces, has_space, groups_at}
-use Rattle.exb_changing.specs.declared.plans.set_at.SetAt.{SetAt}
-use Rattle.exb_changing.specs.Planning.Sets.{PortsAt, is_same_set}
-use Rattle.exb_changing.specs.Planning.Held.{Held, group_in}
+use Rattle.exb_changing.specs.declared.planning.set_at.SetAt.{SetAt}
+use Rattle.exb_changing.specs.Plans.Sets.{PortsAt, is_same_set}
+use Rattle.exb_changing.specs.Plans.Held.{Held, group_in}
 use Rattle.exb_plan.specs.Spaces.{held_by}
 use Rattle.exb_plan.specs.Working.{IsPlaced}
-use Rattle.exb_changing.proofs.Planning.SetFacts.{bytes_is, bytes_itself}
-use Rattle.exb_changing.proofs.Planning.Owning.{IsGroupOf, group_found}
+use Rattle.exb_changing.proofs.Plans.SetFacts.{bytes_is, bytes_itself}
+use Rattle.exb_changing.proofs.Plans.Owning.{IsGroupOf, group_found}
 use Rattle.exb_plan.proofs.SpaceHeld.{group_in_is}
 use Rattle.exb_plan.proofs.Lists.{image_rest}
-use Rattle.exb_changing.proofs.Planning.Tests.{count-cons, count-append}
-use Rattle.exb_changing.specs.Planning.Touched.{uses_in}
+use Rattle.exb_changing.proofs.Plans.Tests.{count-cons, count-append}
+use Rattle.exb_changing.specs.Plans.Touched.{uses_in}
 use Rattle.exb_plan.specs.Counted.{count_at}
 use Rattle.exb_plan.specs.Recount.{parts_at, AreOwn, AreRaised, AreLowered, AreEnough, AreUnused}
 

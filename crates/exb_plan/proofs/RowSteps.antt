@@ -14,17 +14,17 @@ use Rattle.exb_model.specs.TreeSets.{covers, mask_of}
 use Rattle.exb_model.proofs.MaskLemmas.{bits_of-same}
 use Rattle.exb_model.proofs.PortLemmas.{any_below-true}
 use Rattle.exb_csp.specs.declared.group_rows.GroupRow.{GroupRow}
-use Rattle.exb_changing.specs.Planning.Sets.{PortsAt}
+use Rattle.exb_changing.specs.Plans.Sets.{PortsAt}
 use Rattle.exb_plan.proofs.SetPorts.{ports_are, past_ports}
 use Rattle.exb_csp.specs.declared.ask_at.AskAt.{AskAt}
-use Rattle.exb_changing.specs.declared.plans.step.Step.{Step}
-use Rattle.exb_changing.specs.declared.plans.group_at.GroupAt.{GroupAt}
+use Rattle.exb_changing.specs.declared.planning.step.Step.{Step}
+use Rattle.exb_changing.specs.declared.planning.group_at.GroupAt.{GroupAt}
 use Rattle.exb_plan.specs.declared.group_asks.Covered.{Covered}
-use Rattle.exb_changing.specs.Planning.Held.{Held, Group}
-use Rattle.exb_changing.specs.Planning.Between.{gone_at, gone_groups}
+use Rattle.exb_changing.specs.Plans.Held.{Held, Group}
+use Rattle.exb_changing.specs.Plans.Between.{gone_at, gone_groups}
 use Rattle.exb_model.specs.Lists.{is_listed}
-use Rattle.exb_changing.specs.Planning.Asks.{row_by, row_at, rows_at, asks_with, group_asks}
-use Rattle.exb_changing.specs.Planning.Making.{seen_group}
+use Rattle.exb_changing.specs.Plans.Asks.{row_by, row_at, rows_at, asks_with, group_asks}
+use Rattle.exb_changing.specs.Plans.Making.{seen_group}
 use Rattle.exb_plan.specs.Working.{row_of_covered, rows_of_covered}
 
 -- ---- the list of a set's ports as a test

@@ -8,11 +8,11 @@ use Rattle.exb_model.specs.Tree.{Shape, IsTree, device, trunk, is_extended}
 use Rattle.exb_numbers.specs.Channels.{holder, channel_of, is_used, lowest_channel}
 use Rattle.exb_numbers.specs.Groups.{Groups, set_of, group_of}
 use Rattle.exb_numbers.specs.Spaces.{Spaces, has_space, channels_at, groups_at, no_groups, with_channels, with_groups}
-use Rattle.exb_changing.specs.Planning.Held.{Held, channel_in, group_in, or_zero, give, channel_used, give_channel, free_port_of}
+use Rattle.exb_changing.specs.Plans.Held.{Held, channel_in, group_in, or_zero, give, channel_used, give_channel, free_port_of}
 use Rattle.exb_plan.specs.Spaces.{held_by}
 use Rattle.exb_plan.specs.Working.{SpacesOf}
-use Rattle.exb_changing.proofs.Planning.Counting.{lowest_unused}
-use Rattle.exb_changing.proofs.Planning.Trunks.{home_low, home_cascade}
+use Rattle.exb_changing.proofs.Plans.Counting.{lowest_unused}
+use Rattle.exb_changing.proofs.Plans.Trunks.{home_low, home_cascade}
 
 pub group_in_is : (v : Spaces) (k : ℕ) (set : List ℕ) → group_in (held_by v) k set ≡ group_of (groups_at v k) set
 unfolding group_in group_of

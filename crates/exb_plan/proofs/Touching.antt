@@ -17,7 +17,7 @@ use Rattle.exb_model.specs.declared.address.Mac.{Mac}
 use Rattle.exb_model.specs.declared.port_set.PortSet.{PortSet}
 use Rattle.exb_model.proofs.PortLemmas.{range-more}
 use Rattle.exb_model.specs.Refusals.{Source, sources, all_vids, both_kinds}
-use Rattle.exb_changing.specs.Planning.Touched.{has_port, sources_of_entry, sources_if, touched_before, touched_after}
+use Rattle.exb_changing.specs.Plans.Touched.{has_port, sources_of_entry, sources_if, touched_before, touched_after}
 use Rattle.exb_plan.specs.TouchedSources.{sources_of_vlans, is_of, vlans_touched, entry_touched}
 
 -- ---- filters

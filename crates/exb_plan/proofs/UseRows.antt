@@ -1,13 +1,15 @@
 -- The uses of groups: how many have one, and that there is none at the start.
 use Rattle.std.proofs.Common.{◌≡◌, ℕ, zero, suc, ◌+◌, ◌-◌, ◌<◌, ◌≤◌, Bool, true, false, cond, List, [], ◌∷◌, ◌++◌, length, get_or, replicate, refl, sym, ap, ◌∙◌, inl, inr, arith, length-append}
-use Rattle.std.specs.Prelude.{nat_lt, count_by}
+use Rattle.std.specs.Prelude.{nat_lt, count_by, slice_set}
 use Rattle.std.specs.List.{range_with_len}
 use Rattle.std.proofs.lemmas.Bool.{cases_eq, cases_lt}
-use Rattle.std.proofs.lemmas.List.{get_or_past, get_or_push, get_or_append_left, length-replicate}
-use Rattle.std.proofs.lemmas.List.Sums.{sum_by-cons}
+use Rattle.std.proofs.lemmas.List.{get_or_past, get_or_push, get_or_append_left, get_or-append_right, length-replicate, length-set, set-append_left, append_assoc, replicate-append-replicate}
+use Rattle.std.proofs.lemmas.Grind.{get_or_default_zero}
+use Rattle.std.proofs.lemmas.List.Sums.{sum_by-cons, sum_by-append}
+use Rattle.std.proofs.lemmas.List.Folds.{sum_by-replicate}
 use Rattle.exb_model.proofs.Words.{get_or-same}
 use Rattle.exb_model.specs.Tree.{Shape, is_cascade}
-use Rattle.exb_plan.specs.Counted.{count_in, count_at, used_in}
+use Rattle.exb_plan.specs.Counted.{padded, count_in, count_at, used_in}
 
 -- ---- how many have a use
 abbrev one_if : (ℕ → Bool) → ℕ → ℕ
@@ -49,6 +51,55 @@ counted_places (x ∷ xs) a (suc n) few =
 pub used_count : (row : List ℕ) → length row ≤ 12288 → count_by (nat_lt 0) row ≡ used_in row
 unfolding used_in
 used_count row few = sym (counted_places row 4096 12288 few)
+
+-- ---- a row of which the last uses, which are 0, aren't kept
+pub padded_count : (n : ℕ) (row : List ℕ) → count_by (nat_lt 0) (padded n row) ≡ count_by (nat_lt 0) row
+padded_count n row =
+    let both = sum_by-append (one_if (nat_lt 0)) row (replicate (n - length row) 0) in
+    let none = sum_by-replicate (one_if (nat_lt 0)) (n - length row) 0 in
+    omega (arith, both, none)
+
+pub padded_length : (n : ℕ) (row : List ℕ) → length row ≤ n → length (padded n row) ≡ n
+padded_length n row few =
+    let both = length-append row (replicate (n - length row) 0) in
+    let last = length-replicate {A = ℕ} (n - length row) 0 in
+    omega (arith, few, both, last)
+
+pub padded_at : (n i : ℕ) (row : List ℕ) → get_or (padded n row) i 0 ≡ get_or row i 0
+padded_at n i row =
+    elim (cases_lt i (length row)) [
+      | inl l ↦ get_or_append_left row (replicate (n - length row) 0) 0 i l
+      | inr l ↦ get_or-append_right row (replicate (n - length row) 0) (length row) i 0 refl l ∙ get_or-same (n - length row) (i - length row) 0 ∙ sym (get_or_past row i 0 l)
+    ]
+
+-- more of them are kept
+pub padded_reached : (n m : ℕ) (row : List ℕ) → m ≤ n → padded n (row ++ replicate (m - length row) 0) ≡ padded n row
+padded_reached n m row few =
+    let kept = replicate (m - length row) 0 in
+    let both = length-append row kept in
+    let more = length-replicate {A = ℕ} (m - length row) 0 in
+    let left : (m - length row) + (n - length (row ++ kept)) ≡ n - length row = omega (arith, few, both, more) in
+    append_assoc row kept (replicate (n - length (row ++ kept)) 0)
+    ∙ ap (λ (ys : List ℕ). row ++ ys) (replicate-append-replicate (m - length row) (n - length (row ++ kept)) 0 ∙ ap (λ (k : ℕ). replicate k 0) left)
+
+pub padded_set : (n i x : ℕ) (row : List ℕ) → i < length row → slice_set (padded n row) i x ≡ padded n (slice_set row i x)
+padded_set n i x row low =
+    set-append_left row (replicate (n - length row) 0) i x low
+    ∙ ap (λ (k : ℕ). slice_set row i x ++ replicate (n - k) 0) (sym (length-set row i x))
+
+-- a use more at a place that is made first
+pub padded_raised : (n i x : ℕ) (row kept : List ℕ) → i < n → kept ≡ row ++ replicate (i + 1 - length row) 0 → x ≡ get_or kept i x →
+    padded n (slice_set kept i (x + 1)) ≡ slice_set (padded n row) i (get_or (padded n row) i 0 + 1)
+padded_raised n i x row kept few is here =
+    let zeros : List ℕ = replicate (i + 1 - length row) 0 in
+    let both = length-append row zeros in
+    let more = length-replicate {A = ℕ} (i + 1 - length row) 0 in
+    let sized : length kept ≡ length (row ++ zeros) = ap length is in
+    let low : i < length kept = omega (arith, both, more, sized) in
+    let same : padded n kept ≡ padded n row = ap (padded n) is ∙ padded_reached n (i + 1) row (omega (arith, few)) in
+    let was : x ≡ get_or (padded n row) i 0 =
+    here ∙ get_or_default_zero kept i x low ∙ sym (padded_at n i kept) ∙ ap (λ (ys : List ℕ). get_or ys i 0) same in
+    sym (padded_set n i (x + 1) kept low) ∙ ap (λ (ys : List ℕ). slice_set ys i (x + 1)) same ∙ ap (λ (y : ℕ). slice_set (padded n row) i (y + 1)) was
 
 pub used_none : used_in [] ≡ 0
 used_none = sym (used_count [] (omega arith))

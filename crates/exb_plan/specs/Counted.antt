@@ -1,11 +1,15 @@
 -- How often each group's set is a part of a configuration.
-use Rattle.std.specs.Prelude.{◌≡◌, ℕ, ◌+◌, ◌-◌, ◌<◌, ◌≤◌, true, List, [], slice_index, slice_index_or, if◌then◌else◌, nat_lt, count_by}
+use Rattle.std.specs.Prelude.{◌≡◌, ℕ, ◌+◌, ◌-◌, ◌<◌, ◌≤◌, ◌++◌, true, List, [], length, replicate, slice_index, slice_index_or, if◌then◌else◌, nat_lt, count_by}
 use Rattle.std.specs.List.{range_with_len}
 use Rattle.exb_model.specs.Tree.{Shape, is_cascade}
 use Rattle.exb_model.specs.Configuration.{Bridge}
 use Rattle.exb_model.specs.Refusals.{is_empty_set}
-use Rattle.exb_changing.specs.Planning.Held.{Held}
-use Rattle.exb_changing.specs.Planning.Touched.{uses_of}
+use Rattle.exb_changing.specs.Plans.Held.{Held}
+use Rattle.exb_changing.specs.Plans.Touched.{uses_of}
+
+-- so many uses, of which those past a row are 0
+abbrev pub padded : ℕ → List ℕ → List ℕ
+padded n row = row ++ replicate (n - length row) 0
 
 -- the uses of group g among those of one bridge port
 abbrev pub count_in : List ℕ → ℕ → ℕ

@@ -1,8 +1,8 @@
 -- Groups that lose their last use.
 use Rattle.std.specs.Prelude.{◌≡◌, ℕ, ◌<◌, ◌≤◌, ◌==◌, ◌&&◌, Bool, true, List, nat_lt}
-use Rattle.exb_changing.specs.Planning.Held.{Held, group_used}
-use Rattle.exb_changing.specs.Planning.Between.{is_gone}
-use Rattle.exb_changing.specs.Planning.Sets.{PortsAt}
+use Rattle.exb_changing.specs.Plans.Held.{Held, group_used}
+use Rattle.exb_changing.specs.Plans.Between.{is_gone}
+use Rattle.exb_changing.specs.Plans.Sets.{PortsAt}
 use Rattle.exb_plan.specs.Counted.{count_at}
 use Rattle.exb_plan.specs.Rising.{is_among}
 use Rattle.exb_plan.specs.Recount.{parts_at}

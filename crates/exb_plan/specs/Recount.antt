@@ -2,10 +2,10 @@
 use Rattle.std.specs.Prelude.{◌≡◌, ℕ, ◌+◌, ◌-◌, ◌<◌, ◌≤◌, true, List, [], Some, length, slice_index_or, if◌then◌else◌}
 use Rattle.exb_model.specs.Refusals.{is_empty_set}
 use Rattle.exb_numbers.specs.Spaces.{Spaces, has_space}
-use Rattle.exb_changing.specs.Planning.Sets.{PortsAt}
-use Rattle.exb_changing.specs.Planning.Held.{Held, group_in, group_used}
+use Rattle.exb_changing.specs.Plans.Sets.{PortsAt}
+use Rattle.exb_changing.specs.Plans.Held.{Held, group_in, group_used}
 use Rattle.exb_plan.specs.Spaces.{held_by}
-use Rattle.exb_changing.specs.Planning.Touched.{uses_in}
+use Rattle.exb_changing.specs.Plans.Touched.{uses_in}
 use Rattle.exb_plan.specs.Counted.{count_at}
 
 -- how often the set of group g at bridge port k, from 0, stands among parts; that of a free group doesn't

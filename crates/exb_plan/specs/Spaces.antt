@@ -5,7 +5,7 @@ use Rattle.exb_model.specs.Setup.{Limits}
 use Rattle.exb_numbers.specs.Channels.{holder}
 use Rattle.exb_numbers.specs.Groups.{set_of}
 use Rattle.exb_numbers.specs.Spaces.{Spaces, has_space, channels_at, groups_at}
-use Rattle.exb_changing.specs.Planning.Held.{Held}
+use Rattle.exb_changing.specs.Plans.Held.{Held}
 
 -- the port of each channel, and the set of each group
 abbrev pub held_by : Spaces → Held

@@ -8,16 +8,16 @@ use Rattle.exb_model.specs.Refusals.{is_empty_set}
 use Rattle.exb_csp.specs.declared.group_rows.GroupRow.{GroupRow}
 use Rattle.exb_model.specs.Numbering.{lowest_free}
 use Rattle.exb_numbers.specs.Spaces.{Spaces, has_space, channels_at, groups_at}
-use Rattle.exb_changing.specs.Planning.Sets.{PortsAt}
+use Rattle.exb_changing.specs.Plans.Sets.{PortsAt}
 use Rattle.exb_plan.specs.declared.group_asks.Covered.{Covered}
-use Rattle.exb_changing.specs.Planning.Held.{Held, Group, channel_in, channel_used, numbered, give, give_all}
+use Rattle.exb_changing.specs.Plans.Held.{Held, Group, channel_in, channel_used, numbered, give, give_all}
 use Rattle.exb_plan.specs.Spaces.{held_by}
-use Rattle.exb_changing.specs.Planning.Between.{gone_groups}
+use Rattle.exb_changing.specs.Plans.Between.{gone_groups}
 use Rattle.exb_csp.specs.declared.ask_at.AskAt.{AskAt}
-use Rattle.exb_changing.specs.declared.plans.change.Change.{Change}
-use Rattle.exb_changing.specs.Planning.Plans.{new_channel, own_channel, with_channel, freed_channel, number_of, prepare_with, cleanup_with}
-use Rattle.exb_changing.specs.Planning.Asks.{row_by}
-use Rattle.exb_changing.specs.Planning.Making.{AreFresh}
+use Rattle.exb_changing.specs.declared.planning.change.Change.{Change}
+use Rattle.exb_changing.specs.Plans.Plans.{new_channel, own_channel, with_channel, freed_channel, number_of, prepare_with, cleanup_with}
+use Rattle.exb_changing.specs.Plans.Asks.{row_by}
+use Rattle.exb_changing.specs.Plans.Making.{AreFresh}
 
 -- ---- groups
 -- the set is below a bridge port that has a space

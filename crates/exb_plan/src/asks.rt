@@ -1,7 +1,7 @@
 //! What is asked of extenders, in messages.
-ghost use Rattle.std.specs.Prelude.{◌≡◌, ◌≤◌, ◌<◌, ◌++◌, ◌∷◌, [], length, min, OnOk};
+ghost use Rattle.std.specs.Prelude.{◌≡◌, ◌≤◌, ◌++◌, ◌∷◌, [], length, min, OnOk};
 ghost use Rattle.exb_model.specs.Tree.{device};
-ghost use Rattle.exb_changing.specs.Planning.Asks.{ask, register, unregister, numbers_of, message, asks_with, channel_asks, create_asks, delete_asks, put_above, port_number};
+ghost use Rattle.exb_changing.specs.Plans.Asks.{ask, register, unregister, numbers_of, message, asks_with, channel_asks, create_asks, delete_asks, put_above, port_number};
 
 use crate::set_rows::rows;
 use exb_changing::{Row, Step};
@@ -151,7 +151,7 @@ fn put_own(asks: &mut List<AskAt>, port: PortId, request: Request) -> Result<(),
 }
 
 /// Asks that a port gets a channel: Register at each ancestor from the bridge down, then PortCreate.
-#[tactic(auto, using(std::proofs::lemmas::List::append_assoc), unfolding(exb_changing::specs::Planning::Asks::create_asks))]
+#[tactic(auto, using(std::proofs::lemmas::List::append_assoc), unfolding(exb_changing::specs::Plans::Asks::create_asks))]
 pub fn put_create(
     alloc: Global,
     tree: &Tree,
@@ -172,7 +172,7 @@ pub fn put_create(
 }
 
 /// Asks that a port loses its channel: Unregister at each ancestor from the bridge down, then PortDelete.
-#[tactic(auto, using(std::proofs::lemmas::List::append_assoc), unfolding(exb_changing::specs::Planning::Asks::delete_asks))]
+#[tactic(auto, using(std::proofs::lemmas::List::append_assoc), unfolding(exb_changing::specs::Plans::Asks::delete_asks))]
 pub fn put_delete(
     alloc: Global,
     tree: &Tree,

@@ -1,7 +1,6 @@
 //! The branches of a tree below the bridge's ports, out of which the sets of a configuration are cut.
 ghost use Rattle.std.specs.Prelude.{◌≡◌, ◌≢◌, ◌<◌, ◌==◌, ◌&&◌, ◌/◌, ℕ, true, false, slice_index, slice_index_or};
 ghost use Rattle.exb_model.specs.Ports.{port_in};
-ghost use Rattle.exb_model.specs.Tree.{is_extender};
 ghost use Rattle.exb_plan.specs.Branches.{AreTrunks, AreBranches};
 
 use crate::view::View;

@@ -1,10 +1,10 @@
 //! The plan of a change.
 ghost use Rattle.std.specs.Prelude.{◌≡◌, map, IfOk, OnOk, OnErr};
 ghost use Rattle.exb_model.specs.Setup.{Limits};
-ghost use Rattle.exb_changing.specs.Planning.Sets.{seen};
+ghost use Rattle.exb_changing.specs.Plans.Sets.{seen};
 ghost use Rattle.exb_plan.specs.Spaces.{held_by, HasSpaces};
-ghost use Rattle.exb_changing.specs.Planning.Plans.{own_channel, new_channel, with_channel, without_channel, freed_channel, number_of, prepare_with, cleanup_with};
-ghost use Rattle.exb_changing.specs.Planning.Making.{seen_group, IsAnyExtended};
+ghost use Rattle.exb_changing.specs.Plans.Plans.{own_channel, new_channel, with_channel, without_channel, freed_channel, number_of, prepare_with, cleanup_with};
+ghost use Rattle.exb_changing.specs.Plans.Making.{seen_group, IsAnyExtended};
 ghost use Rattle.exb_plan.specs.Working.{IsAlike, CanClaim, CanClaimUp, HasUp, SpacesOf, prepare_by, claimed_by, change_with};
 
 use crate::asks::{put_create, put_delete};

@@ -1,11 +1,11 @@
 //! How numbers are claimed, and given back where a plan comes to nothing.
-ghost use Rattle.std.specs.Prelude.{◌≡◌, ℕ, ◌-◌, ◌/◌, ◌≤◌, ◌<◌, [], true, None, map, length, vec_capacity};
+ghost use Rattle.std.specs.Prelude.{◌≡◌, ℕ, ◌-◌, ◌/◌, ◌≤◌, [], true, None, map, length, vec_capacity};
 ghost use Rattle.exb_model.specs.Tree.{trunk, is_extender};
 ghost use Rattle.exb_numbers.specs.Spaces.{has_space, groups_at};
-ghost use Rattle.exb_changing.specs.Planning.Sets.{seen};
-ghost use Rattle.exb_changing.specs.Planning.Held.{Held, group_for, group_used, give, take_back, free_channel, channel_used, give_channel, free_port_of};
+ghost use Rattle.exb_changing.specs.Plans.Sets.{seen};
+ghost use Rattle.exb_changing.specs.Plans.Held.{Held, group_for, group_used, give, take_back, free_channel, channel_used, give_channel, free_port_of};
 ghost use Rattle.exb_plan.specs.Spaces.{held_by};
-ghost use Rattle.exb_changing.specs.Planning.Making.{seen_group, IsFresh};
+ghost use Rattle.exb_changing.specs.Plans.Making.{seen_group, IsFresh};
 ghost use Rattle.exb_plan.specs.Working.{IsPlaced, CanClaim, AreLimited, AreClaimed, IsLaterBy, IsAlike, CanClaimChannel, channel_limit};
 
 use exb_changing::{GroupAt, SetAt};

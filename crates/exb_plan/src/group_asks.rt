@@ -1,7 +1,7 @@
 //! What is asked for the rows of groups.
 ghost use Rattle.std.specs.Prelude.{◌≡◌, ℕ, ◌<◌, ◌++◌, map, IfOk, OnOk};
-ghost use Rattle.exb_changing.specs.Planning.Asks.{rows_at, group_asks};
-ghost use Rattle.exb_changing.specs.Planning.Making.{seen_group};
+ghost use Rattle.exb_changing.specs.Plans.Asks.{rows_at, group_asks};
+ghost use Rattle.exb_changing.specs.Plans.Making.{seen_group};
 ghost use Rattle.exb_plan.specs.Working.{row_of_covered, rows_of_covered};
 
 use crate::asks::put_messages;

@@ -5,7 +5,7 @@ ghost use Rattle.exb_model.specs.Tree.{Shape};
 ghost use Rattle.exb_model.specs.Refusals.{all_vids, both_kinds};
 ghost use Rattle.exb_config.specs.Tables.{bridge_of};
 ghost use Rattle.exb_plan.specs.Branches.{AreBranches, IsAmong};
-ghost use Rattle.exb_changing.specs.Planning.Sets.{with_set_at, parts_below, sets_of, seen};
+ghost use Rattle.exb_changing.specs.Plans.Sets.{with_set_at, parts_below, sets_of, seen};
 
 use crate::branches::Branches;
 use crate::parts::put_kinds;

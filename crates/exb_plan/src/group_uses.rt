@@ -1,5 +1,5 @@
 //! How often the set of each group is a part of a configuration.
-ghost use Rattle.std.specs.Prelude.{◌≡◌, ◌^◌, ℕ, ◌+◌, ◌-◌, ◌<◌, ◌≤◌, ◌==◌, ◌&&◌, true, [], length, replicate, slice_index_or, slice_set, if◌then◌else◌, IfOk, IsOk, OnOk, OnErr};
+ghost use Rattle.std.specs.Prelude.{◌≡◌, ◌^◌, ℕ, ◌+◌, ◌-◌, ◌<◌, ◌≤◌, ◌==◌, ◌&&◌, ◌++◌, true, [], length, replicate, slice_index_or, slice_set, vec_capacity, if◌then◌else◌, IfOk, IsOk, OnOk, OnErr};
 ghost use Rattle.exb_model.specs.Tree.{is_cascade};
 ghost use Rattle.exb_plan.specs.Counted.{count_in, count_at, used_in, used_at};
 
@@ -25,19 +25,36 @@ fn granted(is_cascade: bool, count: u16) -> u16
 /// How often the set of each group of one space is a part, from the lowest number on.
 #[derive(Drop)]
 struct SpaceUses {
+    /// How many groups there are.
+    limit: u16,
+    /// The uses as far as a group ever had one, with the room for all, so that a copy copies no more than these. The
+    /// others have none.
     counts: Vec<u64>,
     /// How many of them aren't 0.
     used: u16,
 }
 
 impl Model for SpaceUses {
-    ghost use Rattle.std.specs.Prelude.{◌≡◌, ℕ, ◌≤◌, List, length, count_by, nat_lt};
+    ghost use Rattle.std.specs.Prelude.{◌≡◌, ℕ, ◌≤◌, List, length, count_by, nat_lt, vec_capacity};
+    ghost use Rattle.exb_plan.specs.Counted.{padded};
 
     ghost Value = { List ℕ };
 
-    ghost view = { λ r. r.counts.items };
+    ghost view = { λ r. padded r.limit r.counts.items };
 
-    ghost invariant = { λ r. (r.used ≡ count_by (nat_lt 0) r.counts.items) × (length r.counts.items ≤ 12288) };
+    ghost invariant = { λ r. (r.used ≡ count_by (nat_lt 0) r.counts.items) × (length r.counts.items ≤ r.limit) × (r.limit ≤ 12288)
+        × (r.limit ≤ vec_capacity r.counts) };
+}
+
+// Makes so many places, the new ones without a use.
+fn reach(counts: &mut Vec<u64>, count: usize)
+    requires room { count ≤ vec_capacity counts.old }
+    ensures items { counts.new.items ≡ counts.old.items ++ replicate (count - length counts.old.items) 0 }
+    ensures room { vec_capacity counts.old ≤ vec_capacity counts.new }
+{
+    if counts.len() < count {
+        counts.resize(count, 0).unwrap();
+    }
 }
 
 impl SpaceUses {
@@ -47,7 +64,8 @@ impl SpaceUses {
         ensures { IfOk result (λ made. made ≡ replicate groups 0) }
     {
         Ok(SpaceUses {
-            counts: Vec::from_elem(alloc, 0, groups as usize)?,
+            limit: groups,
+            counts: Vec::with_capacity(alloc, groups as usize)?,
             used: 0,
         })
     }
@@ -56,8 +74,11 @@ impl SpaceUses {
     fn copy(&self) -> Result<SpaceUses, NoMemory>
         ensures { IfOk result (λ made. made ≡ self.now) }
     {
+        let mut counts = Vec::with_capacity(*self.counts.allocator(), self.limit as usize)?;
+        counts.extend_from_slice(self.counts.as_slice())?;
         Ok(SpaceUses {
-            counts: Vec::from_slice(*self.counts.allocator(), self.counts.as_slice())?,
+            limit: self.limit,
+            counts,
             used: self.used,
         })
     }
@@ -89,6 +110,7 @@ impl SpaceUses {
         ensures met { count_in self.old group < 2 ^ 63 → IsOk result }
     {
         let place = (group - FIRST) as usize;
+        reach(&mut self.counts, place + 1);
         let count = self.counts[place];
         if count == u64::MAX {
             return Err(NoMemory);

@@ -3,11 +3,11 @@ ghost use Rattle.std.specs.Prelude.{◌≡◌, ℕ, ◌-◌, ◌≤◌, ◌<◌,
 ghost use Rattle.std.specs.List.{All};
 ghost use Rattle.exb_model.specs.Tree.{is_cascade};
 ghost use Rattle.exb_numbers.specs.Spaces.{has_space};
-ghost use Rattle.exb_changing.specs.Planning.Sets.{PortsAt, seen};
+ghost use Rattle.exb_changing.specs.Plans.Sets.{PortsAt, seen};
 ghost use Rattle.exb_plan.specs.Spaces.{held_by};
-ghost use Rattle.exb_changing.specs.Planning.Between.{group_at, gone_at, gone_groups};
+ghost use Rattle.exb_changing.specs.Plans.Between.{group_at, gone_at, gone_groups};
 ghost use Rattle.exb_plan.specs.Working.{IsPlaced};
-ghost use Rattle.exb_changing.specs.Planning.Making.{seen_group};
+ghost use Rattle.exb_changing.specs.Plans.Making.{seen_group};
 ghost use Rattle.exb_plan.specs.Rising.{is_among, IsRising};
 ghost use Rattle.exb_plan.specs.Recount.{AreOwn};
 ghost use Rattle.exb_plan.specs.LostUses.{is_left, AreGroups, AreLeft, AreInUse};

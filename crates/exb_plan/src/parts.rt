@@ -7,7 +7,7 @@ ghost use Rattle.exb_model.specs.Configuration.{Bridge};
 ghost use Rattle.exb_model.specs.Refusals.{Source, both_kinds};
 ghost use Rattle.exb_plan.specs.Branches.{AreBranches, IsPart, IsAmong};
 ghost use Rattle.exb_plan.specs.Parts.{has_ports, Adds};
-ghost use Rattle.exb_changing.specs.Planning.Sets.{parts_of, seen};
+ghost use Rattle.exb_changing.specs.Plans.Sets.{parts_of, seen};
 
 use crate::branches::Branches;
 use crate::view::View;

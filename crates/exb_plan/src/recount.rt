@@ -1,9 +1,9 @@
 //! How the uses of groups follow the parts that go and come.
 ghost use Rattle.std.specs.Prelude.{◌≡◌, ◌^◌, ℕ, ◌-◌, ◌<◌, [], ◌∷◌, Some, map, IsOk, OnOk};
 ghost use Rattle.std.specs.List.{All};
-ghost use Rattle.exb_changing.specs.Planning.Sets.{seen};
+ghost use Rattle.exb_changing.specs.Plans.Sets.{seen};
 ghost use Rattle.exb_plan.specs.Spaces.{held_by};
-ghost use Rattle.exb_changing.specs.Planning.Held.{group_in};
+ghost use Rattle.exb_changing.specs.Plans.Held.{group_in};
 ghost use Rattle.exb_plan.specs.Working.{IsPlaced};
 ghost use Rattle.exb_plan.specs.Counted.{count_at};
 ghost use Rattle.exb_plan.specs.Recount.{AreOwn, HavePlaces, HaveRowsOf, AreRaised, AreLowered, AreEnough, AreUnused};

@@ -1,7 +1,7 @@
 //! The rows of a set of ports.
 ghost use Rattle.std.specs.Prelude.{◌≡◌, IfOk};
 ghost use Rattle.exb_model.specs.Ports.{port_in};
-ghost use Rattle.exb_changing.specs.Planning.Rows.{rows_of};
+ghost use Rattle.exb_changing.specs.Plans.Rows.{rows_of};
 
 use exb_changing::Row;
 use exb_model::memory::NoMemory;

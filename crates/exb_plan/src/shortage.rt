@@ -3,9 +3,9 @@ ghost use Rattle.std.specs.Prelude.{◌≡◌, ◌^◌, ℕ, ◌+◌, ◌-◌, �
 ghost use Rattle.exb_model.specs.Tree.{is_cascade};
 ghost use Rattle.exb_model.specs.Setup.{Limits};
 ghost use Rattle.exb_numbers.specs.Spaces.{has_space};
-ghost use Rattle.exb_changing.specs.Planning.Sets.{PortsAt, seen};
+ghost use Rattle.exb_changing.specs.Plans.Sets.{PortsAt, seen};
 ghost use Rattle.exb_plan.specs.Working.{AreLimited};
-ghost use Rattle.exb_changing.specs.Planning.Making.{how_many, is_at, short_by, short_at};
+ghost use Rattle.exb_changing.specs.Plans.Making.{how_many, is_at, short_by, short_at};
 ghost use Rattle.exb_plan.specs.Counted.{used_at};
 
 use crate::group_uses::GroupUses;

@@ -1,5 +1,5 @@
 //! The parts that a command touches.
-ghost use Rattle.std.specs.Prelude.{◌≡◌, ℕ, ◌-◌, ◌≤◌, ◌==◌, ◌&&◌, ◌++◌, Bool, true, if◌then◌else◌, [], filter, flat_map, map, IfOk, OnOk};
+ghost use Rattle.std.specs.Prelude.{◌≡◌, ℕ, ◌≤◌, ◌++◌, Bool, true, if◌then◌else◌, [], filter, flat_map, map, IfOk, OnOk};
 ghost use Rattle.exb_model.specs.Ports.{port_in};
 ghost use Rattle.exb_model.specs.Tree.{Shape};
 ghost use Rattle.exb_model.specs.Configuration.{is_for};
@@ -7,8 +7,8 @@ ghost use Rattle.exb_model.specs.Refusals.{both_kinds};
 ghost use Rattle.exb_config.specs.Tables.{bridge_of};
 ghost use Rattle.exb_plan.specs.Branches.{AreBranches, IsAmong};
 ghost use Rattle.exb_plan.specs.Parts.{has_ports, Adds};
-ghost use Rattle.exb_changing.specs.Planning.Sets.{seen};
-ghost use Rattle.exb_changing.specs.Planning.Touched.{has_port, sources_of_entry, touched_before, touched_after, parts_before as parts_touched_before, parts_after as parts_touched_after};
+ghost use Rattle.exb_changing.specs.Plans.Sets.{seen};
+ghost use Rattle.exb_changing.specs.Plans.Touched.{has_port, sources_of_entry, touched_before, touched_after, parts_before as parts_touched_before, parts_after as parts_touched_after};
 ghost use Rattle.exb_plan.specs.TouchedSources.{is_of, sources_of_vlans, vlans_touched, entry_touched};
 
 use crate::branches::Branches;

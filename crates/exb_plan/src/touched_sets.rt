@@ -2,11 +2,11 @@
 ghost use Rattle.std.specs.Prelude.{◌≡◌, not, filter, map, IfOk};
 ghost use Rattle.std.specs.List.{All};
 ghost use Rattle.exb_config.specs.Tables.{bridge_of};
-ghost use Rattle.exb_changing.specs.Planning.Sets.{seen};
+ghost use Rattle.exb_changing.specs.Plans.Sets.{seen};
 ghost use Rattle.exb_plan.specs.Spaces.{held_by};
-ghost use Rattle.exb_changing.specs.Planning.Held.{HoldsNeeded};
+ghost use Rattle.exb_changing.specs.Plans.Held.{HoldsNeeded};
 ghost use Rattle.exb_plan.specs.Working.{IsPlaced, SpacesOf};
-ghost use Rattle.exb_changing.specs.Planning.Making.{has_group};
+ghost use Rattle.exb_changing.specs.Plans.Making.{has_group};
 ghost use Rattle.exb_plan.specs.TouchedSets.{AreTouched};
 
 use crate::group_sets::each_once;

@@ -1,11 +1,7 @@
 -- What a run begins with: the captures that were checked at their first records, and the commands.
-use Rattle.std.proofs.Common.{◌≡◌, ◌≢◌, ℕ, zero, suc, ◌+◌, ◌*◌, ◌^◌, ◌<◌, ◌≤◌, ◌==◌, Bool, true, false, cond, List, [], ◌∷◌, ◌++◌, length, inl, inr, map, filter, All, get_or, sum_by, drop, take, max, min, refl, ap, sym, subst, ◌∙◌, arith, inl, inr, eq-eqb}
-use mathlib.Core.Path.{fun_ext}
-use Rattle.std.specs.Prelude.{Option, Some, None, IfSome, if◌then◌else◌, filter_map, option_map, unwrap_or, AllPairs, Ok, Err, is_some}
-use Rattle.std.specs.List.{AllByRecursion, range_with_len}
-use Rattle.std.proofs.lemmas.Bool.{cases_Bool, cases_lt}
-use Rattle.std.proofs.lemmas.List.{append-nil, length-map, take_more}
-use Rattle.std.proofs.lemmas.List.Sums.{sum_by-cons}
+use Rattle.std.proofs.Common.{◌≡◌, ℕ, ◌+◌, ◌^◌, ◌<◌, ◌≤◌, true, List, [], length, map, filter, All, sum_by, drop, refl, ap, sym, subst, ◌∙◌, arith}
+use Rattle.std.specs.Prelude.{None, AllPairs}
+use Rattle.std.specs.List.{AllByRecursion}
 use Rattle.exb_model.specs.declared.setup.Setup.{Setup}
 use Rattle.exb_model.specs.declared.setup.Timed.{Timed}
 use Rattle.exb_model.specs.declared.setup.Verdict.{Verdict}

@@ -1,8 +1,7 @@
 -- Runs that ended early: what they leave is a front of what the whole eager run writes.
-use Rattle.std.proofs.Common.{◌≡◌, ℕ, ◌≤◌, ◌==◌, ◌++◌, Bool, true, false, List, [], ◌∷◌, flat_map, nat_lt, Result, Ok, Err, refl, ap, sym, subst, ◌∙◌, arith, inl, inr, append_assoc, eq-eqb}
-use Rattle.std.specs.Prelude.{if◌then◌else◌, IfOk, OnErr, String, string_bytes, Option}
+use Rattle.std.proofs.Common.{◌≡◌, ℕ, ◌++◌, Bool, true, List, [], ◌∷◌, flat_map, Result, Ok, Err, refl, ap, sym, subst, ◌∙◌, append_assoc}
+use Rattle.std.specs.Prelude.{IfOk, OnErr, String, string_bytes, Option}
 use Rattle.std.specs.declared.alloc.Global.{Global}
-use Rattle.std.proofs.lemmas.Bool.{cases_lt, lt-ltb, le-ltb, ltb-true}
 use Rattle.std.proofs.lemmas.List.{append-nil}
 use Rattle.exb_model.specs.declared.event.Event.{Event}
 use Rattle.exb_model.specs.EagerHistory.{eager}
@@ -17,7 +16,7 @@ use Rattle.exb_machine.specs.Worlds.{Left as Leaving, left_at}
 use Rattle.exb_motion.specs.Playing.{IsTimely}
 use Rattle.exb_network.specs.Networks.{Network}
 use Rattle.exb_network.specs.Worlds.{all_left}
-use Rattle.exb_network.specs.declared.log.Left.{Left}
+use Rattle.exb_boxes.specs.declared.log.Left.{Left}
 use Rattle.exb_motion.specs.Runs.Playing.{HasWrittenFront, RunsWriteFronts}
 use Rattle.exb_schedule.specs.Playing.{HasPlayed as IsPlayedBy}
 use Rattle.exb_shelf.specs.Files.{Files}

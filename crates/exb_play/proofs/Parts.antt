@@ -1,5 +1,5 @@
 -- However a run ended, what it leaves are fronts of the texts of what it told so far.
-use Rattle.std.proofs.Common.{◌≡◌, ◌<◌, ◌⊎◌, inl, inr, ℕ, true, List, [], ◌++◌, Result, Ok, Err, length, take, refl, ap, sym, subst, ◌∙◌}
+use Rattle.std.proofs.Common.{◌≡◌, inl, inr, ℕ, true, List, [], Result, Ok, Err, length, ap, sym, subst, ◌∙◌}
 use Rattle.std.specs.Prelude.{IfOk, OnErr, String, string_bytes}
 use Rattle.std.specs.declared.alloc.Global.{Global}
 use Rattle.std.proofs.Math.Seq.{take-length}

@@ -1,8 +1,5 @@
 -- Counts by port of a run so far: all of them fit.
-use Rattle.std.proofs.Common.{◌≡◌, ℕ, zero, suc, ◌+◌, ◌*◌, ◌^◌, ◌<◌, ◌≤◌, ◌==◌, ◌&&◌, not, Bool, true, false, cond, List, [], ◌∷◌, ◌++◌, length, get_or, filter, Option, Some, None, IfSome, refl, ap, sym, subst, ◌∙◌, arith, append_assoc}
-use Rattle.std.specs.Prelude.{sum_by, if◌then◌else◌}
-use Rattle.std.specs.List.{AllByRecursion, range_with_len}
-use Rattle.std.proofs.lemmas.List.Sums.{sum_by-append, sum_by-cons}
+use Rattle.std.proofs.Common.{ℕ, ◌+◌, ◌^◌, ◌<◌, ◌≤◌, Bool, List, ◌++◌, length, ap, sym, subst, arith}
 use Rattle.exb_model.specs.declared.event.Event.{Event}
 use Rattle.exb_model.specs.Input.{Input, Mode, Segment}
 use Rattle.exb_model.specs.Traces.{TraceLine}
@@ -11,7 +8,7 @@ use Rattle.exb_counters.specs.Counting.{FitsCounts, nothing, plus_events}
 use Rattle.exb_machine.specs.Runs.Passed.{StepsTellPassed}
 use Rattle.exb_machine.specs.Stepping.{Stepped}
 use Rattle.exb_machine.specs.Worlds.{Left as Leaving, left_at}
-use Rattle.exb_network.specs.declared.log.Left.{Left}
+use Rattle.exb_boxes.specs.declared.log.Left.{Left}
 use Rattle.exb_network.specs.Networks.{Network}
 use Rattle.exb_network.specs.Worlds.{all_left}
 use Rattle.exb_motion.specs.Runs.Playing.{RunsAreFew, RunsAreUnderWay, arrivals_in}

@@ -1,5 +1,5 @@
 -- What is taken from a programme, one after another.
-use Rattle.std.proofs.Common.{◌≡◌, inl, inr, ℕ, true, false, zero, suc, ◌+◌, ◌-◌, ◌*◌, ◌^◌, ◌<◌, ◌≤◌, ◌==◌, Bool, List, [], ◌∷◌, ◌++◌, length, map, drop, take, filter, refl, ap, sym, subst, ◌∙◌, arith, eq-eqb, append_assoc, length-append}
+use Rattle.std.proofs.Common.{◌≡◌, inl, inr, ℕ, true, false, zero, suc, ◌+◌, ◌*◌, ◌^◌, ◌<◌, ◌≤◌, ◌==◌, Bool, List, [], ◌∷◌, ◌++◌, length, map, drop, take, filter, refl, ap, sym, subst, ◌∙◌, arith, eq-eqb, append_assoc, length-append}
 use Rattle.std.specs.Prelude.{Some, if◌then◌else◌, filter_map, slice_get}
 use Rattle.std.specs.List.{AllByRecursion}
 use Rattle.std.proofs.lemmas.Bool.{cases_eq, ne_eqb}

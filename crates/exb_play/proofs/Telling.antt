@@ -1,11 +1,8 @@
 -- What a run has told and what has left, one segment more.
-use Rattle.std.proofs.Common.{◌≡◌, ℕ, zero, suc, ◌+◌, ◌*◌, ◌^◌, ◌<◌, ◌≤◌, ◌==◌, Bool, true, false, List, [], ◌∷◌, ◌++◌, length, All, get_or, nat_lt, refl, ap, sym, subst, ◌∙◌, arith, inl, inr, eq-eqb, length-append}
-use Rattle.std.specs.Prelude.{Option, Some, None, Result, Ok, Err, is_err, IfOk, IfSome, IfNone, OnOk, if◌then◌else◌, slice_index_or}
+use Rattle.std.proofs.Common.{◌≡◌, ℕ, zero, suc, ◌+◌, ◌*◌, ◌^◌, ◌<◌, ◌≤◌, Bool, true, List, [], ◌∷◌, ◌++◌, length, All, get_or, ap, sym, subst, ◌∙◌, arith}
+use Rattle.std.specs.Prelude.{slice_index_or}
 use Rattle.std.specs.List.{AllByRecursion}
-use Rattle.std.proofs.lemmas.Bool.{ne_eqb, lt-ltb, le-ltb}
-use Rattle.std.proofs.lemmas.Grind.{flat_map-append}
-use Rattle.std.proofs.lemmas.List.{append-nil, length-map}
-use Rattle.std.proofs.lemmas.List.Sums.{fold-append}
+use Rattle.std.proofs.lemmas.List.{append-nil}
 use Rattle.exb_model.specs.declared.event.Event.{Event}
 use Rattle.exb_model.specs.Input.{Mode, Input, Arrival as Arrived, Segment, tree_of}
 use Rattle.exb_model.specs.Texts.{Counts, with_left}
@@ -15,7 +12,7 @@ use Rattle.exb_machine.specs.Worlds.{Left as Leaving}
 use Rattle.exb_network.specs.Networks.{Network, world_of, IsQuiet, IsSame}
 use Rattle.exb_network.specs.Sites.{Site, limits_in as limits_at}
 use Rattle.exb_network.specs.Worlds.{all_left, copies_of}
-use Rattle.exb_network.specs.declared.log.Left.{Left}
+use Rattle.exb_boxes.specs.declared.log.Left.{Left}
 use Rattle.exb_motion.specs.Runs.Playing.{IsCopyOfAny, RunsAreUnderWay, RunsAreFew, arrivals_in}
 use Rattle.exb_schedule.specs.Playing.{HasPlayed}
 use Rattle.exb_text.specs.Tallies.{FitsTally, nothing_counted}

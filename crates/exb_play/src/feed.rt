@@ -1,19 +1,18 @@
 //! What comes in one segment: one event, or all of one second.
-ghost use Rattle.std.specs.Prelude.{◌≡◌, ◌++◌, ◌∷◌, [], true, false, map, IfOk, OnOk, IfErr, IfSome, IfNone, ℕ};
+ghost use Rattle.std.specs.Prelude.{◌≡◌, ◌++◌, ◌∷◌, [], true, false, map, IfOk, OnOk, IfErr, IfSome, IfNone, IsErrOf, ℕ};
 ghost use Rattle.exb_model.specs.Input.{Eager};
 ghost use Rattle.exb_merge.specs.Arrivals.{arrival_with};
+ghost use Rattle.exb_merge.specs.Counting.{CountsAgain};
 ghost use Rattle.exb_merge.specs.declared.programme.Next.{Next as Coming};
 ghost use Rattle.exb_merge.specs.Replays.{ids_in, HasPort, standings};
 ghost use Rattle.exb_schedule.specs.Playing.{arrived};
+ghost use Rattle.exb_shelf.specs.Shelf.{NoFewer};
 ghost use Rattle.exb_play.specs.Playing.{mode_of};
-ghost use Rattle.exb_inputs.specs.Shelving.{CountsFaults, OnlyReads};
-ghost use Rattle.exb_inputs.specs.Reading.{IsChange, IsOfPlay};
+ghost use Rattle.exb_inputs.specs.Shelving.{OnlyReads};
 ghost use Rattle.exb_play.specs.UnderWay.{AreOthers, CanFeed, HasTakenSecond, IsGathered, IsTaken, NoMoreIn, NothingIsLeft, second_by};
 
 use crate::script::Schedule;
-use exb_inputs::Fault;
-use exb_merge::{Came, Next, Programme};
-use exb_model::memory::NoMemory;
+use exb_merge::{Came, CaptureFault, Next, Programme};
 use exb_schedule::Arrival;
 use exb_shelf::Shelf;
 use std::alloc::Global;
@@ -43,10 +42,13 @@ fn arrival(came: Came) -> Arrival
 }
 
 /// Puts a record that came behind the arrivals so far.
-fn put(gathered: &mut Vec<Arrival>, came: Came) -> Result<(), NoMemory>
-    ensures { OnOk result (map arrived gathered.new.items ≡ map arrived gathered.old.items ++ arrival_with came ∷ []) }
+fn put(gathered: &mut Vec<Arrival>, came: Came) -> Result<(), CaptureFault>
+    ensures behind { OnOk result (map arrived gathered.new.items ≡ map arrived gathered.old.items ++ arrival_with came ∷ []) }
+    ensures memory { IfErr result (λ fault. fault ≡ CaptureFault.Memory) }
 {
-    gathered.push(arrival(came))?;
+    if gathered.push(arrival(came)).is_err() {
+        return Err(CaptureFault::Memory);
+    }
     Ok(())
 }
 
@@ -60,16 +62,20 @@ fn spare(alloc: Global, played: &mut Vec<Arrival>) -> Vec<u8> {
 
 impl Feed<'_> {
     /// Takes what comes first, and answers its second; None exactly where nothing is left.
-    fn take_first<S: Shelf>(&mut self, alloc: Global, shelf: &mut S) -> Result<Option<u64>, Fault>
+    fn take_first<S: Shelf>(
+        &mut self,
+        alloc: Global,
+        shelf: &mut S,
+    ) -> Result<Option<u64>, CaptureFault>
         requires feed { CanFeed (S.ids shelf.old) self.old }
         ensures feed { OnOk result (CanFeed (S.ids shelf.new) self.new) }
         ensures taken { IfOk result (λ next. IfSome next (λ second. (d : Coming) × IsTaken S.tells (S.file shelf.old) (S.file shelf.new) (S.ids shelf.old) (S.ids shelf.new) self.old d self.new × (second_by d ≡ second))) }
         ensures end { S.tells → IfOk result (λ next. IfNone next (NothingIsLeft (S.file shelf.old) (S.ids shelf.old) self.old.programme)) }
-        ensures never { S.tells → IfErr result (λ fault. IsChange fault → AreOthers (S.file shelf.old) (S.ids shelf.old) self.old.programme) }
+        ensures never { S.tells → (p at : ℕ) → IsErrOf result (CaptureFault.Changed p at) → AreOthers (S.file shelf.old) (S.ids shelf.old) self.old.programme }
         ensures reads { OnlyReads (ids_in self.old.programme.captures) (S.file shelf.old) (S.file shelf.new) (S.ids shelf.old) (S.ids shelf.new) }
-        ensures port { IfErr result (λ fault. (p at : ℕ) → fault ≡ Fault.Changed p at → HasPort p (standings self.old.programme.captures)) }
-        ensures causes { IfErr result IsOfPlay }
-        ensures faults { CountsFaults result (S.faults shelf.old) (S.faults shelf.new) }
+        ensures port { (p at : ℕ) → IsErrOf result (CaptureFault.Changed p at) → HasPort p (standings self.old.programme.captures) }
+        ensures counts { CountsAgain result (S.faults shelf.old) (S.faults shelf.new) }
+        ensures faults { NoFewer (S.faults shelf.old) (S.faults shelf.new) }
     {
         let buffer = spare(alloc, &mut self.played);
         match self.programme.next(shelf, buffer)? {
@@ -89,17 +95,17 @@ impl Feed<'_> {
         alloc: Global,
         shelf: &mut S,
         second: u64,
-    ) -> Result<bool, Fault>
+    ) -> Result<bool, CaptureFault>
         requires feed { CanFeed (S.ids shelf.old) self.old }
         ensures feed { OnOk result (CanFeed (S.ids shelf.new) self.new) }
         ensures taken { IfOk result (λ came. came ≡ true → (d : Coming) × IsTaken S.tells (S.file shelf.old) (S.file shelf.new) (S.ids shelf.old) (S.ids shelf.new) self.old d self.new × (second_by d ≡ second)) }
         ensures same { IfOk result (λ came. came ≡ false → (self.new.programme ≡ self.old.programme) × (self.new.gathered.items ≡ self.old.gathered.items)) }
         ensures end { S.tells → IfOk result (λ came. came ≡ false → NoMoreIn second (S.file shelf.new) (S.ids shelf.new) self.new.programme) }
-        ensures never { S.tells → IfErr result (λ fault. IsChange fault → AreOthers (S.file shelf.old) (S.ids shelf.old) self.old.programme) }
+        ensures never { S.tells → (p at : ℕ) → IsErrOf result (CaptureFault.Changed p at) → AreOthers (S.file shelf.old) (S.ids shelf.old) self.old.programme }
         ensures reads { OnlyReads (ids_in self.old.programme.captures) (S.file shelf.old) (S.file shelf.new) (S.ids shelf.old) (S.ids shelf.new) }
-        ensures port { IfErr result (λ fault. (p at : ℕ) → fault ≡ Fault.Changed p at → HasPort p (standings self.old.programme.captures)) }
-        ensures causes { IfErr result IsOfPlay }
-        ensures faults { CountsFaults result (S.faults shelf.old) (S.faults shelf.new) }
+        ensures port { (p at : ℕ) → IsErrOf result (CaptureFault.Changed p at) → HasPort p (standings self.old.programme.captures) }
+        ensures counts { CountsAgain result (S.faults shelf.old) (S.faults shelf.new) }
+        ensures faults { NoFewer (S.faults shelf.old) (S.faults shelf.new) }
     {
         let buffer = spare(alloc, &mut self.played);
         match self.programme.next_within(shelf, buffer, second)? {
@@ -118,16 +124,16 @@ impl Feed<'_> {
         alloc: Global,
         shelf: &mut S,
         second: u64,
-    ) -> Result<(), Fault>
+    ) -> Result<(), CaptureFault>
         requires feed { CanFeed (S.ids shelf.old) self.old }
         ensures feed { OnOk result (CanFeed (S.ids shelf.new) self.new) }
         ensures taken { OnOk result (HasTakenSecond S.tells second (S.file shelf.old) (S.file shelf.new) (S.ids shelf.old) (S.ids shelf.new) self.old self.new) }
         ensures end { S.tells → OnOk result (NoMoreIn second (S.file shelf.new) (S.ids shelf.new) self.new.programme) }
-        ensures never { S.tells → IfErr result (λ fault. IsChange fault → AreOthers (S.file shelf.old) (S.ids shelf.old) self.old.programme) }
+        ensures never { S.tells → (p at : ℕ) → IsErrOf result (CaptureFault.Changed p at) → AreOthers (S.file shelf.old) (S.ids shelf.old) self.old.programme }
         ensures reads { OnlyReads (ids_in self.old.programme.captures) (S.file shelf.old) (S.file shelf.new) (S.ids shelf.old) (S.ids shelf.new) }
-        ensures port { IfErr result (λ fault. (p at : ℕ) → fault ≡ Fault.Changed p at → HasPort p (standings self.old.programme.captures)) }
-        ensures causes { IfErr result IsOfPlay }
-        ensures faults { CountsFaults result (S.faults shelf.old) (S.faults shelf.new) }
+        ensures port { (p at : ℕ) → IsErrOf result (CaptureFault.Changed p at) → HasPort p (standings self.old.programme.captures) }
+        ensures counts { CountsAgain result (S.faults shelf.old) (S.faults shelf.new) }
+        ensures faults { NoFewer (S.faults shelf.old) (S.faults shelf.new) }
     {
         'second: while self.take_within(alloc, shelf, second)? {}
         Ok(())
@@ -140,16 +146,16 @@ impl Feed<'_> {
         alloc: Global,
         shelf: &mut S,
         schedule: Schedule,
-    ) -> Result<Option<u64>, Fault>
+    ) -> Result<Option<u64>, CaptureFault>
         requires feed { CanFeed (S.ids shelf.old) self.old }
         ensures feed { OnOk result (CanFeed (S.ids shelf.new) self.new) }
         ensures gathered { IfOk result (λ next. IfSome next (λ second. IsGathered S.tells (mode_of schedule) (S.file shelf.old) (S.file shelf.new) (S.ids shelf.old) (S.ids shelf.new) second self.old.programme self.new)) }
         ensures end { S.tells → IfOk result (λ next. IfNone next (NothingIsLeft (S.file shelf.old) (S.ids shelf.old) self.old.programme)) }
-        ensures never { S.tells → IfErr result (λ fault. IsChange fault → AreOthers (S.file shelf.old) (S.ids shelf.old) self.old.programme) }
+        ensures never { S.tells → (p at : ℕ) → IsErrOf result (CaptureFault.Changed p at) → AreOthers (S.file shelf.old) (S.ids shelf.old) self.old.programme }
         ensures reads { OnlyReads (ids_in self.old.programme.captures) (S.file shelf.old) (S.file shelf.new) (S.ids shelf.old) (S.ids shelf.new) }
-        ensures port { IfErr result (λ fault. (p at : ℕ) → fault ≡ Fault.Changed p at → HasPort p (standings self.old.programme.captures)) }
-        ensures causes { IfErr result IsOfPlay }
-        ensures faults { CountsFaults result (S.faults shelf.old) (S.faults shelf.new) }
+        ensures port { (p at : ℕ) → IsErrOf result (CaptureFault.Changed p at) → HasPort p (standings self.old.programme.captures) }
+        ensures counts { CountsAgain result (S.faults shelf.old) (S.faults shelf.new) }
+        ensures faults { NoFewer (S.faults shelf.old) (S.faults shelf.new) }
     {
         mem::swap(&mut self.gathered, &mut self.played);
         self.gathered.clear();

@@ -28,7 +28,7 @@ ghost use Rattle.exb_play.specs.Outputs.{HasPlayed};
 ghost use Rattle.exb_inputs.specs.Shelving.{CountsFaults};
 ghost use Rattle.exb_inputs.specs.Reading.{IsChange, IsOfPlay};
 ghost use Rattle.exb_play.specs.Shelving.{OnlyGoesOn};
-ghost use Rattle.exb_outputs.specs.Shelving.{IsOfWriting, OnlyWrites};
+ghost use Rattle.exb_outputs.specs.Shelving.{CountsWrites, IsOfWriting, OnlyWrites};
 ghost use Rattle.exb_outputs.specs.Sent.{AreCountedAt, HasSent};
 ghost use Rattle.exb_outputs.specs.Writing.{AreCut, HasTexts, IsReady, pieces_of};
 ghost use Rattle.exb_writers.specs.Leaving.{sent_with, CanBeWritten};
@@ -47,7 +47,7 @@ use exb_motion::laws::runs::{
 };
 use exb_outputs::{Manifest, Outputs};
 use exb_schedule::{Arrival, World, WorldFault, count_left, eager, open, seeded};
-use exb_shelf::Shelf;
+use exb_shelf::{Shelf, ShelfFault};
 use exb_tracing::laws::{runs_tell_legally, runs_tell_so_far};
 use exb_wiring::laws::counts_go_on;
 use exb_writers::{Counted, Room, write_end, write_told};
@@ -81,7 +81,7 @@ fn write_all<S: Shelf>(
     outputs: &mut Outputs,
     room: &mut Room,
     world: &World,
-) -> Result<(), Fault>
+) -> Result<(), ShelfFault>
     requires ready { IsReady manifest.now (S.ids shelf.old) outputs.old }
     requires frames { All (λ x. CanBeWritten manifest.now x) (network_of world.now).log.left }
     ensures ready { IsReady manifest.now (S.ids shelf.new) outputs.new }
@@ -93,8 +93,7 @@ fn write_all<S: Shelf>(
         (with_told text (network_of world.now).log.events (network_of world.now).log.left (network_of world.now).log.lines)) }
     ensures sent { OnOk result ((sent : ℕ → List Sent) → HasSent manifest.now outputs.old sent → HasSent manifest.now outputs.new (sent_with sent (network_of world.now).log.left)) }
     ensures only { OnlyWrites S.tells manifest.now (S.file shelf.old) (S.file shelf.new) (S.ids shelf.old) (S.ids shelf.new) }
-    ensures causes { IfErr result IsOfWriting }
-    ensures faults { CountsFaults result (S.faults shelf.old) (S.faults shelf.new) }
+    ensures faults { CountsWrites result (S.faults shelf.old) (S.faults shelf.new) }
 {
     write_told(
         shelf,
@@ -152,7 +151,7 @@ fn seconds_since(last: Option<u64>, second: u64) -> u32
 
 impl Game {
     /// Writes and counts what has happened in the world since it was cleared, and clears it.
-    fn note<S: Shelf>(&mut self, shelf: &mut S, manifest: &Manifest) -> Result<(), Fault>
+    fn note<S: Shelf>(&mut self, shelf: &mut S, manifest: &Manifest) -> Result<(), ShelfFault>
         requires ready { IsReady manifest.now (S.ids shelf.old) self.old.outputs }
         requires frames { All (λ x. CanBeWritten manifest.now x) (network_of self.old.world).log.left }
         requires can { CanCount self.old.counted (network_of self.old.world).log.events (network_of self.old.world).log.passed (length (all_left (network_of self.old.world).log.left)) }
@@ -172,8 +171,7 @@ impl Game {
         ensures ports { OnOk result (CountsOn self.old.counted.ports self.new.counted.ports (network_of self.old.world).log.events (network_of self.old.world).log.passed) }
         ensures fate { OnOk result (left (fate_in self.new.world) ≡ left (fate_in self.old.world)) }
         ensures only { OnlyWrites S.tells manifest.now (S.file shelf.old) (S.file shelf.new) (S.ids shelf.old) (S.ids shelf.new) }
-        ensures causes { IfErr result IsOfWriting }
-        ensures faults { CountsFaults result (S.faults shelf.old) (S.faults shelf.new) }
+        ensures faults { CountsWrites result (S.faults shelf.old) (S.faults shelf.new) }
     {
         write_all(
             shelf,
@@ -200,7 +198,7 @@ impl Game {
         seconds: u32,
         commands: &[Timed],
         arrivals: &[Arrival],
-    ) -> Result<(), Fault>
+    ) -> Result<(), ShelfFault>
         requires ready { IsReady manifest.now (S.ids shelf.old) self.old.outputs }
         requires playable { (run : Run) × CanBePlayed S.tells (mode_of schedule) run manifest.now (S.file shelf.old) (network_of self.old.world) self.old.counted self.old.outputs seconds commands.now arrivals.now }
         requires budget { left (fate_in self.old.world) + letters_in commands.now < 2 ^ 57 }
@@ -214,8 +212,7 @@ impl Game {
             → IsCutOff (mode_of schedule) run manifest.now (S.file shelf.new)) }
         ensures budget { OnOk result (left (fate_in self.new.world) ≤ left (fate_in self.old.world) + letters_in commands.now) }
         ensures only { OnlyWrites S.tells manifest.now (S.file shelf.old) (S.file shelf.new) (S.ids shelf.old) (S.ids shelf.new) }
-        ensures causes { IfErr result IsOfWriting }
-        ensures faults { CountsFaults result (S.faults shelf.old) (S.faults shelf.new) }
+        ensures faults { CountsWrites result (S.faults shelf.old) (S.faults shelf.new) }
     {
         runs_are_under_way();
         runs_are_few();
@@ -231,7 +228,7 @@ impl Game {
         )
         .is_err()
         {
-            return Err(Fault::Memory);
+            return Err(ShelfFault::Memory);
         }
         told_by_types(&self.world);
         self.note(shelf, manifest)
@@ -246,7 +243,7 @@ impl Game {
         seconds: u32,
         from: usize,
         feed: &Feed<'_>,
-    ) -> Result<(), Fault>
+    ) -> Result<(), ShelfFault>
         requires ready { IsReady manifest.now (S.ids shelf.old) self.old.outputs }
         requires feed { CanFeed (S.ids shelf.old) feed.now }
         requires playing { (run : Run) × ((second : ℕ) × CanGoOn S.tells (mode_of schedule) run manifest.now (S.file shelf.old) (S.ids shelf.old) (network_of self.old.world) self.old.counted self.old.outputs seconds from second feed.now) }
@@ -260,8 +257,7 @@ impl Game {
             → IsCutOff (mode_of schedule) run manifest.now (S.file shelf.new)) }
         ensures budget { OnOk result (left (fate_in self.new.world) + letters_in (drop feed.now.programme.taken feed.now.programme.commands.now) < 2 ^ 57) }
         ensures only { OnlyWrites S.tells manifest.now (S.file shelf.old) (S.file shelf.new) (S.ids shelf.old) (S.ids shelf.new) }
-        ensures causes { IfErr result IsOfWriting }
-        ensures faults { CountsFaults result (S.faults shelf.old) (S.faults shelf.new) }
+        ensures faults { CountsWrites result (S.faults shelf.old) (S.faults shelf.new) }
     {
         runs_are_under_way();
         let commands = feed.programme.taken_since(from);

@@ -4,7 +4,7 @@ use Rattle.std.proofs.lemmas.List.{append-nil}
 use Rattle.std.proofs.lemmas.Bool.{cases_eq, ne_eqb, false≢true, false_from_ne_true}
 use Rattle.exb_model.specs.declared.vlan.Kind.TheVariants.{Tagged, Untagged}
 use Rattle.exb_model.specs.declared.port_set.PortSet.{PortSet}
-use Rattle.exb_model.specs.Ports.{port_in, ports_of, below}
+use Rattle.exb_model.specs.Ports.{port_in, ports_of}
 use Rattle.exb_model.specs.Tree.{Shape, IsTree, IsCascade, device, trunk, is_port, is_cascade, is_external, is_under}
 use Rattle.exb_model.proofs.PortLemmas.{filter_below-agree, filter_below-none}
 use Rattle.exb_numbers.specs.Spaces.{Spaces, has_space}

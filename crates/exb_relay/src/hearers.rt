@@ -1,5 +1,5 @@
 //! The ports to which a frame may go.
-ghost use Rattle.std.specs.Prelude.{◌≡◌, ℕ, ◌+◌, ◌*◌, ◌<◌, ◌==◌, if◌then◌else◌, None};
+ghost use Rattle.std.specs.Prelude.{◌≡◌, ◌+◌, ◌*◌, ◌<◌, ◌==◌, if◌then◌else◌, None};
 ghost use Rattle.exb_model.specs.Masks.{bits_of};
 ghost use Rattle.exb_relay.specs.Words.{is_hearer, kind_among};
 

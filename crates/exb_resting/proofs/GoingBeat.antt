@@ -8,7 +8,7 @@ use Rattle.exb_ecp.specs.declared.stop_and_wait.Beat.TheVariants as due
 use Rattle.exb_ecp.specs.Machine.{Sending, State as Ecp, beaten, beat_of}
 use Rattle.exb_csp.specs.Reading.{read_message}
 use Rattle.exb_extender.specs.Machine.{ExtenderState, Beats as EndBeats, react, beats as extender_beats}
-use Rattle.exb_changing.specs.Planning.Held.{Held}
+use Rattle.exb_changing.specs.Plans.Held.{Held}
 use Rattle.exb_changing.specs.Beginning.{first_held}
 use Rattle.exb_changing.specs.declared.asked.Asked.{Asked}
 use Rattle.exb_changing.specs.Deciding.{decide}

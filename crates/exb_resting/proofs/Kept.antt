@@ -10,7 +10,7 @@ use Rattle.exb_csp.specs.Kinds.{kind_of, number_of, same_kind}
 use Rattle.exb_extender.specs.Forwarding.{has_etag_type, is_bare_control, channel_tag}
 use Rattle.exb_model.specs.Frames.{is_control_frame, IsBytes}
 use Rattle.exb_link.specs.declared.word.Word.{Word}
-use Rattle.exb_changing.specs.Planning.Held.{Held}
+use Rattle.exb_changing.specs.Plans.Held.{Held}
 use Rattle.exb_changing.specs.Beginning.{first_held}
 use Rattle.exb_changing.specs.Machine.{Work}
 use Rattle.exb_changing.specs.Runs.Planned.{IsSetting}

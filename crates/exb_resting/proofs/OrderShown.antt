@@ -1,6 +1,6 @@
 -- In a sound world in which extenders are asked in their turn, all that the bound on settling asks of changes and their order holds.
 use Rattle.std.proofs.Common.{◌≡◌, ℕ, ◌≤◌, Bool, true, false, List, [], ◌∷◌, Option, Some, None, refl, sym, ◌∙◌, ap, subst}
-use Rattle.std.proofs.lemmas.Bool.{cases_Bool, false≢true}
+use Rattle.std.proofs.lemmas.Bool.{false≢true}
 use Rattle.exb_model.specs.Setup.{Limits}
 use Rattle.exb_model.specs.Tree.{Shape, device, on, is_extender}
 use Rattle.exb_csp.specs.declared.message.Response.{Response}

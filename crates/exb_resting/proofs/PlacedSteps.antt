@@ -10,7 +10,7 @@ use Rattle.exb_extender.specs.Forwarding.{Sent, emitted, is_bare_control}
 use Rattle.exb_extender.specs.Machine.{ExtenderState, Arrives, react, hears}
 use Rattle.exb_link.specs.declared.word.Stamp.{Stamp}
 use Rattle.exb_link.specs.declared.word.Word.{Word}
-use Rattle.exb_changing.specs.Planning.Held.{Held}
+use Rattle.exb_changing.specs.Plans.Held.{Held}
 use Rattle.exb_changing.specs.Beginning.{first_held}
 use Rattle.exb_changing.specs.Runs.Planned.{IsSetting}
 use Rattle.exb_machine.specs.Worlds.{World, Up, Down}

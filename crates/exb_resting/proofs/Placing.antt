@@ -13,7 +13,7 @@ use Rattle.exb_model.specs.Frames.{is_control_frame}
 use Rattle.exb_extender.specs.Machine.{ExtenderState, IsExtender}
 use Rattle.exb_link.specs.declared.word.Stamp.{Stamp}
 use Rattle.exb_model.specs.Setup.{Limits}
-use Rattle.exb_changing.specs.Planning.Held.{Held}
+use Rattle.exb_changing.specs.Plans.Held.{Held}
 use Rattle.exb_machine.specs.Extending.{port_number}
 use Rattle.exb_machine.specs.Runs.Sessions.{Each, IsTagged, KeepsCascades, Routes, IsNextHop}
 use Rattle.exb_machine.proofs.Fixing.{trunk_is_cascade}

@@ -39,8 +39,8 @@ use Rattle.exb_link.specs.Words.{is_control}
 use Rattle.exb_learn.specs.Calls.{look_in}
 use Rattle.exb_relay.specs.declared.send.SendTo.{SendTo}
 use Rattle.exb_relay.specs.Sends.{sends_of}
-use Rattle.exb_changing.specs.Planning.Held.{Held, channel_in, numbers_in}
-use Rattle.exb_changing.proofs.Planning.Giving.{IsChannelOf, channel_found}
+use Rattle.exb_changing.specs.Plans.Held.{Held, channel_in, numbers_in}
+use Rattle.exb_changing.proofs.Plans.Giving.{IsChannelOf, channel_found}
 use Rattle.exb_changing.specs.declared.asked.Asked.{Asked}
 use Rattle.exb_changing.specs.Deciding.{decide}
 use Rattle.exb_changing.specs.Machine.{State, Moved, answered}

@@ -15,10 +15,10 @@ use Rattle.exb_csp.specs.declared.message.Response.{Response}
 use Rattle.exb_csp.specs.AllTables.{port_of, executes_at, RunsAt}
 use Rattle.exb_csp.specs.Execute.{ExtenderTables, code_of, done, executed}
 use Rattle.exb_extender.specs.Machine.{ExtenderState}
-use Rattle.exb_changing.specs.Planning.Held.{Held, channel_in, or_zero}
-use Rattle.exb_changing.proofs.Planning.Giving.{IsChannelOf, channel_found, channel_there}
-use Rattle.exb_changing.proofs.Planning.Trunks.{hung_cascade}
-use Rattle.exb_changing.proofs.Planning.Ways.{covers_above}
+use Rattle.exb_changing.specs.Plans.Held.{Held, channel_in, or_zero}
+use Rattle.exb_changing.proofs.Plans.Giving.{IsChannelOf, channel_found, channel_there}
+use Rattle.exb_changing.proofs.Plans.Trunks.{hung_cascade}
+use Rattle.exb_changing.proofs.Plans.Ways.{covers_above}
 use Rattle.exb_changing.specs.Beginning.{first_held}
 use Rattle.exb_changing.specs.Deciding.{channel_of, bridge_after, release}
 use Rattle.exb_changing.specs.declared.job.Job.{Job}

@@ -28,7 +28,7 @@ use Rattle.exb_csp.proofs.Again.{message_again}
 use Rattle.exb_csp.specs.Sessions.Answering.{stored_message}
 use Rattle.exb_extender.specs.declared.sends.Side.TheVariants as side
 use Rattle.exb_extender.specs.Forwarding.{Sent, up, is_bare_control}
-use Rattle.exb_extender.specs.Machine.{ExtenderState, Reaction, nothing, acknowledgement_frame, request_frame, announcement_frame, control_pdu, next_count, announces, sends_again, submits, answers, executes, takes_request, takes_body, takes_message, hears_request, hears_pdu, hears, beats}
+use Rattle.exb_extender.specs.Machine.{ExtenderState, nothing, acknowledgement_frame, request_frame, announcement_frame, control_pdu, next_count, announces, sends_again, submits, answers, takes_request, takes_body, takes_message, hears_pdu, hears, beats}
 use Rattle.exb_machine.specs.Controls.{is_of, address_of}
 use Rattle.exb_machine.specs.Runs.Sessions.{Each, CanBeSent}
 use Rattle.exb_machine.proofs.Frames.{bare_spelled, bare_announcement}

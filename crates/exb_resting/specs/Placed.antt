@@ -4,7 +4,7 @@ use Rattle.exb_model.specs.Tree.{Shape, is_extender}
 use Rattle.exb_extender.specs.Forwarding.{is_bare_control}
 use Rattle.exb_model.specs.Frames.{is_control_frame}
 use Rattle.exb_link.specs.declared.word.Word.{Word}
-use Rattle.exb_changing.specs.Planning.Held.{Held}
+use Rattle.exb_changing.specs.Plans.Held.{Held}
 use Rattle.exb_machine.specs.Runs.Sessions.{Each, IsTagged}
 use Rattle.exb_resting.specs.Streams.{note_of}
 use Rattle.exb_resting.specs.Facts.{IsAbove, IsAnnouncement}

@@ -8,7 +8,7 @@ use Rattle.exb_model.specs.Tree.{Shape, is_extender}
 use Rattle.exb_link.specs.declared.word.Word.{Word}
 use Rattle.exb_link.specs.Words.{is_control, is_data, leading, without_data, without_control}
 use Rattle.exb_machine.specs.Settling.{direction, next_place, played_before, run, steps_for}
-use Rattle.exb_machine.specs.Stepping.{Stepped, stepped, words_on, with_words, first_data, control_at, rest_of}
+use Rattle.exb_machine.specs.Stepping.{Stepped, words_on, with_words, first_data, control_at, rest_of}
 use Rattle.exb_machine.specs.Worlds.{World, Way, Up, Down, Step, Carry, Control, Lose}
 use Rattle.exb_machine.specs.Runs.Laws.{IsMove}
 use Rattle.exb_machine.specs.Runs.Sessions.{Each}

@@ -1,5 +1,5 @@
 -- What a run from a valid setup reaches.
-use Rattle.std.proofs.Common.{◌≡◌, ◌↔◌, ◌++◌, Bool, true, false, inl, inr, [], ◌∷◌, Result, Ok, Err, ap, sym, ◌∙◌, subst}
+use Rattle.std.proofs.Common.{◌≡◌, ◌↔◌, ◌++◌, true, false, inl, inr, [], ◌∷◌, Result, Ok, Err, ap, sym, ◌∙◌, subst}
 use Rattle.std.specs.Prelude.{All, OnOk, OnErr, is_err}
 use Rattle.std.proofs.lemmas.Bool.{cases_Bool, false≢true}
 use Rattle.exb_model.specs.declared.setup.Setup.{Setup}

@@ -1,6 +1,5 @@
 //! What a segment gives to the network: seconds that pass, and frames that arrive.
 ghost use Rattle.std.specs.Prelude.{◌≡◌, ◌↔◌, true, OnErr, OnOk};
-ghost use Rattle.exb_network.specs.Networks.{Network};
 ghost use Rattle.exb_schedule.specs.Moves.{HasRun};
 ghost use Rattle.exb_schedule.specs.Playing.{arrive, tick, CanAll};
 

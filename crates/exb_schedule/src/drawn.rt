@@ -1,5 +1,5 @@
 //! The segments of a seeded run.
-ghost use Rattle.std.specs.Prelude.{⊤, ◌≡◌, ◌≢◌, ◌↔◌, ◌++◌, ◌∷◌, [], ◌+◌, ◌*◌, ◌<◌, ◌≤◌, ◌^◌, ℕ, List, true, OnErr, OnOk, length, drop, slice_index_or};
+ghost use Rattle.std.specs.Prelude.{⊤, ◌≡◌, ◌↔◌, ◌+◌, ◌<◌, ◌≤◌, ◌^◌, ℕ, List, true, OnErr, OnOk, length, drop, slice_index_or};
 ghost use Rattle.exb_model.specs.Input.{Seeded};
 ghost use Rattle.exb_machine.specs.Allowing.{IsSettled};
 ghost use Rattle.exb_network.specs.Networks.{world_of, tree_of, IsSame};

@@ -1,5 +1,5 @@
 //! Frames: their kinds, their E-TAGs, and the bytes with which they leave.
-ghost use Rattle.std.specs.Prelude.{◌≡◌, true};
+ghost use Rattle.std.specs.Prelude.{◌≡◌};
 ghost use Rattle.exb_model.specs.Frames.{kind_of};
 ghost use Rattle.exb_frame.specs.Egress.{can_leave};
 

@@ -3,7 +3,6 @@ use crate::formats::{Format, judge};
 use crate::words::{bytes_of, expect};
 use exb_csp::{CspFault, Message, read, write};
 use exb_model::buffers::ControlBuf;
-use std::alloc::Global;
 use std::process::Abort;
 
 /// What bytes say. Where they are a message, this is written as the same bytes.

@@ -5,7 +5,7 @@ use Rattle.std.proofs.lemmas.Grind.{flat_map-append}
 use Rattle.exb_model.specs.FlatBridge.{Sent}
 use Rattle.exb_model.specs.Texts.{record_text}
 use Rattle.exb_machine.specs.Worlds.{Left as Leaving, left_at}
-use Rattle.exb_network.specs.declared.log.Left.{Left}
+use Rattle.exb_boxes.specs.declared.log.Left.{Left}
 use Rattle.exb_network.specs.Worlds.{all_left, copies_at, copies_of}
 use Rattle.exb_network.proofs.Cores.{left_more as one_more}
 use Rattle.exb_shelf.specs.Files.{Files}

@@ -3,7 +3,7 @@ use Rattle.std.specs.Prelude.{ℕ, List, ◌++◌, All, flat_map}
 use Rattle.exb_model.specs.FlatBridge.{Sent}
 use Rattle.exb_machine.specs.Worlds.{Left as Leaving, left_at}
 use Rattle.exb_model.specs.Texts.{record_text}
-use Rattle.exb_network.specs.declared.log.Left.{Left}
+use Rattle.exb_boxes.specs.declared.log.Left.{Left}
 use Rattle.exb_network.specs.Worlds.{all_left, copies_of}
 use Rattle.exb_text.specs.declared.output.Output.{Output}
 use Rattle.exb_text.specs.declared.output.Output.TheVariants as output

@@ -14,7 +14,6 @@ use Rattle.exb_outputs.specs.Manifests.{Listed, kind_at, output_count, output_na
 use Rattle.exb_outputs.specs.Names.{IsCut}
 use Rattle.exb_model.specs.declared.event.Event.{Event}
 use Rattle.exb_machine.specs.Worlds.{Left, left_at}
-use Rattle.exb_counters.specs.declared.counters.Counters.{Counters}
 
 -- ---- the outputs of a manifest
 -- what a file holds over a history, by its kind, with these lines of the trace

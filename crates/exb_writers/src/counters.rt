@@ -1,23 +1,21 @@
 //! Counts as lines of the counters.
-ghost use Rattle.std.specs.Prelude.{◌≡◌, ◌≤◌, ◌<◌, ℕ, List, length, true, IfErr, OnErr, OnOk};
+ghost use Rattle.std.specs.Prelude.{◌≡◌, ◌≤◌, ◌<◌, ℕ, List, length, true, OnErr, OnOk};
 ghost use Rattle.exb_counters.specs.Counters.{count_line, count_lines};
 ghost use Rattle.exb_counters.specs.Counting.{HasPort};
 ghost use Rattle.exb_model.specs.Tree.{external_ports, is_external};
 ghost use Rattle.exb_shelf.specs.Files.{Files};
 ghost use Rattle.exb_text.specs.declared.output.Output.{Output};
 ghost use Rattle.exb_text.specs.declared.output.Output.TheVariants as output;
-ghost use Rattle.exb_inputs.specs.Shelving.{CountsFaults};
 ghost use Rattle.exb_outputs.specs.Manifests.{port_at, port_count};
 ghost use Rattle.exb_outputs.specs.Sent.{AreCountedAt, IsCountedAt, SameCaptures};
-ghost use Rattle.exb_outputs.specs.Shelving.{IsOfWriting, OnlyWrites};
+ghost use Rattle.exb_outputs.specs.Shelving.{CountsWrites, OnlyWrites};
 ghost use Rattle.exb_outputs.specs.Writing.{AreCut, HasTexts, IsReady, pieces_of, with_more};
 ghost use Rattle.exb_writers.specs.Counts.{counts_with};
 
 use exb_counters::{Counters, Counts5, write_count_line};
-use exb_inputs::Fault;
 use exb_model::port::PortId;
 use exb_outputs::{Manifest, Outputs};
-use exb_shelf::Shelf;
+use exb_shelf::{Shelf, ShelfFault};
 use exb_text::Output;
 
 /// How many bytes a capture has before its first record.
@@ -54,7 +52,7 @@ fn add_count<S: Shelf>(
     line: &mut Vec<u8>,
     port: PortId,
     counts: &Counts5,
-) -> Result<(), Fault>
+) -> Result<(), ShelfFault>
     requires asked { manifest.now.options.counters ≡ true }
     requires ready { IsReady manifest.now (S.ids shelf.old) outputs.old }
     ensures ready { IsReady manifest.now (S.ids shelf.new) outputs.new }
@@ -64,12 +62,11 @@ fn add_count<S: Shelf>(
         → AreCut manifest.now orig (S.file shelf.new) (with_more text output.Counters (count_line port counts.now))) }
     ensures same { OnOk result (SameCaptures manifest.now outputs.old outputs.new) }
     ensures only { OnlyWrites S.tells manifest.now (S.file shelf.old) (S.file shelf.new) (S.ids shelf.old) (S.ids shelf.new) }
-    ensures causes { IfErr result IsOfWriting }
-    ensures faults { CountsFaults result (S.faults shelf.old) (S.faults shelf.new) }
+    ensures faults { CountsWrites result (S.faults shelf.old) (S.faults shelf.new) }
 {
     line.clear();
     if write_count_line(line, port, counts).is_err() {
-        return Err(Fault::Memory);
+        return Err(ShelfFault::Memory);
     }
     outputs.write(shelf, manifest, Output::Counters, line.as_slice())
 }
@@ -82,7 +79,7 @@ pub fn write_counters<S: Shelf>(
     outputs: &mut Outputs,
     line: &mut Vec<u8>,
     counters: &Counters,
-) -> Result<(), Fault>
+) -> Result<(), ShelfFault>
     requires asked { manifest.now.options.counters ≡ true }
     requires ports { (q : ℕ) → q < 4160 → is_external manifest.now.tree q ≡ true → HasPort counters.now q }
     requires counted { AreCountedAt manifest.now outputs.old }
@@ -94,8 +91,7 @@ pub fn write_counters<S: Shelf>(
         → AreCut manifest.now orig (S.file shelf.new) (with_more text output.Counters (count_lines (counts_with manifest.now outputs.old counters.now) (external_ports manifest.now.tree)))) }
     ensures same { OnOk result (SameCaptures manifest.now outputs.old outputs.new) }
     ensures only { OnlyWrites S.tells manifest.now (S.file shelf.old) (S.file shelf.new) (S.ids shelf.old) (S.ids shelf.new) }
-    ensures causes { IfErr result IsOfWriting }
-    ensures faults { CountsFaults result (S.faults shelf.old) (S.faults shelf.new) }
+    ensures faults { CountsWrites result (S.faults shelf.old) (S.faults shelf.new) }
 {
     for at in 0..manifest.count() {
         let counts = counts_of(outputs, manifest, at, counters);

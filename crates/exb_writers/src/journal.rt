@@ -1,18 +1,16 @@
 //! Events as lines of the journal.
-ghost use Rattle.std.specs.Prelude.{◌++◌, ◌∷◌, [], ℕ, List, IfErr, OnErr, OnOk};
+ghost use Rattle.std.specs.Prelude.{◌++◌, ◌∷◌, [], ℕ, List, OnErr, OnOk};
 ghost use Rattle.exb_model.specs.Texts.{line_of};
 ghost use Rattle.exb_shelf.specs.Files.{Files};
 ghost use Rattle.exb_text.specs.declared.output.Output.{Output};
 ghost use Rattle.exb_text.specs.declared.output.Output.TheVariants as output;
-ghost use Rattle.exb_inputs.specs.Shelving.{CountsFaults};
 ghost use Rattle.exb_outputs.specs.Sent.{SameCaptures};
-ghost use Rattle.exb_outputs.specs.Shelving.{IsOfWriting, OnlyWrites};
+ghost use Rattle.exb_outputs.specs.Shelving.{CountsWrites, OnlyWrites};
 ghost use Rattle.exb_outputs.specs.Writing.{AreCut, HasTexts, IsReady, lines_of, pieces_of, with_more};
 
-use exb_inputs::Fault;
 use exb_model::event::Event;
 use exb_outputs::{Manifest, Outputs};
-use exb_shelf::Shelf;
+use exb_shelf::{Shelf, ShelfFault};
 use exb_text::{LineRoom, Output};
 
 /// Puts the line of an event behind the journal.
@@ -23,7 +21,7 @@ fn add_event<S: Shelf>(
     outputs: &mut Outputs,
     room: &mut LineRoom,
     event: &Event,
-) -> Result<(), Fault>
+) -> Result<(), ShelfFault>
     requires ready { IsReady manifest.now (S.ids shelf.old) outputs.old }
     ensures ready { IsReady manifest.now (S.ids shelf.new) outputs.new }
     ensures texts { S.tells → OnOk result ((orig : Files) (text : Output → List ℕ) → HasTexts manifest.now (pieces_of outputs.old) orig (S.file shelf.old) text
@@ -32,12 +30,11 @@ fn add_event<S: Shelf>(
         → AreCut manifest.now orig (S.file shelf.new) (with_more text output.Journal (line_of event.now ++ 10 ∷ []))) }
     ensures same { OnOk result (SameCaptures manifest.now outputs.old outputs.new) }
     ensures only { OnlyWrites S.tells manifest.now (S.file shelf.old) (S.file shelf.new) (S.ids shelf.old) (S.ids shelf.new) }
-    ensures causes { IfErr result IsOfWriting }
-    ensures faults { CountsFaults result (S.faults shelf.old) (S.faults shelf.new) }
+    ensures faults { CountsWrites result (S.faults shelf.old) (S.faults shelf.new) }
 {
     match room.line(event) {
         Ok(line) => outputs.write(shelf, manifest, Output::Journal, line),
-        Err(_) => Err(Fault::Memory),
+        Err(_) => Err(ShelfFault::Memory),
     }
 }
 
@@ -49,7 +46,7 @@ pub fn write_events<S: Shelf>(
     outputs: &mut Outputs,
     room: &mut LineRoom,
     events: &[Event],
-) -> Result<(), Fault>
+) -> Result<(), ShelfFault>
     requires ready { IsReady manifest.now (S.ids shelf.old) outputs.old }
     ensures ready { IsReady manifest.now (S.ids shelf.new) outputs.new }
     ensures texts { S.tells → OnOk result ((orig : Files) (text : Output → List ℕ) → HasTexts manifest.now (pieces_of outputs.old) orig (S.file shelf.old) text
@@ -58,8 +55,7 @@ pub fn write_events<S: Shelf>(
         → AreCut manifest.now orig (S.file shelf.new) (with_more text output.Journal (lines_of events.now))) }
     ensures same { OnOk result (SameCaptures manifest.now outputs.old outputs.new) }
     ensures only { OnlyWrites S.tells manifest.now (S.file shelf.old) (S.file shelf.new) (S.ids shelf.old) (S.ids shelf.new) }
-    ensures causes { IfErr result IsOfWriting }
-    ensures faults { CountsFaults result (S.faults shelf.old) (S.faults shelf.new) }
+    ensures faults { CountsWrites result (S.faults shelf.old) (S.faults shelf.new) }
 {
     for event in events {
         add_event(shelf, manifest, outputs, room, event)?;

@@ -1,21 +1,19 @@
 //! What leaves goes behind the captures of its ports.
-ghost use Rattle.std.specs.Prelude.{◌≡◌, ◌++◌, ℕ, List, IfErr, OnErr, OnOk, All};
+ghost use Rattle.std.specs.Prelude.{◌≡◌, ◌++◌, ℕ, List, OnErr, OnOk, All};
 ghost use Rattle.exb_shelf.specs.Files.{Files};
 ghost use Rattle.exb_model.specs.FlatBridge.{Sent};
 ghost use Rattle.exb_model.specs.Texts.{record_text as record_of};
 ghost use Rattle.exb_text.specs.declared.output.Output.{Output};
-ghost use Rattle.exb_inputs.specs.Shelving.{CountsFaults};
 ghost use Rattle.exb_network.specs.Worlds.{copies_of};
-ghost use Rattle.exb_outputs.specs.Shelving.{IsOfWriting, OnlyWrites};
+ghost use Rattle.exb_outputs.specs.Shelving.{CountsWrites, OnlyWrites};
 ghost use Rattle.exb_outputs.specs.Sent.{HasSent};
 ghost use Rattle.exb_outputs.specs.Writing.{AreCut, HasTexts, IsReady, pieces_of};
 ghost use Rattle.exb_writers.specs.Leaving.{CanBeWritten, sent_with, sent_with_copies, with_copies, with_left_frames};
 
 use exb_capture::record_text;
-use exb_inputs::Fault;
 use exb_network::Left;
 use exb_outputs::{Manifest, Outputs};
-use exb_shelf::Shelf;
+use exb_shelf::{Shelf, ShelfFault};
 
 /// Puts a record, of which what stands before the frame's bytes is given, behind the capture of each port of a row.
 #[inline(always)]
@@ -25,7 +23,7 @@ fn write_row<S: Shelf>(
     outputs: &mut Outputs,
     left: &Left,
     head: &[u8; 16],
-) -> Result<(), Fault>
+) -> Result<(), ShelfFault>
     requires ready { IsReady manifest.now (S.ids shelf.old) outputs.old }
     requires frame { CanBeWritten manifest.now left.now }
     requires head { record_of (left.now.moment, left.now.bytes) ≡ head.now ++ left.now.bytes }
@@ -36,8 +34,7 @@ fn write_row<S: Shelf>(
         → AreCut manifest.now orig (S.file shelf.new) (with_copies text (copies_of left.now))) }
     ensures sent { OnOk result ((sent : ℕ → List Sent) → HasSent manifest.now outputs.old sent → HasSent manifest.now outputs.new (sent_with_copies sent (copies_of left.now))) }
     ensures only { OnlyWrites S.tells manifest.now (S.file shelf.old) (S.file shelf.new) (S.ids shelf.old) (S.ids shelf.new) }
-    ensures causes { IfErr result IsOfWriting }
-    ensures faults { CountsFaults result (S.faults shelf.old) (S.faults shelf.new) }
+    ensures faults { CountsWrites result (S.faults shelf.old) (S.faults shelf.new) }
 {
     let bytes = left.bytes.as_slice();
     let mut rest = left.row;
@@ -54,7 +51,7 @@ fn add_left<S: Shelf>(
     manifest: &Manifest,
     outputs: &mut Outputs,
     left: &Left,
-) -> Result<(), Fault>
+) -> Result<(), ShelfFault>
     requires ready { IsReady manifest.now (S.ids shelf.old) outputs.old }
     requires frame { CanBeWritten manifest.now left.now }
     ensures ready { IsReady manifest.now (S.ids shelf.new) outputs.new }
@@ -64,8 +61,7 @@ fn add_left<S: Shelf>(
         → AreCut manifest.now orig (S.file shelf.new) (with_copies text (copies_of left.now))) }
     ensures sent { OnOk result ((sent : ℕ → List Sent) → HasSent manifest.now outputs.old sent → HasSent manifest.now outputs.new (sent_with_copies sent (copies_of left.now))) }
     ensures only { OnlyWrites S.tells manifest.now (S.file shelf.old) (S.file shelf.new) (S.ids shelf.old) (S.ids shelf.new) }
-    ensures causes { IfErr result IsOfWriting }
-    ensures faults { CountsFaults result (S.faults shelf.old) (S.faults shelf.new) }
+    ensures faults { CountsWrites result (S.faults shelf.old) (S.faults shelf.new) }
 {
     if left.row.is_empty() {
         return Ok(());
@@ -80,7 +76,7 @@ pub fn write_left<S: Shelf>(
     manifest: &Manifest,
     outputs: &mut Outputs,
     left: &[Left],
-) -> Result<(), Fault>
+) -> Result<(), ShelfFault>
     requires ready { IsReady manifest.now (S.ids shelf.old) outputs.old }
     requires frames { All (λ x. CanBeWritten manifest.now x) left.now }
     ensures ready { IsReady manifest.now (S.ids shelf.new) outputs.new }
@@ -90,8 +86,7 @@ pub fn write_left<S: Shelf>(
         → AreCut manifest.now orig (S.file shelf.new) (with_left_frames text left.now)) }
     ensures sent { OnOk result ((sent : ℕ → List Sent) → HasSent manifest.now outputs.old sent → HasSent manifest.now outputs.new (sent_with sent left.now)) }
     ensures only { OnlyWrites S.tells manifest.now (S.file shelf.old) (S.file shelf.new) (S.ids shelf.old) (S.ids shelf.new) }
-    ensures causes { IfErr result IsOfWriting }
-    ensures faults { CountsFaults result (S.faults shelf.old) (S.faults shelf.new) }
+    ensures faults { CountsWrites result (S.faults shelf.old) (S.faults shelf.new) }
 {
     for frame in left {
         add_left(shelf, manifest, outputs, frame)?;

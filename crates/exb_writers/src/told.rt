@@ -1,11 +1,10 @@
 //! All that a world tells, written in the files of its kinds.
-ghost use Rattle.std.specs.Prelude.{ℕ, List, All, IfErr, OnErr, OnOk};
+ghost use Rattle.std.specs.Prelude.{ℕ, List, All, OnErr, OnOk};
 ghost use Rattle.exb_model.specs.FlatBridge.{Sent};
 ghost use Rattle.exb_shelf.specs.Files.{Files};
 ghost use Rattle.exb_text.specs.declared.output.Output.{Output};
-ghost use Rattle.exb_inputs.specs.Shelving.{CountsFaults};
 ghost use Rattle.exb_outputs.specs.Sent.{AreCountedAt, HasSent};
-ghost use Rattle.exb_outputs.specs.Shelving.{IsOfWriting, OnlyWrites};
+ghost use Rattle.exb_outputs.specs.Shelving.{CountsWrites, OnlyWrites};
 ghost use Rattle.exb_outputs.specs.Writing.{AreCut, HasTexts, IsReady, pieces_of};
 ghost use Rattle.exb_writers.specs.Counts.{AreCountsOf};
 ghost use Rattle.exb_writers.specs.Leaving.{CanBeWritten, sent_with};
@@ -16,12 +15,11 @@ use crate::journal::write_events;
 use crate::leaving::write_left;
 use crate::trace::write_trace;
 use exb_counters::Counters;
-use exb_inputs::Fault;
 use exb_model::event::Event;
 use exb_model::trace::TraceLine;
 use exb_network::Left;
 use exb_outputs::{Manifest, Outputs};
-use exb_shelf::Shelf;
+use exb_shelf::{Shelf, ShelfFault};
 use exb_text::LineRoom;
 use std::alloc::Global;
 
@@ -52,7 +50,7 @@ pub fn write_told<S: Shelf>(
     events: &[Event],
     left: &[Left],
     lines: &[TraceLine],
-) -> Result<(), Fault>
+) -> Result<(), ShelfFault>
     requires ready { IsReady manifest.now (S.ids shelf.old) outputs.old }
     requires frames { All (λ x. CanBeWritten manifest.now x) left.now }
     ensures ready { IsReady manifest.now (S.ids shelf.new) outputs.new }
@@ -62,8 +60,7 @@ pub fn write_told<S: Shelf>(
         → AreCut manifest.now orig (S.file shelf.new) (with_told text events.now left.now lines.now)) }
     ensures sent { OnOk result ((sent : ℕ → List Sent) → HasSent manifest.now outputs.old sent → HasSent manifest.now outputs.new (sent_with sent left.now)) }
     ensures only { OnlyWrites S.tells manifest.now (S.file shelf.old) (S.file shelf.new) (S.ids shelf.old) (S.ids shelf.new) }
-    ensures causes { IfErr result IsOfWriting }
-    ensures faults { CountsFaults result (S.faults shelf.old) (S.faults shelf.new) }
+    ensures faults { CountsWrites result (S.faults shelf.old) (S.faults shelf.new) }
 {
     write_events(shelf, manifest, outputs, &mut room.line, events)?;
     write_left(shelf, manifest, outputs, left)?;
@@ -77,7 +74,7 @@ pub fn write_end<S: Shelf>(
     outputs: &mut Outputs,
     room: &mut Room,
     ports: &Option<Counters>,
-) -> Result<(), Fault>
+) -> Result<(), ShelfFault>
     requires ready { IsReady manifest.now (S.ids shelf.old) outputs.old }
     requires counted { AreCountsOf manifest.now ports.now }
     requires sent { AreCountedAt manifest.now outputs.old }
@@ -87,8 +84,7 @@ pub fn write_end<S: Shelf>(
     ensures cut { S.tells → OnErr result ((orig : Files) (text : Output → List ℕ) → HasTexts manifest.now (pieces_of outputs.old) orig (S.file shelf.old) text
         → AreCut manifest.now orig (S.file shelf.new) (with_end text manifest.now ports.now outputs.old)) }
     ensures only { OnlyWrites S.tells manifest.now (S.file shelf.old) (S.file shelf.new) (S.ids shelf.old) (S.ids shelf.new) }
-    ensures causes { IfErr result IsOfWriting }
-    ensures faults { CountsFaults result (S.faults shelf.old) (S.faults shelf.new) }
+    ensures faults { CountsWrites result (S.faults shelf.old) (S.faults shelf.new) }
 {
     match ports {
         Some(counters) => write_counters(shelf, manifest, outputs, &mut room.text, counters),

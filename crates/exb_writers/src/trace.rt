@@ -1,18 +1,16 @@
 //! Lines of the trace.
-ghost use Rattle.std.specs.Prelude.{◌≡◌, ◌++◌, ◌∷◌, [], ℕ, List, true, IfErr, OnErr, OnOk};
+ghost use Rattle.std.specs.Prelude.{◌≡◌, ◌++◌, ◌∷◌, [], ℕ, List, true, OnErr, OnOk};
 ghost use Rattle.exb_model.specs.Traces.{trace_line, trace_text};
 ghost use Rattle.exb_shelf.specs.Files.{Files};
 ghost use Rattle.exb_text.specs.declared.output.Output.{Output};
 ghost use Rattle.exb_text.specs.declared.output.Output.TheVariants as output;
-ghost use Rattle.exb_inputs.specs.Shelving.{CountsFaults};
 ghost use Rattle.exb_outputs.specs.Sent.{SameCaptures};
-ghost use Rattle.exb_outputs.specs.Shelving.{IsOfWriting, OnlyWrites};
+ghost use Rattle.exb_outputs.specs.Shelving.{CountsWrites, OnlyWrites};
 ghost use Rattle.exb_outputs.specs.Writing.{AreCut, HasTexts, IsReady, pieces_of, with_more};
 
-use exb_inputs::Fault;
 use exb_model::trace::TraceLine;
 use exb_outputs::{Manifest, Outputs};
-use exb_shelf::Shelf;
+use exb_shelf::{Shelf, ShelfFault};
 use exb_text::{Output, write_trace_line};
 
 /// Puts a line behind the trace, which is asked for.
@@ -22,7 +20,7 @@ fn add_line<S: Shelf>(
     outputs: &mut Outputs,
     line: &mut Vec<u8>,
     one: &TraceLine,
-) -> Result<(), Fault>
+) -> Result<(), ShelfFault>
     requires traced { manifest.now.options.trace ≡ true }
     requires ready { IsReady manifest.now (S.ids shelf.old) outputs.old }
     ensures ready { IsReady manifest.now (S.ids shelf.new) outputs.new }
@@ -32,12 +30,11 @@ fn add_line<S: Shelf>(
         → AreCut manifest.now orig (S.file shelf.new) (with_more text output.Trace (trace_line one.now ++ 10 ∷ []))) }
     ensures same { OnOk result (SameCaptures manifest.now outputs.old outputs.new) }
     ensures only { OnlyWrites S.tells manifest.now (S.file shelf.old) (S.file shelf.new) (S.ids shelf.old) (S.ids shelf.new) }
-    ensures causes { IfErr result IsOfWriting }
-    ensures faults { CountsFaults result (S.faults shelf.old) (S.faults shelf.new) }
+    ensures faults { CountsWrites result (S.faults shelf.old) (S.faults shelf.new) }
 {
     line.clear();
     if write_trace_line(line, one).is_err() {
-        return Err(Fault::Memory);
+        return Err(ShelfFault::Memory);
     }
     outputs.write(shelf, manifest, Output::Trace, line.as_slice())
 }
@@ -49,7 +46,7 @@ pub fn write_trace<S: Shelf>(
     outputs: &mut Outputs,
     line: &mut Vec<u8>,
     lines: &[TraceLine],
-) -> Result<(), Fault>
+) -> Result<(), ShelfFault>
     requires ready { IsReady manifest.now (S.ids shelf.old) outputs.old }
     ensures ready { IsReady manifest.now (S.ids shelf.new) outputs.new }
     ensures texts { S.tells → OnOk result ((orig : Files) (text : Output → List ℕ) → HasTexts manifest.now (pieces_of outputs.old) orig (S.file shelf.old) text
@@ -58,8 +55,7 @@ pub fn write_trace<S: Shelf>(
         → AreCut manifest.now orig (S.file shelf.new) (with_more text output.Trace (trace_text lines.now))) }
     ensures same { OnOk result (SameCaptures manifest.now outputs.old outputs.new) }
     ensures only { OnlyWrites S.tells manifest.now (S.file shelf.old) (S.file shelf.new) (S.ids shelf.old) (S.ids shelf.new) }
-    ensures causes { IfErr result IsOfWriting }
-    ensures faults { CountsFaults result (S.faults shelf.old) (S.faults shelf.new) }
+    ensures faults { CountsWrites result (S.faults shelf.old) (S.faults shelf.new) }
 {
     if !manifest.options().trace {
         return Ok(());

@@ -8,12 +8,12 @@ use Rattle.exb_csp.specs.declared.group_rows.GroupRow.{GroupRow}
 use Rattle.exb_csp.specs.declared.message.Request.{Request}
 use Rattle.exb_csp.specs.declared.message.Request.TheVariants.{PortCreate, PortDelete}
 use Rattle.exb_csp.specs.declared.ask_at.AskAt.{AskAt}
-use Rattle.exb_changing.specs.declared.plans.step.Step.TheVariants.{Lay, Clear}
-use Rattle.exb_changing.specs.Planning.Asks.{ask, register, unregister, numbers_of, message, rows_at, asks_with, in_messages, group_asks, channel_rows, channel_ask, channel_asks, port_number, create_asks, delete_asks}
-use Rattle.exb_changing.specs.Planning.Held.{Held, Group}
-use Rattle.exb_changing.specs.Planning.Between.{goes_up, goes_down, gone_groups}
-use Rattle.exb_changing.specs.Planning.Sets.{sets_of}
-use Rattle.exb_changing.specs.Planning.Plans.{new_channel, own_channel, up_asks, down_asks, fresh_groups, prepare_of, cleanup_of}
+use Rattle.exb_changing.specs.declared.planning.step.Step.TheVariants.{Lay, Clear}
+use Rattle.exb_changing.specs.Plans.Asks.{ask, register, unregister, numbers_of, message, rows_at, asks_with, in_messages, group_asks, channel_rows, channel_ask, channel_asks, port_number, create_asks, delete_asks}
+use Rattle.exb_changing.specs.Plans.Held.{Held, Group}
+use Rattle.exb_changing.specs.Plans.Between.{goes_up, goes_down, gone_groups}
+use Rattle.exb_changing.specs.Plans.Sets.{sets_of}
+use Rattle.exb_changing.specs.Plans.Plans.{new_channel, own_channel, up_asks, down_asks, fresh_groups, prepare_of, cleanup_of}
 use Rattle.exb_changing.specs.Deciding.{cascades_of, channel_of, opening_asks}
 use Rattle.exb_changing.specs.Runs.Growing.{IsAdding, IsClearing, AllAsk, AllAdd, AllClear}
 

@@ -6,11 +6,11 @@ use Rattle.std.proofs.lemmas.Bool.{cases_Bool, and_parts, ltb-true, false≢true
 use mathlib.Core.Path.{fun_ext}
 use Rattle.exb_model.specs.Tree.{Shape, IsTree, device, is_extender, is_port, by_depth}
 use Rattle.exb_model.specs.Setup.{Limits}
-use Rattle.exb_changing.specs.Planning.Held.{Held, is_place, in_spaces}
+use Rattle.exb_changing.specs.Plans.Held.{Held, is_place, in_spaces}
 use Rattle.exb_model.proofs.TreeOrder.{in_order}
 use Rattle.exb_model.specs.Lists.{is_listed}
-use Rattle.exb_changing.specs.Planning.Laws.{IsBeginning, HoldsFirst}
-use Rattle.exb_changing.proofs.Planning.Beginning.{begins_held}
+use Rattle.exb_changing.specs.Plans.Laws.{IsBeginning, HoldsFirst}
+use Rattle.exb_changing.proofs.Plans.Beginning.{begins_held}
 use Rattle.exb_changing.specs.Runs.Laid.{laid}
 use Rattle.exb_changing.proofs.Runs.NothingLaid.{nothing_is_laid}
 use Rattle.exb_changing.specs.Beginning.{nothing_held, with_channel_of, is_deep, deep_cascades, first_held, first_jobs, jobs_of, HasChannels}

@@ -9,17 +9,17 @@ use Rattle.exb_model.specs.Configuration.{Bridge}
 use Rattle.exb_model.specs.Refusals.{is_empty_set, sets_at}
 use Rattle.exb_model.specs.Numbering.{lowest_free}
 use Rattle.exb_model.specs.Numbers.{IsReady}
-use Rattle.exb_changing.specs.Planning.Sets.{PortsAt, sets_of}
-use Rattle.exb_changing.specs.declared.plans.change.Change.{Change}
-use Rattle.exb_changing.specs.Planning.Held.{Held, HoldsNeeded, or_zero, needs_channel, channel_in, channel_used, group_in, group_used, free_channel, free_group, give, give_all, group_for, numbered, numbers_in}
-use Rattle.exb_changing.specs.Planning.Between.{has_set, goes_up, fresh_sets}
-use Rattle.exb_changing.specs.Planning.Plans.{with_channel, new_channel, with_up, fresh_groups, claimed}
-use Rattle.exb_changing.proofs.Planning.Counting.{lowest_unused}
-use Rattle.exb_changing.proofs.Planning.Each.{Each}
-use Rattle.exb_changing.proofs.Planning.SetFacts.{IsBelow, sets_below, has_at}
-use Rattle.exb_changing.proofs.Planning.Owning.{Owns, owns_all, at_port_of, IsGroupOf, group_found, group_there}
-use Rattle.exb_changing.proofs.Planning.Giving.{IsChannelOf, channel_found, channel_there}
-use Rattle.exb_changing.proofs.Planning.Trunks.{under_extended, under_trunk, home_low, home_cascade}
+use Rattle.exb_changing.specs.Plans.Sets.{PortsAt, sets_of}
+use Rattle.exb_changing.specs.declared.planning.change.Change.{Change}
+use Rattle.exb_changing.specs.Plans.Held.{Held, HoldsNeeded, or_zero, needs_channel, channel_in, channel_used, group_in, group_used, free_channel, free_group, give, give_all, group_for, numbered, numbers_in}
+use Rattle.exb_changing.specs.Plans.Between.{has_set, goes_up, fresh_sets}
+use Rattle.exb_changing.specs.Plans.Plans.{with_channel, new_channel, with_up, fresh_groups, claimed}
+use Rattle.exb_changing.proofs.Plans.Counting.{lowest_unused}
+use Rattle.exb_changing.proofs.Plans.Each.{Each}
+use Rattle.exb_changing.proofs.Plans.SetFacts.{IsBelow, sets_below, has_at}
+use Rattle.exb_changing.proofs.Plans.Owning.{Owns, owns_all, at_port_of, IsGroupOf, group_found, group_there}
+use Rattle.exb_changing.proofs.Plans.Giving.{IsChannelOf, channel_found, channel_there}
+use Rattle.exb_changing.proofs.Plans.Trunks.{under_extended, under_trunk, home_low, home_cascade}
 use Rattle.exb_changing.specs.Planned.{IsPlanned}
 use Rattle.exb_changing.proofs.Released.{owned}
 use Rattle.exb_changing.proofs.FreshGroups.{with_set, fresh_now, fresh_placed}

@@ -3,14 +3,14 @@ use Rattle.std.proofs.Common.{◌≡◌, ℕ, ◌+◌, ◌-◌, ◌<◌, ◌==�
 use Rattle.exb_model.specs.Tree.{Shape, IsTree, is_under}
 use Rattle.exb_model.specs.ExtenderForwarding.{Tables}
 use Rattle.exb_model.specs.Configuration.{Bridge}
-use Rattle.exb_changing.specs.Planning.Laying.{IsLaid}
-use Rattle.exb_changing.proofs.Planning.Carrying.{group_words, channel_words}
+use Rattle.exb_changing.specs.Plans.Laying.{IsLaid}
+use Rattle.exb_changing.proofs.Plans.Carrying.{group_words, channel_words}
 use Rattle.exb_csp.specs.AllTables.{tables_at}
 use Rattle.exb_model.specs.Lists.{is_listed}
 use Rattle.exb_model.specs.Carriage.{Carries}
-use Rattle.exb_changing.specs.Planning.Held.{Held, numbers_in}
-use Rattle.exb_changing.proofs.Planning.Owning.{IsGroupOf, group_found}
-use Rattle.exb_changing.proofs.Planning.Giving.{IsChannelOf, channel_found}
+use Rattle.exb_changing.specs.Plans.Held.{Held, numbers_in}
+use Rattle.exb_changing.proofs.Plans.Owning.{IsGroupOf, group_found}
+use Rattle.exb_changing.proofs.Plans.Giving.{IsChannelOf, channel_found}
 use Rattle.exb_changing.proofs.Runs.Members.{set_lies}
 use Rattle.exb_changing.specs.Runs.Midway.{IsLaidFor, CarriesMidway}
 use Rattle.exb_changing.proofs.Runs.LaidMidway.{laid_midway}

@@ -9,17 +9,17 @@ use Rattle.exb_model.proofs.TreeWays.{covers-true}
 use Rattle.exb_csp.specs.declared.group_rows.GroupRow.{GroupRow}
 use Rattle.exb_csp.specs.Execute.{is_channel, is_ecid, in_mask, in_rows, is_named}
 use Rattle.exb_csp.proofs.Executing.{or_false, and_true, mask_empty}
-use Rattle.exb_changing.specs.declared.plans.row.Row.{Row}
-use Rattle.exb_changing.specs.Planning.Rows.{row_of, rows_of}
+use Rattle.exb_changing.specs.declared.planning.row.Row.{Row}
+use Rattle.exb_changing.specs.Plans.Rows.{row_of, rows_of}
 use Rattle.exb_csp.specs.AllTables.{port_of, RunsAt}
 use Rattle.exb_csp.specs.declared.ask_at.AskAt.{AskAt}
-use Rattle.exb_changing.specs.declared.plans.step.Step.{Step}
-use Rattle.exb_changing.specs.declared.plans.step.Step.TheVariants.{Lay, Clear}
-use Rattle.exb_changing.specs.Planning.Held.{Held}
+use Rattle.exb_changing.specs.declared.planning.step.Step.{Step}
+use Rattle.exb_changing.specs.declared.planning.step.Step.TheVariants.{Lay, Clear}
+use Rattle.exb_changing.specs.Plans.Held.{Held}
 use Rattle.exb_model.specs.Lists.{is_listed}
-use Rattle.exb_changing.specs.Planning.Asks.{message, in_messages, pieces, asks_with, ask, channel_rows, channel_ask, channel_asks, create_asks, delete_asks}
+use Rattle.exb_changing.specs.Plans.Asks.{message, in_messages, pieces, asks_with, ask, channel_rows, channel_ask, channel_asks, create_asks, delete_asks}
 use Rattle.exb_changing.specs.Deciding.{channel_of}
-use Rattle.exb_changing.proofs.Planning.Bools.{and_false}
+use Rattle.exb_changing.proofs.Plans.Bools.{and_false}
 use Rattle.exb_changing.specs.Runs.Laid.{has_port, by_extender, channel_pair, group_pair, laid_by}
 use Rattle.exb_changing.proofs.Runs.Tables.{port_at, port_from, port_back, runs_append}
 use Rattle.exb_changing.proofs.Runs.Order.{listed_hangs}

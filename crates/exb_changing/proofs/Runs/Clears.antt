@@ -9,11 +9,11 @@ use Rattle.exb_csp.specs.declared.group_rows.GroupRow.{GroupRow}
 use Rattle.exb_csp.specs.Execute.{ExtenderTables, is_ecid, is_named, clear_code, clears_code, code_of, done}
 use Rattle.exb_csp.proofs.Executing.{or_false, and_true}
 use Rattle.exb_csp.specs.AllTables.{port_of, executes_at, RunsAt}
-use Rattle.exb_changing.specs.declared.plans.step.Step.TheVariants.{Clear}
+use Rattle.exb_changing.specs.declared.planning.step.Step.TheVariants.{Clear}
 use Rattle.exb_model.specs.Lists.{is_listed}
-use Rattle.exb_changing.specs.Planning.Asks.{ask, unregister, numbers_of, message, pieces, in_messages, asks_with}
-use Rattle.exb_changing.proofs.Planning.Each.{Each, list_any-map}
-use Rattle.exb_changing.proofs.Planning.Bools.{and_false}
+use Rattle.exb_changing.specs.Plans.Asks.{ask, unregister, numbers_of, message, pieces, in_messages, asks_with}
+use Rattle.exb_changing.proofs.Plans.Each.{Each, list_any-map}
+use Rattle.exb_changing.proofs.Plans.Bools.{and_false}
 use Rattle.exb_changing.specs.Runs.Laid.{has_port, by_extender}
 use Rattle.exb_changing.proofs.Runs.Bools.{by_zero}
 use Rattle.exb_changing.proofs.Runs.Puts.{front_each, back_each}

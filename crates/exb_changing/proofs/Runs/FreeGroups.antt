@@ -3,13 +3,13 @@ use Rattle.std.proofs.Common.{◌≡◌, ◌≢◌, ◌⊎◌, ℕ, ◌+◌, ◌
 use Rattle.std.specs.Prelude.{is_some}
 use Rattle.std.proofs.lemmas.Bool.{cases_eq, false≢true}
 use Rattle.exb_model.specs.Refusals.{is_empty_set}
-use Rattle.exb_changing.specs.Planning.Sets.{PortsAt}
+use Rattle.exb_changing.specs.Plans.Sets.{PortsAt}
 use Rattle.exb_model.specs.Numbering.{lowest_free}
-use Rattle.exb_changing.specs.Planning.Held.{Held, Group, group_used, or_zero, group_for, give, give_all, numbered}
-use Rattle.exb_changing.specs.Planning.Making.{AreFresh}
-use Rattle.exb_changing.proofs.Planning.Ranges.{IsFound, found}
-use Rattle.exb_changing.proofs.Planning.Each.{Each, each_map}
-use Rattle.exb_changing.proofs.Planning.Claiming.{AreLow, given_here, given_else, free_set}
+use Rattle.exb_changing.specs.Plans.Held.{Held, Group, group_used, or_zero, group_for, give, give_all, numbered}
+use Rattle.exb_changing.specs.Plans.Making.{AreFresh}
+use Rattle.exb_changing.proofs.Plans.Ranges.{IsFound, found}
+use Rattle.exb_changing.proofs.Plans.Each.{Each, each_map}
+use Rattle.exb_changing.proofs.Plans.Claiming.{AreLow, given_here, given_else, free_set}
 
 pub record IsFreeGroup (h : Held) (x : Group) : Type 0 where
   pub from1 : 1 ≤ x.bridge_port

@@ -9,16 +9,16 @@ use Rattle.exb_model.proofs.TreeWays.{covers-true, path_is}
 use Rattle.exb_csp.specs.declared.group_rows.GroupRow.{GroupRow}
 use Rattle.exb_csp.specs.Execute.{is_channel, is_ecid, is_named}
 use Rattle.exb_csp.proofs.Executing.{and_true}
-use Rattle.exb_changing.specs.Planning.Sets.{PortsAt}
-use Rattle.exb_changing.proofs.Planning.Ways.{from_under, trunk_along}
+use Rattle.exb_changing.specs.Plans.Sets.{PortsAt}
+use Rattle.exb_changing.proofs.Plans.Ways.{from_under, trunk_along}
 use Rattle.exb_csp.specs.AllTables.{port_of, RunsAt}
-use Rattle.exb_changing.specs.declared.plans.step.Step.TheVariants.{Clear}
-use Rattle.exb_changing.specs.Planning.Held.{Held, Group, group_used, or_zero, free_where}
-use Rattle.exb_changing.specs.Planning.Between.{is_gone, group_at, gone_groups}
+use Rattle.exb_changing.specs.declared.planning.step.Step.TheVariants.{Clear}
+use Rattle.exb_changing.specs.Plans.Held.{Held, Group, group_used, or_zero, free_where}
+use Rattle.exb_changing.specs.Plans.Between.{is_gone, group_at, gone_groups}
 use Rattle.exb_model.specs.Lists.{is_listed}
-use Rattle.exb_changing.specs.Planning.Asks.{rows_at, group_asks}
+use Rattle.exb_changing.specs.Plans.Asks.{rows_at, group_asks}
 use Rattle.exb_changing.proofs.Released.{channel_by}
-use Rattle.exb_changing.proofs.Planning.GoneGroups.{IsGoneAt, gone_found, gone_there}
+use Rattle.exb_changing.proofs.Plans.GoneGroups.{IsGoneAt, gone_found, gone_there}
 use Rattle.exb_changing.specs.Runs.Laid.{is_shown, channel_pair, group_pair, laid_by, laid}
 use Rattle.exb_changing.proofs.Runs.Bools.{not_both}
 use Rattle.exb_changing.proofs.Runs.Tables.{port_back}

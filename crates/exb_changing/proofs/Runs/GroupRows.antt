@@ -10,12 +10,12 @@ use Rattle.exb_csp.specs.declared.group_rows.GroupRow.{GroupRow}
 use Rattle.exb_csp.specs.Execute.{is_channel, in_mask, in_rows, is_named}
 use Rattle.exb_csp.proofs.Executing.{or_false, or_assoc, mask_empty}
 use Rattle.exb_csp.specs.AllTables.{port_of, RunsAt}
-use Rattle.exb_changing.specs.declared.plans.step.Step.TheVariants.{Lay}
-use Rattle.exb_changing.specs.Planning.Held.{Held, Group, group_used, or_zero, give, give_all}
+use Rattle.exb_changing.specs.declared.planning.step.Step.TheVariants.{Lay}
+use Rattle.exb_changing.specs.Plans.Held.{Held, Group, group_used, or_zero, give, give_all}
 use Rattle.exb_model.specs.Lists.{is_listed}
-use Rattle.exb_changing.specs.Planning.Asks.{rows_at, group_asks}
-use Rattle.exb_changing.proofs.Planning.Each.{Each}
-use Rattle.exb_changing.proofs.Planning.Claiming.{given_here, given_else}
+use Rattle.exb_changing.specs.Plans.Asks.{rows_at, group_asks}
+use Rattle.exb_changing.proofs.Plans.Each.{Each}
+use Rattle.exb_changing.proofs.Plans.Claiming.{given_here, given_else}
 use Rattle.exb_changing.specs.Deciding.{channel_of}
 use Rattle.exb_changing.proofs.FreshGroups.{given_port}
 use Rattle.exb_changing.proofs.Released.{channel_by}

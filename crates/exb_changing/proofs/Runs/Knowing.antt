@@ -9,7 +9,7 @@ use Rattle.exb_csp.specs.Sessions.Asking.{AskerState, beaten, message_again, too
 use Rattle.exb_model.specs.Tree.{Shape}
 use Rattle.exb_model.specs.Setup.{Limits}
 use Rattle.exb_csp.specs.declared.ask_at.AskAt.{AskAt}
-use Rattle.exb_changing.specs.declared.plans.change.Change.{Change}
+use Rattle.exb_changing.specs.declared.planning.change.Change.{Change}
 use Rattle.exb_changing.specs.declared.asked.Asked.{Asked}
 use Rattle.exb_changing.specs.declared.job.Job.{Job}
 use Rattle.exb_changing.specs.declared.job.Job.TheVariants as job

@@ -7,15 +7,15 @@ use Rattle.exb_model.specs.Tree.{Shape, IsTree, device, trunk, is_extender, is_c
 use Rattle.exb_model.specs.TreeSets.{covers}
 use Rattle.exb_model.specs.Configuration.{Bridge}
 use Rattle.exb_model.specs.Refusals.{is_empty_set, sets_at}
-use Rattle.exb_changing.specs.Planning.Laying.{is_port_under, SendsOn, IsLaid}
+use Rattle.exb_changing.specs.Plans.Laying.{is_port_under, SendsOn, IsLaid}
 use Rattle.exb_csp.specs.Execute.{ExtenderTables}
 use Rattle.exb_csp.specs.AllTables.{tables_at}
 use Rattle.exb_model.specs.Lists.{is_listed}
 use Rattle.exb_model.specs.Numbers.{IsReady}
-use Rattle.exb_changing.specs.Planning.Held.{Held, or_zero, needs_channel, channel_in, group_in, group_used, numbers_in}
-use Rattle.exb_changing.proofs.Planning.Owning.{IsGroupOf, group_found}
-use Rattle.exb_changing.proofs.Planning.Giving.{IsChannelOf, channel_found}
-use Rattle.exb_changing.proofs.Planning.Trunks.{under_extended, under_trunk, home_low, home_cascade, extended_external}
+use Rattle.exb_changing.specs.Plans.Held.{Held, or_zero, needs_channel, channel_in, group_in, group_used, numbers_in}
+use Rattle.exb_changing.proofs.Plans.Owning.{IsGroupOf, group_found}
+use Rattle.exb_changing.proofs.Plans.Giving.{IsChannelOf, channel_found}
+use Rattle.exb_changing.proofs.Plans.Trunks.{under_extended, under_trunk, home_low, home_cascade, extended_external}
 use Rattle.exb_changing.specs.Runs.Laid.{is_shown, laid}
 use Rattle.exb_changing.specs.Runs.Requests.{IsLaidOut}
 use Rattle.exb_changing.proofs.Runs.LaidOut.{rest_is_laid_out}

@@ -10,18 +10,18 @@ use Rattle.exb_model.specs.Configuration.{Bridge}
 use Rattle.exb_model.specs.Refusals.{sets_at}
 use Rattle.exb_model.proofs.TreeWays.{among, covers-true}
 use Rattle.exb_csp.proofs.Executing.{or_false, and_true}
-use Rattle.exb_changing.specs.Planning.Laying.{IsLaid, IsFree, SendsOn, is_port_under}
-use Rattle.exb_changing.proofs.Planning.Ways.{from_test, from_under, from_cascade}
+use Rattle.exb_changing.specs.Plans.Laying.{IsLaid, IsFree, SendsOn, is_port_under}
+use Rattle.exb_changing.proofs.Plans.Ways.{from_test, from_under, from_cascade}
 use Rattle.exb_csp.specs.AllTables.{tables_at, port_of}
-use Rattle.exb_changing.specs.Planning.Held.{Held, group_used, needs_channel}
+use Rattle.exb_changing.specs.Plans.Held.{Held, group_used, needs_channel}
 use Rattle.exb_model.specs.Lists.{is_listed}
-use Rattle.exb_changing.proofs.Planning.Trunks.{port_extender, under_extended}
-use Rattle.exb_changing.proofs.Planning.Owning.{owns_from}
+use Rattle.exb_changing.proofs.Plans.Trunks.{port_extender, under_extended}
+use Rattle.exb_changing.proofs.Plans.Owning.{owns_from}
 use Rattle.exb_changing.specs.Deciding.{channel_of}
 use Rattle.exb_changing.specs.Runs.Laid.{by_extender, is_shown, channel_pair, group_pair, laid_by, laid}
 use Rattle.exb_changing.specs.Runs.Requests.{IsLaidOut, RestIsLaidOut}
 use Rattle.exb_changing.proofs.Runs.Bools.{none_there}
-use Rattle.exb_changing.proofs.Planning.Options.{some_is}
+use Rattle.exb_changing.proofs.Plans.Options.{some_is}
 use Rattle.exb_changing.proofs.Runs.Tables.{port_there, port_back}
 use Rattle.exb_changing.proofs.Runs.Reach.{ways}
 use Rattle.exb_changing.proofs.Runs.ChannelRuns.{covers_none}

@@ -7,12 +7,12 @@ use Rattle.exb_model.specs.Ports.{below, all_ports}
 use Rattle.exb_model.specs.Tree.{Shape, is_under}
 use Rattle.exb_model.specs.Configuration.{Bridge}
 use Rattle.exb_model.specs.Refusals.{Source, sources, part, without_isolated, is_empty_set, sets_at, is_kind}
-use Rattle.exb_changing.specs.Planning.Sets.{PortsAt, parts_of, parts_below, is_same_set, with_set_at, sets_of}
+use Rattle.exb_changing.specs.Plans.Sets.{PortsAt, parts_of, parts_below, is_same_set, with_set_at, sets_of}
 use Rattle.exb_model.specs.Lists.{is_listed}
-use Rattle.exb_changing.specs.Planning.Between.{has_set}
-use Rattle.exb_changing.proofs.Planning.Each.{Each, each_append, each_flat, each_range}
-use Rattle.exb_changing.proofs.Planning.Claiming.{set_is}
-use Rattle.exb_changing.proofs.Planning.SetFacts.{has_at}
+use Rattle.exb_changing.specs.Plans.Between.{has_set}
+use Rattle.exb_changing.proofs.Plans.Each.{Each, each_append, each_flat, each_range}
+use Rattle.exb_changing.proofs.Plans.Claiming.{set_is}
+use Rattle.exb_changing.proofs.Plans.SetFacts.{has_at}
 
 -- ---- lists
 listed_passes : (test : ℕ → Bool) (xs : List ℕ) (q : ℕ) → is_listed (filter test xs) q ≡ true → (is_listed xs q ≡ true) × (test q ≡ true)

@@ -2,12 +2,12 @@
 use Rattle.std.proofs.Common.{◌≡◌, ℕ, Option, Some, None, refl, sym, ◌∙◌, ap, subst, eq-eqb}
 use Rattle.exb_model.specs.Configuration.{Bridge}
 use Rattle.exb_model.specs.Numbers.{IsReady}
-use Rattle.exb_changing.specs.Planning.Held.{numbers_in}
+use Rattle.exb_changing.specs.Plans.Held.{numbers_in}
 use Rattle.exb_csp.specs.declared.message.Response.{Response}
 use Rattle.exb_csp.specs.declared.session.asker.Taken.{Taken}
 use Rattle.exb_csp.specs.Sessions.Asking.{AskerState}
-use Rattle.exb_changing.proofs.Planning.Owning.{IsGroupOf, group_found}
-use Rattle.exb_changing.proofs.Planning.Giving.{IsChannelOf, channel_found}
+use Rattle.exb_changing.proofs.Plans.Owning.{IsGroupOf, group_found}
+use Rattle.exb_changing.proofs.Plans.Giving.{IsChannelOf, channel_found}
 use Rattle.exb_changing.specs.declared.job.Phase.{Phase}
 use Rattle.exb_changing.specs.declared.job.Phase.TheVariants.{Preparing, Cleaning}
 use Rattle.exb_changing.specs.Machine.{Work}
@@ -15,7 +15,7 @@ use Rattle.exb_changing.specs.Runs.Standing.{waited_for, IsBefore, StandsBy, Wor
 use Rattle.exb_changing.specs.Runs.Planned.{planning, ReadyMidway, AnswersAreTaken, HeldAreNumbers}
 use Rattle.exb_changing.proofs.Runs.Taking.{takes}
 use Rattle.exb_changing.proofs.Runs.Both.{needed_numbers}
-use Rattle.exb_changing.proofs.Planning.Options.{some_is}
+use Rattle.exb_changing.proofs.Plans.Options.{some_is}
 
 pub ready_midway : ReadyMidway
 ready_midway t y valid stands = by_work y.state.work stands.stands

@@ -5,13 +5,13 @@ use Rattle.exb_model.specs.Tree.{Shape, is_cascade, is_extended, is_under, is_ca
 use Rattle.exb_model.specs.Setup.{Limits}
 use Rattle.exb_model.specs.Configuration.{Bridge}
 use Rattle.exb_model.specs.Refusals.{is_empty_set}
-use Rattle.exb_changing.specs.Planning.Sets.{PortsAt}
-use Rattle.exb_changing.specs.Planning.Held.{Held, Group, group_used, needs_channel, give, give_all, group_for, numbered}
-use Rattle.exb_changing.specs.Planning.Between.{goes_up, fresh_sets}
-use Rattle.exb_changing.specs.Planning.Plans.{new_channel, with_up, fresh_groups, claimed}
-use Rattle.exb_changing.proofs.Planning.Each.{Each, each_map}
-use Rattle.exb_changing.proofs.Planning.Claiming.{given_here, given_else}
-use Rattle.exb_changing.proofs.Planning.Trunks.{under_extended}
+use Rattle.exb_changing.specs.Plans.Sets.{PortsAt}
+use Rattle.exb_changing.specs.Plans.Held.{Held, Group, group_used, needs_channel, give, give_all, group_for, numbered}
+use Rattle.exb_changing.specs.Plans.Between.{goes_up, fresh_sets}
+use Rattle.exb_changing.specs.Plans.Plans.{new_channel, with_up, fresh_groups, claimed}
+use Rattle.exb_changing.proofs.Plans.Each.{Each, each_map}
+use Rattle.exb_changing.proofs.Plans.Claiming.{given_here, given_else}
+use Rattle.exb_changing.proofs.Plans.Trunks.{under_extended}
 use Rattle.exb_changing.proofs.FreshGroups.{with_set}
 use Rattle.exb_changing.proofs.Released.{owned}
 use Rattle.exb_changing.specs.Runs.Requests.{IsReady, IsLaidOut, ClaimedIsLaidOut}

@@ -6,11 +6,11 @@ use Rattle.exb_model.specs.Tree.{Shape, IsTree, device, trunk, is_port, is_casca
 use Rattle.exb_model.specs.Configuration.{Bridge}
 use Rattle.exb_model.specs.ExtenderForwarding.{Tables}
 use Rattle.exb_csp.specs.Plain.{powered_on}
-use Rattle.exb_changing.proofs.Planning.Ways.{from_cascade}
-use Rattle.exb_changing.specs.Planning.Held.{Held, channel_in, or_zero}
-use Rattle.exb_changing.specs.Planning.Laws.{IsBeginning}
+use Rattle.exb_changing.proofs.Plans.Ways.{from_cascade}
+use Rattle.exb_changing.specs.Plans.Held.{Held, channel_in, or_zero}
+use Rattle.exb_changing.specs.Plans.Laws.{IsBeginning}
 use Rattle.exb_changing.specs.Deciding.{channel_of}
-use Rattle.exb_changing.proofs.Planning.Bools.{and_false}
+use Rattle.exb_changing.proofs.Plans.Bools.{and_false}
 use Rattle.exb_changing.specs.Runs.Laid.{has_port, by_extender, is_shown, channel_pair, group_pair, laid_by}
 use Rattle.exb_changing.specs.Runs.Requests.{NothingIsLaid}
 use Rattle.exb_changing.proofs.Runs.Tables.{like_tables, same_extender}

@@ -11,21 +11,21 @@ use Rattle.exb_model.proofs.TreeWays.{path_is, covers-true}
 use Rattle.exb_csp.specs.declared.group_rows.GroupRow.{GroupRow}
 use Rattle.exb_csp.specs.declared.ask_at.AskAt.{AskAt}
 use Rattle.exb_csp.specs.AllTables.{port_of}
-use Rattle.exb_changing.specs.declared.plans.row.Row.{Row}
-use Rattle.exb_changing.specs.declared.plans.step.Step.{Step}
-use Rattle.exb_changing.specs.declared.plans.step.Step.TheVariants.{Lay, Clear}
+use Rattle.exb_changing.specs.declared.planning.row.Row.{Row}
+use Rattle.exb_changing.specs.declared.planning.step.Step.{Step}
+use Rattle.exb_changing.specs.declared.planning.step.Step.TheVariants.{Lay, Clear}
 use Rattle.exb_model.specs.Lists.{is_listed}
-use Rattle.exb_changing.specs.Planning.Asks.{ask, message, rows_at, asks_with, in_messages, pieces, group_asks, channel_rows, channel_ask, channel_asks, create_asks, delete_asks}
-use Rattle.exb_changing.specs.Planning.Between.{goes_up, goes_down, fresh_sets, gone_groups}
-use Rattle.exb_changing.specs.Planning.Held.{Held, Group, HoldsNeeded, group_used, group_for, give, numbered}
-use Rattle.exb_changing.specs.Planning.Plans.{new_channel, own_channel, with_up, up_asks, down_asks, fresh_groups, prepare_of, cleanup_of}
-use Rattle.exb_changing.specs.Planning.Rows.{row_of, rows_of}
-use Rattle.exb_changing.specs.Planning.Sets.{PortsAt, sets_of}
-use Rattle.exb_changing.proofs.Planning.Channels.{Rises, rises_is, goes_up_rises}
-use Rattle.exb_changing.proofs.Planning.Each.{Each, each_map, each_filter, few-filter}
-use Rattle.exb_changing.proofs.Planning.GoneGroups.{IsGoneAt, gone_found}
-use Rattle.exb_changing.proofs.Planning.Lengths.{flat_at_most, few_range}
-use Rattle.exb_changing.proofs.Planning.Trunks.{under_extended, extended_high}
+use Rattle.exb_changing.specs.Plans.Asks.{ask, message, rows_at, asks_with, in_messages, pieces, group_asks, channel_rows, channel_ask, channel_asks, create_asks, delete_asks}
+use Rattle.exb_changing.specs.Plans.Between.{goes_up, goes_down, fresh_sets, gone_groups}
+use Rattle.exb_changing.specs.Plans.Held.{Held, Group, HoldsNeeded, group_used, group_for, give, numbered}
+use Rattle.exb_changing.specs.Plans.Plans.{new_channel, own_channel, with_up, up_asks, down_asks, fresh_groups, prepare_of, cleanup_of}
+use Rattle.exb_changing.specs.Plans.Rows.{row_of, rows_of}
+use Rattle.exb_changing.specs.Plans.Sets.{PortsAt, sets_of}
+use Rattle.exb_changing.proofs.Plans.Channels.{Rises, rises_is, goes_up_rises}
+use Rattle.exb_changing.proofs.Plans.Each.{Each, each_map, each_filter, few-filter}
+use Rattle.exb_changing.proofs.Plans.GoneGroups.{IsGoneAt, gone_found}
+use Rattle.exb_changing.proofs.Plans.Lengths.{flat_at_most, few_range}
+use Rattle.exb_changing.proofs.Plans.Trunks.{under_extended, extended_high}
 use Rattle.exb_changing.specs.Deciding.{cascades_of, channel_of, opening_asks}
 use Rattle.exb_changing.specs.Planned.{IsPlanned}
 use Rattle.exb_changing.proofs.Short.{channel_few, changes_are_short}
@@ -215,7 +215,7 @@ module _ (t : Shape) (tree : IsTree t) (opened : ℕ → Bool) (above : (n : ℕ
           let there = needed.groups k.port (h.set k.port k.group) k.low_port k.cascade in
           let found = needed.one_group k.port k.group k.low_port k.cascade used in
           let lies = set_lies t old k.port (h.set k.port k.group) k.low_port (sym there ∙ ap Rattle.std.specs.Prelude.is_some found) in
-          record { item = Rattle.exb_changing.specs.Planning.Between.group_at h k.port k.group; is = lies_there old order.present _ lies; passes = k.passes }
+          record { item = Rattle.exb_changing.specs.Plans.Between.group_at h k.port k.group; is = lies_there old order.present _ lies; passes = k.passes }
 
 -- ---- few
 pub change_few : (t : Shape) (l : Limits) (old new : Bridge) (h : Held) → IsPlanned t l old new h → (opened : ℕ → Bool) → GoTo opened (prepare_of t l old new h) → GoTo opened (cleanup_of t old new h) →

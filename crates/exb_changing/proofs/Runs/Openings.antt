@@ -8,12 +8,12 @@ use Rattle.exb_model.specs.Configuration.{Bridge}
 use Rattle.exb_model.proofs.TreeHung.{cascade_hangs}
 use Rattle.exb_csp.specs.declared.message.Request.TheVariants.{Open}
 use Rattle.exb_csp.specs.Execute.{code_of, done}
-use Rattle.exb_changing.specs.Planning.Held.{Held}
+use Rattle.exb_changing.specs.Plans.Held.{Held}
 use Rattle.exb_model.specs.Lists.{is_listed}
-use Rattle.exb_changing.specs.Planning.Asks.{ask, create_asks}
-use Rattle.exb_changing.proofs.Planning.Each.{Each, each_map, each_filter}
+use Rattle.exb_changing.specs.Plans.Asks.{ask, create_asks}
+use Rattle.exb_changing.proofs.Plans.Each.{Each, each_map, each_filter}
 use Rattle.exb_changing.specs.Deciding.{channel_of, cascades_of, opening_asks}
-use Rattle.exb_changing.proofs.Planning.Bools.{same_tests, eq_turned, PassesIn, any_found, any_there}
+use Rattle.exb_changing.proofs.Plans.Bools.{same_tests, eq_turned, PassesIn, any_found, any_there}
 use Rattle.exb_changing.specs.Runs.Laid.{by_extender, is_shown, laid_by, laid}
 use Rattle.exb_csp.specs.AllTables.{RunsAt}
 use Rattle.exb_changing.specs.Runs.Requests.{CanOpen, with_opened, OpeningsRun}

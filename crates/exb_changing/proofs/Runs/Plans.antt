@@ -7,18 +7,18 @@ use Rattle.exb_model.specs.declared.event.Cause.{Cause}
 use Rattle.exb_model.specs.Tree.{Shape, device, on, is_cascade, is_extender, is_extended, is_external}
 use Rattle.exb_model.specs.Setup.{Limits, NamesExternal}
 use Rattle.exb_model.specs.Configuration.{Bridge, after}
-use Rattle.exb_changing.specs.Planning.Sets.{PortsAt}
+use Rattle.exb_changing.specs.Plans.Sets.{PortsAt}
 use Rattle.exb_model.specs.Refusals.{is_empty_set}
 use Rattle.exb_model.specs.Numbers.{IsReady as NumbersAreReady}
-use Rattle.exb_changing.specs.declared.plans.change.Change.{Change}
-use Rattle.exb_changing.specs.Planning.Held.{Held, HoldsNeeded, group_in, group_used, numbers_in}
-use Rattle.exb_changing.specs.Planning.Between.{goes_up, refusal_between, fresh_sets}
-use Rattle.exb_changing.specs.Planning.Plans.{claimed, freed, fresh_groups, with_up, new_channel, change_of, cleanup_of}
-use Rattle.exb_changing.specs.Planning.Laws.{IsStep}
-use Rattle.exb_changing.proofs.Planning.Each.{each_map}
-use Rattle.exb_changing.proofs.Planning.SetFacts.{IsBelow}
-use Rattle.exb_changing.proofs.Planning.Trunks.{extended_external}
-use Rattle.exb_changing.proofs.Planning.Channels.{Rises, rises_is, goes_up_rises}
+use Rattle.exb_changing.specs.declared.planning.change.Change.{Change}
+use Rattle.exb_changing.specs.Plans.Held.{Held, HoldsNeeded, group_in, group_used, numbers_in}
+use Rattle.exb_changing.specs.Plans.Between.{goes_up, refusal_between, fresh_sets}
+use Rattle.exb_changing.specs.Plans.Plans.{claimed, freed, fresh_groups, with_up, new_channel, change_of, cleanup_of}
+use Rattle.exb_changing.specs.Plans.Laws.{IsStep}
+use Rattle.exb_changing.proofs.Plans.Each.{each_map}
+use Rattle.exb_changing.proofs.Plans.SetFacts.{IsBelow}
+use Rattle.exb_changing.proofs.Plans.Trunks.{extended_external}
+use Rattle.exb_changing.proofs.Plans.Channels.{Rises, rises_is, goes_up_rises}
 use Rattle.exb_changing.specs.Runs.Laid.{laid}
 use Rattle.exb_csp.specs.AllTables.{RunsAt}
 use Rattle.exb_changing.specs.Runs.Requests.{AreOpened, IsLaidOut, IsReady, CanOpen, with_opened}
@@ -40,7 +40,7 @@ use Rattle.exb_changing.specs.Runs.Standing.{AreFew, opens, IsPlanned as IsSound
 use Rattle.exb_changing.specs.Runs.Planned.{IsSetting, IsExact, HasBoth, FitsJob, planning, PlannedStepsStand, PlannedRunsStand}
 use Rattle.exb_changing.proofs.Runs.Steps.{steps_stand, runs_stand}
 use Rattle.exb_changing.proofs.Runs.Both.{needed_numbers, numbers_kept, released_kept, claimed_kept, claimed_owns, all_kept}
-use Rattle.exb_changing.proofs.Planning.Options.{some_is}
+use Rattle.exb_changing.proofs.Plans.Options.{some_is}
 
 -- a port is present after a command where it was before, or the command made it go up
 present_or_up : (c : Command) (b : Bridge) (q : ℕ) → (after c b).present q ≡ true → (b.present q ≡ true) ⊎ (c ≡ command.Up q)

@@ -7,8 +7,8 @@ use Rattle.exb_csp.specs.declared.message.Request.TheVariants.{PortCreate, PortD
 use Rattle.exb_csp.specs.Execute.{is_channel, code_of, done}
 use Rattle.exb_csp.proofs.Executing.{or_false, and_true}
 use Rattle.exb_csp.specs.AllTables.{port_of, RunsAt}
-use Rattle.exb_changing.specs.Planning.Asks.{ask, port_number}
-use Rattle.exb_changing.proofs.Planning.Bools.{same_tests}
+use Rattle.exb_changing.specs.Plans.Asks.{ask, port_number}
+use Rattle.exb_changing.proofs.Plans.Bools.{same_tests}
 use Rattle.exb_changing.specs.Runs.Laid.{has_port, by_extender}
 use Rattle.exb_changing.proofs.Runs.Tables.{Like, PortAt, port_at, port_there, port_back, like_tables, same_extender, runs_to, runs_one}
 use Rattle.exb_changing.proofs.Runs.Puts.{no_pair}

@@ -9,10 +9,10 @@ use Rattle.exb_csp.specs.declared.group_rows.GroupRow.{GroupRow}
 use Rattle.exb_csp.specs.Execute.{ExtenderTables, in_mask, is_ecid, has_pair, has_stray, is_named, row_code, rows_code, code_of, in_rows, done}
 use Rattle.exb_csp.proofs.Executing.{some_port-false, or_false}
 use Rattle.exb_csp.specs.AllTables.{port_of, executes_at, RunsAt}
-use Rattle.exb_changing.specs.declared.plans.step.Step.TheVariants.{Lay}
-use Rattle.exb_changing.specs.Planning.Asks.{ask, register, message, pieces, in_messages, asks_with}
-use Rattle.exb_changing.proofs.Planning.Each.{Each}
-use Rattle.exb_changing.proofs.Planning.Bools.{and_false, eq_turned}
+use Rattle.exb_changing.specs.declared.planning.step.Step.TheVariants.{Lay}
+use Rattle.exb_changing.specs.Plans.Asks.{ask, register, message, pieces, in_messages, asks_with}
+use Rattle.exb_changing.proofs.Plans.Each.{Each}
+use Rattle.exb_changing.proofs.Plans.Bools.{and_false, eq_turned}
 use Rattle.exb_changing.specs.Runs.Laid.{has_port, by_extender}
 use Rattle.exb_changing.proofs.Runs.Bools.{by_zero}
 use Rattle.exb_changing.proofs.Runs.Tables.{port_at, same_tables, same_extender, runs_to, runs_from, executes_to}

@@ -7,7 +7,7 @@ use mathlib.Core.Path.{fun_ext}
 use Rattle.exb_model.specs.Tree.{Shape, IsTree, HangsOn, device, on, depth, is_extender, is_external, is_extended, is_port, by_depth, externals_of}
 use Rattle.exb_model.proofs.TreeOrder.{by_depth-sorted, by_depth-hangs, less_deep, place_of}
 use Rattle.exb_model.specs.Lists.{is_listed}
-use Rattle.exb_changing.proofs.Planning.Trunks.{extended_extender, port_extender}
+use Rattle.exb_changing.proofs.Plans.Trunks.{extended_extender, port_extender}
 use Rattle.exb_changing.proofs.Runs.Tables.{AreDistinct}
 use Rattle.exb_changing.proofs.Runs.Order.{distinct_by_depth}
 use Rattle.exb_changing.specs.declared.job.Job.{Job}

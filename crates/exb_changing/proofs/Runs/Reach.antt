@@ -8,9 +8,9 @@ use Rattle.exb_model.proofs.MaskLemmas.{bits_of-lt, bit_at-bits_of, bit_is_one}
 use Rattle.exb_model.proofs.TreeWays.{up_high, up_low, up_none, among, among_cases, among_none, path_is, up_itself, port_above, port_below, cascade_above, covers-true, covers-from}
 use Rattle.exb_csp.specs.Execute.{in_mask, some_port}
 use Rattle.exb_csp.proofs.Executing.{find_port, some_bit, mask_empty}
-use Rattle.exb_changing.proofs.Planning.Ways.{trunk_along, less_above}
+use Rattle.exb_changing.proofs.Plans.Ways.{trunk_along, less_above}
 use Rattle.exb_csp.specs.AllTables.{port_of}
-use Rattle.exb_changing.proofs.Planning.Trunks.{port_extender, hung_cascade}
+use Rattle.exb_changing.proofs.Plans.Trunks.{port_extender, hung_cascade}
 
 -- ---- masks
 pub mask_bit : (t : Shape) (set : ℕ → Bool) (n k : ℕ) → 0 < k → k ≤ 64 → in_mask (mask_of t set n) k ≡ covers t set (port_of n k)

@@ -5,13 +5,13 @@ use Rattle.exb_model.specs.Tree.{Shape, device, trunk, is_cascade, is_extended, 
 use Rattle.exb_model.specs.TreeSets.{covers}
 use Rattle.exb_model.specs.Configuration.{Bridge}
 use Rattle.exb_model.proofs.TreeWays.{covers-true}
-use Rattle.exb_changing.specs.Planning.Sets.{PortsAt}
-use Rattle.exb_changing.proofs.Planning.Ways.{from_under}
-use Rattle.exb_changing.specs.Planning.Held.{Held, group_for, give, numbered, needs_channel}
+use Rattle.exb_changing.specs.Plans.Sets.{PortsAt}
+use Rattle.exb_changing.proofs.Plans.Ways.{from_under}
+use Rattle.exb_changing.specs.Plans.Held.{Held, group_for, give, numbered, needs_channel}
 use Rattle.exb_model.specs.Lists.{is_listed}
-use Rattle.exb_changing.proofs.Planning.Each.{Each}
-use Rattle.exb_changing.proofs.Planning.Claiming.{AreLow}
-use Rattle.exb_changing.proofs.Planning.Trunks.{port_extender, under_extended}
+use Rattle.exb_changing.proofs.Plans.Each.{Each}
+use Rattle.exb_changing.proofs.Plans.Claiming.{AreLow}
+use Rattle.exb_changing.proofs.Plans.Trunks.{port_extender, under_extended}
 use Rattle.exb_changing.specs.Deciding.{channel_of}
 use Rattle.exb_changing.specs.Runs.Laid.{is_shown}
 use Rattle.exb_changing.proofs.Runs.Reach.{ways}

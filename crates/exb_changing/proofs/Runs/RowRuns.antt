@@ -9,9 +9,9 @@ use Rattle.exb_csp.specs.declared.group_rows.GroupRow.{GroupRow}
 use Rattle.exb_csp.specs.Execute.{in_rows, is_named}
 use Rattle.exb_csp.proofs.Executing.{or_false, and_true}
 use Rattle.exb_csp.specs.AllTables.{port_of, RunsAt}
-use Rattle.exb_changing.specs.declared.plans.step.Step.TheVariants.{Lay, Clear}
+use Rattle.exb_changing.specs.declared.planning.step.Step.TheVariants.{Lay, Clear}
 use Rattle.exb_model.specs.Lists.{is_listed}
-use Rattle.exb_changing.specs.Planning.Asks.{asks_with}
+use Rattle.exb_changing.specs.Plans.Asks.{asks_with}
 use Rattle.exb_changing.specs.Runs.Laid.{by_extender}
 use Rattle.exb_changing.proofs.Runs.Tables.{Like, port_at, like_tables, same_tables, runs_to, runs_each, changed}
 use Rattle.exb_changing.proofs.Runs.Puts.{AllPut, AreApart, put_at, put_runs}

@@ -5,27 +5,27 @@ use Rattle.exb_model.specs.Tree.{Shape, device, trunk, is_port, is_cascade, is_e
 use Rattle.exb_model.specs.Setup.{Limits}
 use Rattle.exb_model.specs.Configuration.{Bridge}
 use Rattle.exb_model.specs.Refusals.{is_empty_set, channels_short}
-use Rattle.exb_changing.specs.Planning.Sets.{sets_of}
-use Rattle.exb_changing.proofs.Planning.Ways.{from_extended}
-use Rattle.exb_changing.specs.declared.plans.step.Step.TheVariants.{Lay, Clear}
-use Rattle.exb_changing.specs.Planning.Held.{Held, HoldsNeeded, group_used, channel_used, needs_channel, or_zero, give_all, numbered, free_where}
-use Rattle.exb_changing.specs.Planning.Between.{has_set, goes_up, goes_down, trunk_of, is_gone, fresh_sets, gone_groups}
-use Rattle.exb_changing.specs.Planning.Asks.{create_asks, delete_asks, group_asks}
-use Rattle.exb_changing.specs.Planning.Plans.{new_channel, own_channel, with_channel, without_channel, with_up, up_asks, down_asks, fresh_groups, prepare_of, cleanup_of, claimed, freed}
-use Rattle.exb_changing.proofs.Planning.Counting.{IsLowest}
-use Rattle.exb_changing.proofs.Planning.Each.{Each, each_map, each_filter}
-use Rattle.exb_changing.proofs.Planning.Trunks.{port_extender, under_home}
-use Rattle.exb_changing.proofs.Planning.Channels.{Rises, rises_is, goes_up_rises, never_rises, no_cascade_under, free_there}
-use Rattle.exb_changing.proofs.Planning.Giving.{Gives, gives_from, gives_port}
-use Rattle.exb_changing.proofs.Planning.GoesOn.{held_goes_on}
-use Rattle.exb_changing.proofs.Planning.NotShort.{none_short}
+use Rattle.exb_changing.specs.Plans.Sets.{sets_of}
+use Rattle.exb_changing.proofs.Plans.Ways.{from_extended}
+use Rattle.exb_changing.specs.declared.planning.step.Step.TheVariants.{Lay, Clear}
+use Rattle.exb_changing.specs.Plans.Held.{Held, HoldsNeeded, group_used, channel_used, needs_channel, or_zero, give_all, numbered, free_where}
+use Rattle.exb_changing.specs.Plans.Between.{has_set, goes_up, goes_down, trunk_of, is_gone, fresh_sets, gone_groups}
+use Rattle.exb_changing.specs.Plans.Asks.{create_asks, delete_asks, group_asks}
+use Rattle.exb_changing.specs.Plans.Plans.{new_channel, own_channel, with_channel, without_channel, with_up, up_asks, down_asks, fresh_groups, prepare_of, cleanup_of, claimed, freed}
+use Rattle.exb_changing.proofs.Plans.Counting.{IsLowest}
+use Rattle.exb_changing.proofs.Plans.Each.{Each, each_map, each_filter}
+use Rattle.exb_changing.proofs.Plans.Trunks.{port_extender, under_home}
+use Rattle.exb_changing.proofs.Plans.Channels.{Rises, rises_is, goes_up_rises, never_rises, no_cascade_under, free_there}
+use Rattle.exb_changing.proofs.Plans.Giving.{Gives, gives_from, gives_port}
+use Rattle.exb_changing.proofs.Plans.GoesOn.{held_goes_on}
+use Rattle.exb_changing.proofs.Plans.NotShort.{none_short}
 use Rattle.exb_changing.specs.Deciding.{channel_of}
 use Rattle.exb_changing.proofs.FreshGroups.{given_port, with_set, fresh_now, fresh_placed}
 use Rattle.exb_changing.proofs.Released.{channel_by, none_up, own_stays, same_gone, owned}
 use Rattle.exb_changing.specs.Runs.Laid.{by_extender, is_shown, laid_by, laid}
 use Rattle.exb_csp.specs.AllTables.{RunsAt}
 use Rattle.exb_changing.specs.Runs.Requests.{AreOpened, IsReady, PrepareRuns, CleanupRuns, PlansRun}
-use Rattle.exb_changing.proofs.Planning.Options.{none_some, is_none_at}
+use Rattle.exb_changing.proofs.Plans.Options.{none_some, is_none_at}
 use Rattle.exb_changing.proofs.Runs.Tables.{runs_append, runs_to, runs_from}
 use Rattle.exb_changing.proofs.Runs.ChannelRuns.{IsHeld, channel_laid, channel_taken}
 use Rattle.exb_changing.proofs.Runs.FreeGroups.{AreFreeGroups, are_free, held_stays, given_low}

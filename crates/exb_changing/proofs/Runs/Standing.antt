@@ -8,10 +8,10 @@ use Rattle.exb_model.specs.TreeSets.{covers}
 use Rattle.exb_model.specs.Configuration.{Bridge}
 use Rattle.exb_model.specs.Refusals.{sets_at}
 use Rattle.exb_model.proofs.TreeWays.{among, top_high, top_hangs, top_below, covers-true}
-use Rattle.exb_changing.specs.Planning.Held.{Held, HoldsNeeded, needs_channel, group_used, or_zero}
-use Rattle.exb_changing.proofs.Planning.Trunks.{hung_cascade}
-use Rattle.exb_changing.proofs.Planning.Giving.{Gives, gives_from, gives_one}
-use Rattle.exb_changing.proofs.Planning.Owning.{owns_from}
+use Rattle.exb_changing.specs.Plans.Held.{Held, HoldsNeeded, needs_channel, group_used, or_zero}
+use Rattle.exb_changing.proofs.Plans.Trunks.{hung_cascade}
+use Rattle.exb_changing.proofs.Plans.Giving.{Gives, gives_from, gives_one}
+use Rattle.exb_changing.proofs.Plans.Owning.{owns_from}
 use Rattle.exb_changing.specs.Deciding.{channel_of}
 use Rattle.exb_changing.specs.Runs.Requests.{AreOpened}
 use Rattle.exb_changing.proofs.Runs.Bools.{none_there}

@@ -12,9 +12,9 @@ use Rattle.exb_csp.specs.declared.message.Response.{Response}
 use Rattle.exb_csp.specs.declared.session.asker.Taken.{Taken}
 use Rattle.exb_csp.specs.declared.session.asker.Taken.TheVariants as taken
 use Rattle.exb_csp.specs.Sessions.Asking.{AskerState, took, beaten}
-use Rattle.exb_changing.specs.Planning.Asks.{ask}
-use Rattle.exb_changing.proofs.Planning.Bools.{is_not}
-use Rattle.exb_changing.specs.declared.plans.change.Change.{Change}
+use Rattle.exb_changing.specs.Plans.Asks.{ask}
+use Rattle.exb_changing.proofs.Plans.Bools.{is_not}
+use Rattle.exb_changing.specs.declared.planning.change.Change.{Change}
 use Rattle.exb_changing.specs.declared.asked.Asked.{Asked}
 use Rattle.exb_changing.specs.declared.job.Job.{Job}
 use Rattle.exb_changing.specs.declared.job.Job.TheVariants as job

@@ -3,11 +3,11 @@ use Rattle.std.proofs.Common.{◌≡◌, ◌≢◌, ◌⊎◌, ℕ, ◌<◌, ◌
 use Rattle.std.proofs.lemmas.Bool.{cases_eq, ne_eqb, and_left}
 use Rattle.exb_model.specs.Tree.{Shape, IsTree, device, trunk, is_port, is_cascade}
 use Rattle.exb_model.specs.TreeSets.{covers}
-use Rattle.exb_changing.specs.Planning.Held.{Held, channel_in, or_zero}
-use Rattle.exb_changing.proofs.Planning.Giving.{Gives, channel_found, gives_one}
+use Rattle.exb_changing.specs.Plans.Held.{Held, channel_in, or_zero}
+use Rattle.exb_changing.proofs.Plans.Giving.{Gives, channel_found, gives_one}
 use Rattle.exb_changing.specs.Deciding.{channel_of}
 use Rattle.exb_changing.specs.Runs.Laid.{by_extender, channel_pair, group_pair, laid_by}
-use Rattle.exb_changing.proofs.Planning.Options.{some_is, none_some}
+use Rattle.exb_changing.proofs.Plans.Options.{some_is, none_some}
 use Rattle.exb_changing.proofs.Runs.Tables.{Like, like_tables}
 use Rattle.exb_changing.proofs.Runs.Standing.{home_low, home_cascade}
 

@@ -5,7 +5,7 @@ use Rattle.exb_csp.specs.declared.message.Request.{Request}
 use Rattle.exb_csp.specs.declared.message.Request.TheVariants.{Open, PortCreate, PortDelete, Register, Unregister, RegisterMany, UnregisterMany}
 use Rattle.exb_csp.specs.Execute.{ExtenderTables}
 use Rattle.exb_csp.specs.declared.ask_at.AskAt.{AskAt}
-use Rattle.exb_changing.specs.Planning.Held.{Held}
+use Rattle.exb_changing.specs.Plans.Held.{Held}
 
 -- The second tables of an extender have all pairs of the first, and each port that has a channel in the first has it
 -- there, and is of the same kind.

@@ -1,15 +1,15 @@
 -- What the tables carry, also in the middle of a change.
-use Rattle.std.specs.Prelude.{◌≡◌, ℕ, ◌<◌, ◌==◌, ◌&&◌, true, bytes_eq, if◌then◌else◌, List, [], ◌∷◌, Some}
+use Rattle.std.specs.Prelude.{◌≡◌, ℕ, ◌<◌, ◌==◌, true, bytes_eq, List, Some}
 use Rattle.std.specs.List.{list_any}
 use Rattle.exb_model.specs.ExtenderForwarding.{Tables}
 use Rattle.exb_model.specs.Carriage.{Carries}
 use Rattle.exb_model.specs.Tree.{Shape, IsTree, is_under}
 use Rattle.exb_model.specs.Configuration.{Bridge}
 use Rattle.exb_model.specs.Refusals.{sets_at}
-use Rattle.exb_changing.specs.Planning.Laying.{IsLaid}
+use Rattle.exb_changing.specs.Plans.Laying.{IsLaid}
 use Rattle.exb_csp.specs.AllTables.{tables_at}
 use Rattle.exb_model.specs.Lists.{is_listed}
-use Rattle.exb_changing.specs.Planning.Held.{Held, channel_in, group_in, numbers_in}
+use Rattle.exb_changing.specs.Plans.Held.{Held, channel_in, group_in, numbers_in}
 use Rattle.exb_changing.specs.Runs.Systems.{System}
 use Rattle.exb_changing.specs.Runs.Standing.{Stands}
 use Rattle.exb_changing.specs.Runs.Planned.{planning}

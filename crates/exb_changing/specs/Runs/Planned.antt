@@ -8,7 +8,7 @@ use Rattle.exb_model.specs.Numbers.{IsReady, IsNumbering}
 use Rattle.exb_csp.specs.declared.message.Response.{Response}
 use Rattle.exb_csp.specs.declared.session.asker.Taken.TheVariants as taken
 use Rattle.exb_csp.specs.Sessions.Asking.{took}
-use Rattle.exb_changing.specs.Planning.Held.{Held, HoldsNeeded, group_used, numbers_in}
+use Rattle.exb_changing.specs.Plans.Held.{Held, HoldsNeeded, group_used, numbers_in}
 use Rattle.exb_changing.specs.Runs.Laid.{laid}
 use Rattle.exb_changing.specs.Runs.Requests.{AreOpened, IsLaidOut}
 use Rattle.exb_changing.specs.declared.job.Job.{Job}

@@ -4,13 +4,13 @@ use Rattle.exb_model.specs.Tree.{Shape, IsTree, device, on, is_cascade, is_exten
 use Rattle.exb_model.specs.Setup.{Limits}
 use Rattle.exb_model.specs.Configuration.{Bridge}
 use Rattle.exb_csp.specs.Plain.{powered_on}
-use Rattle.exb_changing.specs.Planning.Laying.{IsLaid, IsFree}
+use Rattle.exb_changing.specs.Plans.Laying.{IsLaid, IsFree}
 use Rattle.exb_csp.specs.AllTables.{tables_at, RunsAt}
 use Rattle.exb_model.specs.Lists.{is_listed}
-use Rattle.exb_changing.specs.Planning.Held.{Held, HoldsNeeded, needs_channel, group_used}
-use Rattle.exb_changing.specs.Planning.Between.{goes_up}
-use Rattle.exb_changing.specs.Planning.Plans.{prepare_of, cleanup_of, claimed, freed}
-use Rattle.exb_changing.specs.Planning.Laws.{IsBeginning}
+use Rattle.exb_changing.specs.Plans.Held.{Held, HoldsNeeded, needs_channel, group_used}
+use Rattle.exb_changing.specs.Plans.Between.{goes_up}
+use Rattle.exb_changing.specs.Plans.Plans.{prepare_of, cleanup_of, claimed, freed}
+use Rattle.exb_changing.specs.Plans.Laws.{IsBeginning}
 use Rattle.exb_changing.specs.Planned.{IsPlanned}
 use Rattle.exb_changing.specs.Deciding.{channel_of, opening_asks}
 use Rattle.exb_changing.specs.Runs.Laid.{is_shown, laid}

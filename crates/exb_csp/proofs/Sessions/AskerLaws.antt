@@ -4,7 +4,6 @@ use Rattle.std.specs.Prelude.{IfSome}
 use Rattle.std.specs.Option.{option_map}
 use Rattle.std.proofs.lemmas.Bool.{eqb-false}
 use Rattle.exb_csp.specs.declared.message.Request.{Request}
-use Rattle.exb_csp.specs.declared.message.Response.{Response}
 use Rattle.exb_csp.specs.declared.message.Body.{Body}
 use Rattle.exb_csp.specs.declared.message.Body.TheVariants as body
 use Rattle.exb_csp.specs.declared.message.Message.{Message}
@@ -12,7 +11,7 @@ use Rattle.exb_csp.specs.Kinds.{kind_of, same_kind}
 use Rattle.exb_csp.specs.Spelling.{IsSpelledRequest, HasSpelling}
 use Rattle.exb_csp.specs.declared.session.asker.Taken.{Taken}
 use Rattle.exb_csp.specs.declared.session.asker.Taken.TheVariants as taken
-use Rattle.exb_csp.specs.Sessions.Asking.{AskerState, begun, asked, message_again, took, took_body, beaten, beaten_while, IsSound, StaysSound, AsksAreSpelled}
+use Rattle.exb_csp.specs.Sessions.Asking.{AskerState, took_body, beaten_while, IsSound, StaysSound, AsksAreSpelled}
 
 -- the waiting is over
 sound_done : (serial : ℕ) → IsSound (record { serial = serial; waiting = None; beats = 0 })

@@ -3,7 +3,7 @@ use Rattle.std.specs.Prelude.{◌≡◌, ℕ, ◌<◌, ◌≤◌, Bool, true, []
 use Rattle.exb_model.specs.Tree.{Shape, on, trunk, is_extender, is_cascade}
 use Rattle.exb_model.specs.Setup.{Limits}
 use Rattle.exb_model.specs.Configuration.{Bridge}
-use Rattle.exb_changing.specs.Planning.Held.{Held}
+use Rattle.exb_changing.specs.Plans.Held.{Held}
 use Rattle.exb_changing.specs.Beginning.{first_held}
 use Rattle.exb_changing.specs.Runs.Standing.{Planning}
 use Rattle.exb_changing.specs.Runs.Planned.{planning, IsExact, HasBoth}

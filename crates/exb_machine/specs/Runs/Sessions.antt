@@ -20,7 +20,7 @@ use Rattle.exb_extender.specs.Forwarding.{channel_tag, is_bare_control}
 use Rattle.exb_model.specs.Frames.{is_control_frame}
 use Rattle.exb_extender.specs.Machine.{ExtenderState, IsExtender}
 use Rattle.exb_link.specs.declared.word.Word.{Word}
-use Rattle.exb_changing.specs.Planning.Held.{Held}
+use Rattle.exb_changing.specs.Plans.Held.{Held}
 use Rattle.exb_changing.specs.declared.asked.Asked.{Asked}
 use Rattle.exb_csp.specs.declared.ask_at.AskAt.{AskAt}
 use Rattle.exb_changing.specs.Machine.{Work, State}

@@ -50,7 +50,7 @@ use Rattle.exb_changing.specs.Deciding.{decide}
 use Rattle.exb_changing.specs.Machine.{Moved, answered, ordered, beats}
 use Rattle.exb_changing.proofs.Runs.Middle.{ready_midway, held_are_numbers}
 use Rattle.exb_machine.specs.Allowing.{Can}
-use Rattle.exb_changing.specs.Planning.Held.{numbers_in}
+use Rattle.exb_changing.specs.Plans.Held.{numbers_in}
 use Rattle.exb_machine.specs.Controls.{channel_at_trunk, forgotten_all, taught, announced}
 use Rattle.exb_machine.specs.Effects.{Effect, only, then_do, each}
 use Rattle.exb_machine.specs.Extending.{hung_below, hung_on, port_number, sent_at, sent_to, sends, does, reacts, takes_from_above, takes_from_below, stamp_of, ignored, does_or_ignores, arrives_at}

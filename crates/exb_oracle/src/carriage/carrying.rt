@@ -1,6 +1,6 @@
 //! What is sent at a port of a frame that enters the tree from the bridge.
 ghost use Rattle.std.specs.Prelude.{◌≡◌, ℕ, ◌≤◌, length, IfOk};
-ghost use Rattle.exb_model.specs.ETags.{read_etag, stripped};
+ghost use Rattle.exb_model.specs.ETags.{stripped};
 ghost use Rattle.exb_model.specs.Tree.{Shape, on};
 ghost use Rattle.exb_model.specs.ExtenderForwarding.{takes, left_out, bare, emits};
 ghost use Rattle.exb_model.specs.Carriage.{carried, carried_in};

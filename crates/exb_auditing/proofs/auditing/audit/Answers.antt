@@ -1,8 +1,6 @@
-use Rattle.std.proofs.Common.{◌≡◌, ◌∙◌, ℕ, List}
+use Rattle.std.proofs.Common.{◌∙◌}
 use Rattle.std.proofs.lemmas.Result.{err_from_is_err_and}
-use Rattle.exb_shelf.specs.Files.{Files, SameFiles}
-use Rattle.exb_auditing.specs.Audits.{IsSeen, Seen}
-use Rattle.exb_auditing.specs.Scopes.{Scope, scope_of}
+use Rattle.exb_auditing.specs.Scopes.{scope_of}
 use Rattle.exb_inputs.proofs.ShelvingLemmas.{counts_as, counts_from}
 use Rattle.exb_auditing.proofs.Counted.{judged_counted}
 use Rattle.exb_auditing.proofs.Steps.{all_seen, broken_found, journal_cause, legal_found, outputs_cause, trace_cause}

@@ -1,4 +1,4 @@
-use Rattle.exb_changing.proofs.Planning.Coming.{fresh_are_touched}
+use Rattle.exb_changing.proofs.Plans.Coming.{fresh_are_touched}
 use Rattle.exb_changing.proofs.laws.fresh_are_touched.Goals as goal
 
 pub returns : goal.returns

@@ -1,4 +1,4 @@
-use Rattle.exb_changing.proofs.Planning.Going.{gone_are_touched}
+use Rattle.exb_changing.proofs.Plans.Going.{gone_are_touched}
 use Rattle.exb_changing.proofs.laws.gone_are_touched.Goals as goal
 
 pub returns : goal.returns

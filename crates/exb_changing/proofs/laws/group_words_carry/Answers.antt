@@ -1,4 +1,4 @@
-use Rattle.exb_changing.proofs.Planning.Carrying.{group_words}
+use Rattle.exb_changing.proofs.Plans.Carrying.{group_words}
 use Rattle.exb_changing.proofs.laws.group_words_carry.Goals as goal
 
 pub returns : goal.returns

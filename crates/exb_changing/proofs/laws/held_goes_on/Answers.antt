@@ -1,4 +1,4 @@
-use Rattle.exb_changing.proofs.Planning.GoesOn.{held_goes_on}
+use Rattle.exb_changing.proofs.Plans.GoesOn.{held_goes_on}
 use Rattle.exb_changing.proofs.laws.held_goes_on.Goals as goal
 
 pub returns : goal.returns

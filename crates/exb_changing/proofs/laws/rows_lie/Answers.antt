@@ -1,4 +1,4 @@
-use Rattle.exb_changing.proofs.Planning.RowsCover.{rows_lie}
+use Rattle.exb_changing.proofs.Plans.RowsCover.{rows_lie}
 use Rattle.exb_changing.proofs.laws.rows_lie.Goals as goal
 
 pub returns : goal.returns

@@ -1,4 +1,4 @@
-use Rattle.std.proofs.Common.{◌≡◌, ◌∙◌, ℕ, List, ap, replicate, false}
+use Rattle.std.proofs.Common.{◌∙◌, ℕ, List, ap, replicate, false}
 use Rattle.exb_model.specs.declared.rules.PortRule.{PortRule}
 use Rattle.exb_model.specs.declared.rules.Accept.TheVariants as accept
 use Rattle.exb_model.specs.Configuration.{default_rule}

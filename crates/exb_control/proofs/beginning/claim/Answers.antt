@@ -4,7 +4,7 @@ use Rattle.exb_model.specs.Tree.{trunk}
 use Rattle.exb_numbers.specs.Channels.{holder, channel_of, lowest_channel}
 use Rattle.exb_numbers.specs.Spaces.{has_space, channels_at}
 use Rattle.exb_plan.specs.Spaces.{held_by}
-use Rattle.exb_changing.specs.Planning.Held.{or_zero, free_channel, give_channel}
+use Rattle.exb_changing.specs.Plans.Held.{or_zero, free_channel, give_channel}
 use Rattle.exb_plan.specs.Working.{channel_limit}
 use Rattle.exb_plan.proofs.SpaceHeld.{channel_in_is, met, of_ok, channel_given, claimed_is}
 use Rattle.exb_control.proofs.beginning.claim.Goals as goal

@@ -2,7 +2,7 @@ use Rattle.std.proofs.Common.{◌≡◌}
 use Rattle.exb_model.specs.Setup.{Limits}
 use Rattle.exb_plan.specs.Spaces.{HasSpaces, held_by}
 use Rattle.exb_plan.specs.Working.{IsAlike}
-use Rattle.exb_changing.specs.Planning.Held.{in_spaces}
+use Rattle.exb_changing.specs.Plans.Held.{in_spaces}
 use Rattle.exb_changing.proofs.FirstClaims.{AreFirst, first_below}
 use Rattle.exb_control.proofs.beginning.claim_all.Given as goal
 

@@ -1,7 +1,7 @@
 use Rattle.std.proofs.Common.{◌≡◌, ◌≤◌, ◌+◌, ◌-◌, ◌&&◌, ◌∙◌, ℕ, false, Bool, sym, ap, subst, arith, nat_lt}
 use Rattle.std.proofs.lemmas.Bool.{and_parts, lt-ltb}
 use Rattle.exb_model.specs.Setup.{Limits}
-use Rattle.exb_changing.specs.Planning.Held.{is_place}
+use Rattle.exb_changing.specs.Plans.Held.{is_place}
 use Rattle.exb_control.proofs.FirstSpaces.{new_has}
 use Rattle.exb_control.proofs.Copies.{AreCopied, copied, none_copied, copied_has, more_copied, none_more, copied_same}
 use Rattle.exb_control.proofs.copying.copy_spaces.Goals as goal

@@ -3,9 +3,9 @@ use Rattle.std.specs.Prelude.{IfOk, OnOk}
 use Rattle.exb_model.specs.declared.command.Command.TheVariants as command
 use Rattle.exb_model.specs.Configuration.{after}
 use Rattle.exb_config.specs.Tables.{bridge_of}
-use Rattle.exb_changing.specs.declared.plans.change.Decision.{Decision}
-use Rattle.exb_changing.specs.declared.plans.change.Decision.TheVariants as decision
-use Rattle.exb_changing.specs.Planning.Held.{Held}
+use Rattle.exb_changing.specs.declared.planning.change.Decision.{Decision}
+use Rattle.exb_changing.specs.declared.planning.change.Decision.TheVariants as decision
+use Rattle.exb_changing.specs.Plans.Held.{Held}
 use Rattle.exb_plan.specs.Spaces.{held_by}
 use Rattle.exb_changing.specs.declared.job.Job.{Job}
 use Rattle.exb_changing.specs.Deciding.{decide}

@@ -1,7 +1,7 @@
 use Rattle.std.proofs.Common.{◌≡◌, ◌*◌, ◌∷◌}
 use Rattle.std.specs.List.{flat_map, range_with_len}
 use Rattle.exb_csp.specs.declared.message.Request.TheVariants.{Open}
-use Rattle.exb_changing.specs.Planning.Asks.{ask}
+use Rattle.exb_changing.specs.Plans.Asks.{ask}
 use Rattle.exb_plan.specs.Spaces.{held_by}
 use Rattle.exb_changing.specs.Deciding.{cascade_asks}
 use Rattle.exb_control.proofs.deciding.opening_asks.Given as goal

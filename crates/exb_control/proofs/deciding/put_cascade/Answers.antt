@@ -2,9 +2,9 @@ use Rattle.std.proofs.Common.{◌≡◌, ◌∙◌, ◌++◌, ◌+◌, ◌-◌, 
 use Rattle.exb_model.specs.Tree.{trunk}
 use Rattle.exb_numbers.specs.Channels.{channel_of as channel_among}
 use Rattle.exb_numbers.specs.Spaces.{has_space, channels_at}
-use Rattle.exb_changing.specs.Planning.Asks.{create_asks}
+use Rattle.exb_changing.specs.Plans.Asks.{create_asks}
 use Rattle.exb_plan.specs.Spaces.{held_by}
-use Rattle.exb_changing.specs.Planning.Held.{or_zero}
+use Rattle.exb_changing.specs.Plans.Held.{or_zero}
 use Rattle.exb_plan.proofs.SpaceHeld.{channel_in_is, unwrap_is}
 use Rattle.exb_changing.specs.Deciding.{channel_of}
 use Rattle.exb_changing.proofs.Claims.{trunk_low, trunk_cascade}

@@ -1,7 +1,7 @@
 use Rattle.std.proofs.Common.{sym, ap, ◌∙◌}
 use Rattle.std.proofs.lemmas.Result.{IfOk-weaker}
 use Rattle.exb_model.specs.Configuration.{Bridge}
-use Rattle.exb_changing.specs.Planning.Held.{Held}
+use Rattle.exb_changing.specs.Plans.Held.{Held}
 use Rattle.exb_changing.specs.Counting.{requests_in}
 use Rattle.exb_changing.specs.Deciding.{Decide}
 use Rattle.exb_control.specs.ActiveConfigs.{bridge_in, held_in, bridge_at_end, held_at_end}

@@ -1,8 +1,8 @@
 use Rattle.std.proofs.Common.{◌≡◌, ◌-◌, ◌&&◌, ◌∙◌, true, false, Bool, ℕ, nat_lt, sym, ap, arith, subst, refl}
 use Rattle.std.proofs.lemmas.Bool.{and_from, lt-ltb}
 use Rattle.exb_model.specs.Tree.{is_cascade}
-use Rattle.exb_changing.proofs.Planning.Trunks.{hung_cascade, other_role}
-use Rattle.exb_changing.specs.Planning.Held.{is_place}
+use Rattle.exb_changing.proofs.Plans.Trunks.{hung_cascade, other_role}
+use Rattle.exb_changing.specs.Plans.Held.{is_place}
 use Rattle.exb_changing.proofs.Places.{place_true, place_false}
 use Rattle.exb_control.proofs.releasing.is_place.Goals as goal
 

@@ -1,10 +1,10 @@
 use Rattle.std.proofs.Common.{◌∙◌, ◌≤◌, [], List, length, refl, ap}
 use Rattle.std.proofs.lemmas.List.{take_all}
-use Rattle.exb_changing.specs.declared.plans.change.Number.{Number}
+use Rattle.exb_changing.specs.declared.planning.change.Number.{Number}
 use Rattle.exb_plan.specs.Spaces.{held_by}
 use Rattle.exb_plan.proofs.ClaimLoop.{alike_more}
 use Rattle.exb_plan.proofs.WholePlans.{alike_has}
-use Rattle.exb_changing.specs.Planning.Held.{in_spaces}
+use Rattle.exb_changing.specs.Plans.Held.{in_spaces}
 use Rattle.exb_control.proofs.Freeing.{released, channel_step, group_step}
 use Rattle.exb_control.proofs.releasing.release.Goals as goal
 

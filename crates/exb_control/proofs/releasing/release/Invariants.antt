@@ -1,7 +1,7 @@
 use Rattle.std.proofs.Common.{◌≡◌, [], take}
 use Rattle.exb_plan.specs.Spaces.{held_by}
 use Rattle.exb_plan.specs.Working.{IsAlike}
-use Rattle.exb_changing.specs.Planning.Held.{in_spaces}
+use Rattle.exb_changing.specs.Plans.Held.{in_spaces}
 use Rattle.exb_control.proofs.Freeing.{released}
 use Rattle.exb_control.proofs.releasing.release.Given as goal
 

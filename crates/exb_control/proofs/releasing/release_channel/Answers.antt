@@ -1,7 +1,7 @@
 use Rattle.std.proofs.Common.{◌-◌, ◌==◌, ◌∙◌, ℕ, List, Option, None, cond, ap, sym, arith, nat_lt}
 use Rattle.std.proofs.lemmas.Bool.{and_parts, ltb-true}
 use Rattle.exb_numbers.specs.Channels.{holder}
-use Rattle.exb_changing.specs.Planning.Held.{is_place}
+use Rattle.exb_changing.specs.Plans.Held.{is_place}
 use Rattle.exb_control.proofs.Freeing.{channel_left}
 use Rattle.exb_control.proofs.releasing.release_channel.Goals as goal
 

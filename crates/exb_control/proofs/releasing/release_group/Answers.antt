@@ -1,7 +1,7 @@
 use Rattle.std.proofs.Common.{◌≡◌, ◌-◌, ◌==◌, ◌∙◌, [], cond, ap, sym, arith, nat_lt}
 use Rattle.std.proofs.lemmas.Bool.{and_parts, ltb-true}
 use Rattle.exb_numbers.specs.Groups.{Groups, set_of}
-use Rattle.exb_changing.specs.Planning.Held.{is_place}
+use Rattle.exb_changing.specs.Plans.Held.{is_place}
 use Rattle.exb_control.proofs.Freeing.{group_left, group_stays, none_free}
 use Rattle.exb_control.proofs.releasing.release_group.Goals as goal
 

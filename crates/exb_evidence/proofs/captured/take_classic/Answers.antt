@@ -1,4 +1,4 @@
-use Rattle.std.proofs.Common.{◌<◌, ℕ, List, Option, Some, inl, inr, subst, arith}
+use Rattle.std.proofs.Common.{◌<◌, ℕ, Option, Some, inl, subst, arith}
 use Rattle.std.proofs.lemmas.Result.{IfOk-weaker, IfErr-weaker}
 use Rattle.exb_evidence.specs.Capturing.{BeginsWith}
 use Rattle.exb_evidence.proofs.Taking.{flaw_nothing, flaw_large, flaw_ten, flaw_classic, taken_classic}

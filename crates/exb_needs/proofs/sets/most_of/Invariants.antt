@@ -1,6 +1,6 @@
 use Rattle.std.proofs.Common.{◌≡◌, map}
 use Rattle.exb_model.specs.Configuration.{Bridge}
-use Rattle.exb_changing.specs.Planning.Sets.{sets_of, seen}
+use Rattle.exb_changing.specs.Plans.Sets.{sets_of, seen}
 use Rattle.exb_needs.specs.Needed.{sets_below}
 use Rattle.exb_needs.proofs.Fullest.{most_before}
 use Rattle.exb_needs.proofs.sets.most_of.Given as goal

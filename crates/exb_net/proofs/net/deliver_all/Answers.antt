@@ -25,7 +25,7 @@ loop-delivery-preserved g c =
     record {
       turn = (t.0, (t.1.0, (c.in_ok-deliver.ensures.ok t.0 i t.1.0 (subst (HasDelivered t.0 i nodes) c.in-Some.ensures.items t.1.1.0) room, t.1.1.1)));
       ok = λ m turn d e. (let low = c.loop-delivery-test.true in c.in_ok-deliver.ensures.ok m i turn (subst (HasDelivered m i nodes) c.in-Some.ensures.items (c.loop-delivery.invariant.ok m turn d e)) (omega (arith, low, e)));
-      others = record { each = λ b none. (let apart = c.with_mark-touched.ensures b none in c.deliver.ensures.others b apart.1 ∙ c.loop-delivery.invariant.others.each b apart.0) };
+      others = record { each = λ b none. (let apart = c.mark.ensures b none in c.deliver.ensures.others b apart.1 ∙ c.loop-delivery.invariant.others.each b apart.0) };
       few = stay_few (λ x. (goal.Fate-dyn g (x.world.fate.vtable, x.world.fate.value)).left x.world.fate.value) (2 ^ 57) nodes c.deliver.new.nodes.items c.loop-delivery.invariant.few c.in_ok-deliver.ensures.fates;
       fates = falls_then (λ x. (goal.Fate-dyn g (x.world.fate.vtable, x.world.fate.value)).left x.world.fate.value) c.args.nodes.now.items nodes c.deliver.new.nodes.items c.loop-delivery.invariant.fates c.in_ok-deliver.ensures.fates;
     }

@@ -21,7 +21,7 @@ returns-clause-ok g c = λ n s told k e.
     c.in_ok-touched.ensures.ok (record { net = n; bridge = c.args.bridge; arrival = arrived c.args.arrival.now; dones = s; told = told; given = b.given }) b.turn b.delivered e)
 
 pub returns-clause-others : goal.returns-clause-others
-returns-clause-others g c = record { each = λ b none. (let apart = c.with_mark.ensures b none in c.in_ok-touched.ensures.others.each b apart.0 ∙ c.begin.ensures.others b apart.1) }
+returns-clause-others g c = record { each = λ b none. (let apart = c.mark.ensures b none in c.in_ok-touched.ensures.others.each b apart.0 ∙ c.begin.ensures.others b apart.1) }
 
 pub returns-clause-fates : goal.returns-clause-fates
 returns-clause-fates g c = falls_then (λ x. (goal.Fate-dyn g (x.world.fate.vtable, x.world.fate.value)).left x.world.fate.value) c.args.nodes.now.items c.begin.new.nodes.items c.deliver_all.new.nodes.items c.in_ok-begin.ensures.fates c.in_ok-touched.ensures.fates

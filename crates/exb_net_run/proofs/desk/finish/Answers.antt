@@ -1,11 +1,10 @@
 use Rattle.std.proofs.Common.{[], Some, ap, ◌∙◌}
 use Rattle.std.proofs.lemmas.Result.{err_from_is_err_and, on_err_weaker, on_ok_weaker}
-use Rattle.exb_inputs.proofs.ShelvingLemmas.{counts_from}
 use Rattle.exb_text.specs.declared.output.Output.TheVariants as output
 use Rattle.exb_outputs.specs.Manifests.{kind_at}
 use Rattle.exb_outputs.specs.Writing.{pieces_of, with_more}
 use Rattle.exb_outputs.proofs.Cutting.{cut_same}
-use Rattle.exb_outputs.proofs.ShelvingLemmas.{writes_then}
+use Rattle.exb_outputs.proofs.ShelvingLemmas.{writes_from, writes_then}
 use Rattle.exb_writers.specs.Counts.{counts_text}
 use Rattle.exb_writers.proofs.Telling.{counts_written}
 use Rattle.exb_net_run.specs.Desks.{text_of}
@@ -60,4 +59,4 @@ pub returns-clause-only : goal.returns-clause-only
 returns-clause-only g c = writes_then _ _ _ _ _ _ _ _ c.in_ok-write_counts.ensures.only c.finish.ensures.only
 
 pub returns-clause-faults : goal.returns-clause-faults
-returns-clause-faults g c = counts_from c.finish.result _ _ _ c.in_ok-write_counts.ensures.faults.once c.finish.ensures.faults
+returns-clause-faults g c = writes_from c.finish.result _ _ _ c.in_ok-write_counts.ensures.faults.once c.finish.ensures.faults

@@ -1,15 +1,14 @@
 use Rattle.std.proofs.Common.{List, subst}
 use Rattle.std.proofs.lemmas.Result.{err_from_is_err_and, on_err_weaker, on_ok_weaker}
-use Rattle.exb_inputs.proofs.ShelvingLemmas.{counts_from}
 use Rattle.exb_model.specs.declared.event.Event.{Event}
-use Rattle.exb_network.specs.declared.log.Left.{Left}
+use Rattle.exb_boxes.specs.declared.log.Left.{Left}
 use Rattle.exb_schedule.specs.Worlds.{network_of}
 use Rattle.exb_text.specs.declared.output.Output.TheVariants as output
 use Rattle.exb_outputs.specs.Sent.{HasSent}
 use Rattle.exb_outputs.specs.Writing.{AreCut, HasTexts, pieces_of, lines_of, with_more}
 use Rattle.exb_writers.specs.Leaving.{sent_with, with_left_frames}
 use Rattle.exb_outputs.proofs.Sizes.{sent_same}
-use Rattle.exb_outputs.proofs.ShelvingLemmas.{writes_then}
+use Rattle.exb_outputs.proofs.ShelvingLemmas.{writes_from, writes_then}
 use Rattle.exb_writers.proofs.Frames.{cut_frames}
 use Rattle.exb_net_run.proofs.desk.write_new.Goals as goal
 
@@ -67,4 +66,4 @@ returns-clause-sent g c =
     c.write_left.ensures.sent
 
 pub returns-clause-faults : goal.returns-clause-faults
-returns-clause-faults g c = counts_from c.write_left.result _ _ _ c.in_ok-write_events.ensures.faults.once c.write_left.ensures.faults
+returns-clause-faults g c = writes_from c.write_left.result _ _ _ c.in_ok-write_events.ensures.faults.once c.write_left.ensures.faults

@@ -3,8 +3,8 @@ use Rattle.std.specs.Prelude.{slice_get}
 use Rattle.std.proofs.lemmas.Bool.{cases_eq, cases_lt}
 use Rattle.std.proofs.lemmas.Option.{same_Some, slice_get_within}
 use Rattle.std.proofs.lemmas.Result.{err_from_is_err_and}
-use Rattle.exb_inputs.proofs.ShelvingLemmas.{counts_as, counts_from}
 use Rattle.exb_outputs.specs.Manifests.{Listed}
+use Rattle.exb_outputs.proofs.ShelvingLemmas.{writes_from}
 use Rattle.exb_writers.specs.Counts.{counts_text}
 use Rattle.exb_net.proofs.Places.{at_place, set_there}
 use Rattle.exb_net_run.specs.declared.desk.Desk.{Desk}
@@ -178,4 +178,4 @@ returns-in_err-finish-clause-cut g c = λ t.
 pub returns-in_err-finish-clause-faults : goal.returns-in_err-finish-clause-faults
 returns-in_err-finish-clause-faults g c =
     let e = err_from_is_err_and c.from_residual.result c.from_residual.ensures.1 in
-    rw (e.1, e.2) (counts_from _ _ _ _ c.loop-bridge.invariant.counted (counts_as c.in_err-finish.field-0.0 _ _ c.in_err-finish.ensures.faults))
+    rw (e.1, e.2) (writes_from _ _ _ _ c.loop-bridge.invariant.counted c.in_err-finish.ensures.faults)

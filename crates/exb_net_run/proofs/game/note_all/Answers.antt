@@ -2,9 +2,9 @@ use Rattle.std.proofs.Common.{rules, ◌<◌, ◌≤◌, List, length, refl, sym
 use Rattle.std.proofs.lemmas.Bool.{cases_lt}
 use Rattle.std.proofs.lemmas.Option.{slice_get_within}
 use Rattle.std.proofs.lemmas.Result.{err_from_is_err_and}
-use Rattle.exb_inputs.proofs.ShelvingLemmas.{counts_as, counts_from}
 use Rattle.exb_schedule.specs.Worlds.{network_of}
 use Rattle.exb_outputs.specs.Manifests.{Listed}
+use Rattle.exb_outputs.proofs.ShelvingLemmas.{writes_from}
 use Rattle.exb_net.proofs.Places.{at_place, is_there, set_there}
 use Rattle.exb_net_run.specs.Desks.{AreAllFronts, AreNoted, AreManifestsApart, CanNote, IsMore, IsNoted, OnlyWritesAll, manifests_in}
 use Rattle.exb_net_run.proofs.Noted.{fronts_more, noted_all, noted_more, noted_skip, only_none, only_one, manifests-same-long, manifests_set, ready_more, upto_high, upto_none}
@@ -150,7 +150,7 @@ returns-in_err-note-clause-cut g c = λ t.
 pub returns-in_err-note-clause-faults : goal.returns-in_err-note-clause-faults
 returns-in_err-note-clause-faults g c =
     let e = err_from_is_err_and c.from_residual.result c.from_residual.ensures.1 in
-    rw (e.1, e.2) (counts_from _ _ _ _ c.noting.invariant.counted (counts_as c.in_err-note.field-0.0 _ _ c.in_err-note.ensures.faults))
+    rw (e.1, e.2) (writes_from _ _ _ _ c.noting.invariant.counted c.in_err-note.ensures.faults)
 
 pub returns-in_err-note-clause-manifests : goal.returns-in_err-note-clause-manifests
 returns-in_err-note-clause-manifests g c =

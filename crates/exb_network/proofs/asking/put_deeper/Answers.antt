@@ -8,7 +8,8 @@ use Rattle.exb_machine.specs.Controls.{channel_at_trunk}
 use Rattle.exb_machine.specs.Extending.{hung_on}
 use Rattle.exb_machine.specs.Hearing.{puts}
 use Rattle.exb_network.specs.Worlds.{world_in, Does}
-use Rattle.exb_network.proofs.ToExtenders.{channel_fits, hung_low, trunk_below, channel_has, tagged_on}
+use Rattle.exb_network.proofs.Hanging.{hung_numbered}
+use Rattle.exb_network.proofs.ToExtenders.{channel_fits, trunk_below, channel_has, tagged_on}
 use Rattle.exb_network.proofs.asking.put_deeper.Goals as goal
 
 pub tag_into-requires-clause-fits : goal.tag_into-requires-clause-fits
@@ -17,7 +18,7 @@ tag_into-requires-clause-fits c =
     subst TagFits (sym c.channel_tag.ensures) (channel_fits f.shape (held_in f) c.on.result c.in-Some-of.channel (sym c.of.ensures ∙ c.in-Some-of.is))
 
 pub put-requires-clause-known : goal.put-requires-clause-known
-put-requires-clause-known c = hung_low c.tree-tree.result.now c.is_tree.ensures c.at.result c.in-Some.below (sym c.hung_on.ensures ∙ c.in-Some.is)
+put-requires-clause-known c = hung_numbered c.tree-tree.result.now c.is_tree.ensures c.at.result c.in-Some.below (sym c.hung_on.ensures ∙ c.in-Some.is)
 
 pub returns : goal.returns
 returns c =

@@ -3,7 +3,7 @@ use Rattle.std.proofs.lemmas.Option.{IfSome_then}
 use Rattle.exb_model.specs.Tree.{IsTree}
 use Rattle.exb_machine.specs.Worlds.{Up, Down}
 use Rattle.exb_network.specs.Worlds.{world_in}
-use Rattle.exb_network.proofs.Deepest.{all_low, deepest_extends, depth_extends, few_by_depth, few_first}
+use Rattle.exb_network.proofs.Deepest.{all_numbered, deepest_extends, depth_extends, few_by_depth, few_first}
 use Rattle.exb_network.proofs.Turning.{turn_is}
 use Rattle.exb_network.proofs.busy.next_busy.Goals as goal
 
@@ -11,7 +11,7 @@ pub first_busy-requires-clause-low : goal.first_busy-requires-clause-low
 first_busy-requires-clause-low c =
     let t = c.args.site.now.tree in
     let tree : IsTree t = subst IsTree c.tree.ensures c.is_tree.ensures in
-    rw c.upwards.ensures (all_low t _ tree (deepest_extends t))
+    rw c.upwards.ensures (all_numbered t _ tree (deepest_extends t))
 
 pub first_busy-requires-clause-few : goal.first_busy-requires-clause-few
 first_busy-requires-clause-few c = rw c.upwards.ensures (few_first c.args.site.now.tree)
@@ -23,7 +23,7 @@ pub first_busy-requires-in-Down-clause-low : goal.first_busy-requires-in-Down-cl
 first_busy-requires-in-Down-clause-low c =
     let t = c.args.site.now.tree in
     let tree : IsTree t = subst IsTree c.tree.ensures c.is_tree.ensures in
-    rw c.downwards.ensures (all_low t _ tree (depth_extends t))
+    rw c.downwards.ensures (all_numbered t _ tree (depth_extends t))
 
 pub first_busy-requires-in-Down-clause-few : goal.first_busy-requires-in-Down-clause-few
 first_busy-requires-in-Down-clause-few c = rw c.downwards.ensures (few_by_depth c.args.site.now.tree)

@@ -1,7 +1,11 @@
-use Rattle.std.proofs.Common.{arith, inl, inr}
+use Rattle.std.proofs.Common.{◌≡◌, arith, inl, inr}
 use Rattle.std.proofs.lemmas.Bool.{cases_lt}
+use Rattle.exb_boxes.proofs.Bits.{none_in_0}
 use Rattle.exb_network.proofs.Deepest.{extender_past}
 use Rattle.exb_network.proofs.orders.all_extenders.Goals as goal
+
+pub loop-number-init : goal.loop-number-init
+loop-number-init c = record { low = λ n before. (let e : n ≡ 0 = omega (arith, before) in rw e (none_in_0 0)); high = λ n from. none_in_0 n }
 
 pub returns : goal.returns
 returns c = λ n.

@@ -1,7 +1,7 @@
 use Rattle.std.proofs.Common.{◌≡◌, ℕ, ◌-◌, List, [], ◌∷◌, ◌++◌, refl, ap, ◌∙◌, arith}
 use Rattle.std.proofs.lemmas.Result.{on_ok_weaker}
 use Rattle.exb_model.specs.Traces.{Out}
-use Rattle.exb_network.specs.Worlds.{if_tracing}
+use Rattle.exb_boxes.specs.Logs.{if_tracing}
 use Rattle.exb_network.proofs.Cores.{left_one}
 use Rattle.exb_network.proofs.relaying.leave_bridge.Goals as goal
 

@@ -3,7 +3,7 @@ use Rattle.std.specs.Prelude.{None}
 use Rattle.exb_csp.specs.AllTables.{port_of}
 use Rattle.exb_machine.specs.Extending.{hung_on}
 use Rattle.exb_model.specs.Tree.{Shape}
-use Rattle.exb_network.specs.Rows.{ports_in}
+use Rattle.exb_boxes.specs.Rows.{ports_in}
 use Rattle.exb_network.proofs.Leaving.{bare_port}
 use Rattle.exb_network.proofs.sending.joins_at.Goals as goal
 

@@ -1,9 +1,9 @@
-use Rattle.std.proofs.Common.{◌≡◌, ℕ, List, [], ◌∷◌, ◌++◌, refl, ap, sym, ◌∙◌}
+use Rattle.std.proofs.Common.{ℕ, List, [], ◌∷◌, ◌++◌, refl, ap, sym, ◌∙◌}
 use Rattle.std.proofs.lemmas.Result.{on_ok_weaker}
 use Rattle.exb_model.specs.Traces.{TraceLine}
-use Rattle.exb_network.specs.declared.log.Left.{Left}
-use Rattle.exb_network.specs.Rows.{ports_in}
-use Rattle.exb_network.specs.Worlds.{if_tracing, row_outs}
+use Rattle.exb_boxes.specs.declared.log.Left.{Left}
+use Rattle.exb_boxes.specs.Rows.{ports_in}
+use Rattle.exb_boxes.specs.Logs.{if_tracing, row_outs}
 use Rattle.exb_network.proofs.Leaving.{row_leaves}
 use Rattle.exb_network.proofs.sending.leave_extender.Goals as goal
 

@@ -7,15 +7,16 @@ use Rattle.exb_machine.specs.Extending.{hung_on, sent_at}
 use Rattle.exb_machine.specs.Worlds.{Out, moment_of}
 use Rattle.exb_model.specs.Traces.{Out as OutText}
 use Rattle.exb_model.specs.Tree.{Shape}
-use Rattle.exb_network.specs.declared.log.Left.{Left}
-use Rattle.exb_network.specs.declared.log.Log.{Log}
-use Rattle.exb_network.specs.Worlds.{if_tracing, world_in, Does}
+use Rattle.exb_boxes.specs.declared.log.Left.{Left}
+use Rattle.exb_boxes.specs.declared.log.Log.{Log}
+use Rattle.exb_boxes.specs.Logs.{if_tracing}
+use Rattle.exb_network.specs.Worlds.{world_in, Does}
 use Rattle.exb_network.proofs.Cores.{leaves}
-use Rattle.exb_network.proofs.Hanging.{hung_low}
+use Rattle.exb_network.proofs.Hanging.{hung_numbered}
 use Rattle.exb_network.proofs.sending.send_at.Goals as goal
 
 pub push-requires : goal.push-requires
-push-requires c = hung_low c.tree-tree.result.now c.is_tree.ensures c.at-place.result c.in-Some.below (sym c.hung_on.ensures ∙ c.in-Some.is)
+push-requires c = hung_numbered c.tree-tree.result.now c.is_tree.ensures c.at-place.result c.in-Some.below (sym c.hung_on.ensures ∙ c.in-Some.is)
 
 pub returns-in-None : goal.returns-in-None
 returns-in-None c =

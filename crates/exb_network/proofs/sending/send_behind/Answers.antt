@@ -4,7 +4,7 @@ use Rattle.exb_extender.specs.Sending.{out_sent}
 use Rattle.exb_machine.specs.Effects.{each}
 use Rattle.exb_machine.specs.Extending.{sends}
 use Rattle.exb_network.specs.Leaving.{row_sent}
-use Rattle.exb_network.specs.Rows.{Row, ports_in}
+use Rattle.exb_boxes.specs.Rows.{Row, ports_in}
 use Rattle.exb_network.specs.Worlds.{world_in, Does}
 use Rattle.exb_network.proofs.Leaving.{went_behind}
 use Rattle.exb_network.proofs.sending.send_behind.Goals as goal

@@ -6,7 +6,7 @@ use Rattle.exb_extender.specs.Sending.{out_sent}
 use Rattle.exb_machine.specs.Effects.{each}
 use Rattle.exb_machine.specs.Extending.{sends}
 use Rattle.exb_network.specs.Leaving.{AreOuter}
-use Rattle.exb_network.specs.Rows.{ports_in}
+use Rattle.exb_boxes.specs.Rows.{ports_in}
 use Rattle.exb_network.specs.Worlds.{world_in}
 use Rattle.exb_network.proofs.Leaving.{behind_last, behind_next}
 use Rattle.exb_network.proofs.sending.send_frames.Goals as goal

@@ -4,7 +4,7 @@ use Rattle.exb_machine.specs.Effects.{each}
 use Rattle.exb_machine.specs.Extending.{sends}
 use Rattle.exb_network.specs.Leading.{Leads}
 use Rattle.exb_network.specs.Leaving.{row_sent, AreOuter}
-use Rattle.exb_network.specs.Rows.{ports_in}
+use Rattle.exb_boxes.specs.Rows.{ports_in}
 use Rattle.exb_network.specs.Worlds.{world_in, IsAt}
 use Rattle.exb_network.proofs.sending.send_frames.Given as goal
 

@@ -1,7 +1,7 @@
 use Rattle.std.proofs.lemmas.Result.{on_ok_weaker}
-use Rattle.exb_network.specs.Devices.{far_of}
+use Rattle.exb_boxes.specs.Devices.{far_of}
 use Rattle.exb_network.proofs.Reacting.{reacted_only}
-use Rattle.exb_network.proofs.Sides.{only_goes}
+use Rattle.exb_boxes.proofs.Sides.{only_goes}
 use Rattle.exb_network.proofs.taking.take.Goals as goal
 
 pub pass_on-requires-clause-can : goal.pass_on-requires-clause-can

@@ -1,4 +1,3 @@
-use Rattle.std.proofs.lemmas.Result.{on_ok_weaker}
 use Rattle.exb_extender.specs.Machine.{Arrives}
 use Rattle.exb_network.proofs.Reacting.{reacted}
 use Rattle.exb_network.proofs.taking.take_whole.Goals as goal
@@ -9,8 +8,5 @@ returns c =
     let core = c.args.core.now in
     let n = c.args.number in
     let word = c.args.word in
-    on_ok_weaker c.send_on.result
-    (λ done.
-    reacted s.tree s core c.send_on.new.core c.take.new.self n word.stamp (Arrives c.args.from word.bytes) word.bytes c.take.new.sends c.args.room.now.post.log c.send_on.new.post.log
-    (rw c.as_slice.ensures at c.take.ensures.state) (rw c.as_slice.ensures at c.take.ensures.sends) done)
-    c.send_on.ensures
+    reacted s.tree s core c.send_all.new.core c.take.new.self n word.stamp (Arrives c.args.from word.bytes) word.bytes c.take.new.sends c.args.room.now.post.log c.send_all.new.post.log
+    (rw c.as_slice-frame.ensures at c.take.ensures.state) (rw c.as_slice-frame.ensures at c.take.ensures.sends) (rw c.as_slice-frame.ensures at c.in_ok-send_all.ensures)

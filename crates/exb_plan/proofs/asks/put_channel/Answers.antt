@@ -4,10 +4,10 @@ use Rattle.std.proofs.lemmas.List.{take_all}
 use mathlib.Core.Path.{fun_ext}
 use Rattle.exb_model.specs.Ports.{port_in}
 use Rattle.exb_model.specs.Tree.{device}
-use Rattle.exb_changing.specs.declared.plans.row.Row.{Row}
-use Rattle.exb_changing.specs.Planning.Rows.{rows_of}
+use Rattle.exb_changing.specs.declared.planning.row.Row.{Row}
+use Rattle.exb_changing.specs.Plans.Rows.{rows_of}
 use Rattle.exb_csp.specs.declared.ask_at.AskAt.{AskAt}
-use Rattle.exb_changing.specs.Planning.Asks.{put_above}
+use Rattle.exb_changing.specs.Plans.Asks.{put_above}
 use Rattle.exb_plan.proofs.Messages.{above_are}
 use Rattle.exb_plan.proofs.asks.put_channel.Goals as goal
 

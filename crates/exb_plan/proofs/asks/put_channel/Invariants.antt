@@ -1,6 +1,6 @@
 use Rattle.std.proofs.Common.{◌≡◌, ◌++◌, take}
 use Rattle.std.specs.List.{flat_map}
-use Rattle.exb_changing.specs.Planning.Asks.{put_above}
+use Rattle.exb_changing.specs.Plans.Asks.{put_above}
 use Rattle.exb_plan.proofs.asks.put_channel.Given as goal
 
 -- the ancestors so far are asked

@@ -2,7 +2,7 @@ use Rattle.std.proofs.Common.{◌≡◌, ◌<◌, ◌==◌, ◌∙◌, ◌++◌,
 use Rattle.std.proofs.lemmas.Bool.{false≢true, eqb-true}
 use Rattle.exb_csp.specs.declared.group_rows.GroupRow.{GroupRow}
 use Rattle.exb_csp.specs.declared.message.Request.{Request}
-use Rattle.exb_changing.specs.Planning.Asks.{ask, message, asks_with}
+use Rattle.exb_changing.specs.Plans.Asks.{ask, message, asks_with}
 use Rattle.exb_plan.proofs.Messages.{asks_step, asks_none}
 use Rattle.exb_plan.proofs.asks.put_messages.Goals as goal
 

@@ -1,5 +1,5 @@
 use Rattle.std.proofs.Common.{◌≡◌, ◌++◌, length}
-use Rattle.exb_changing.specs.Planning.Asks.{asks_with}
+use Rattle.exb_changing.specs.Plans.Asks.{asks_with}
 use Rattle.exb_plan.proofs.asks.put_messages.Given as goal
 
 -- with what is left to ask they are all

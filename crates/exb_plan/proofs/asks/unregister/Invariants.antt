@@ -1,5 +1,5 @@
 use Rattle.std.proofs.Common.{◌≡◌, take}
-use Rattle.exb_changing.specs.Planning.Asks.{numbers_of}
+use Rattle.exb_changing.specs.Plans.Asks.{numbers_of}
 use Rattle.exb_plan.proofs.asks.unregister.Given as goal
 
 -- the numbers so far are pushed

@@ -1,7 +1,7 @@
 use Rattle.std.proofs.Common.{◌≡◌, ◌∙◌, ◌+◌, ◌-◌, ℕ, true, false, sym, ap, arith}
 use Rattle.exb_model.specs.Tree.{is_cascade_under}
 use Rattle.exb_model.proofs.Validity.{count_more_yes, count_more_no, count_none}
-use Rattle.exb_changing.proofs.Planning.Counts.{cascades_are}
+use Rattle.exb_changing.proofs.Plans.Counts.{cascades_are}
 use Rattle.exb_plan.proofs.below.cascades_under.Goals as goal
 use Rattle.exb_plan.proofs.below.cascades_under.Goals.{then-is_cascade_under, else-is_cascade_under}
 

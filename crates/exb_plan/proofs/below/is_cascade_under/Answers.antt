@@ -1,6 +1,6 @@
 use Rattle.std.proofs.Common.{◌≡◌, ℕ, ◌+◌, ◌/◌, ◌≤◌, subst, arith}
 use Rattle.exb_model.specs.Tree.{trunk}
-use Rattle.exb_changing.proofs.Planning.Trunks.{cascade_under_is}
+use Rattle.exb_changing.proofs.Plans.Trunks.{cascade_under_is}
 use Rattle.exb_plan.proofs.below.is_cascade_under.Goals as goal
 
 pub returns-in-Cascade : goal.returns-in-Cascade

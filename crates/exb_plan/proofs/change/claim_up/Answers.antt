@@ -1,8 +1,8 @@
 use Rattle.std.proofs.Common.{◌∙◌, ◌/◌, Option, ℕ, sym, ap, subst}
 use Rattle.exb_model.specs.Tree.{trunk}
-use Rattle.exb_changing.specs.Planning.Held.{Held, channel_used, free_port_of}
+use Rattle.exb_changing.specs.Plans.Held.{Held, channel_used, free_port_of}
 use Rattle.exb_plan.specs.Spaces.{held_by}
-use Rattle.exb_changing.specs.Planning.Plans.{without_channel}
+use Rattle.exb_changing.specs.Plans.Plans.{without_channel}
 use Rattle.exb_plan.specs.Working.{HasUp, HasChannel, CanClaimUp, CanClaimChannel}
 use Rattle.exb_plan.proofs.SpaceHeld.{given_used, given_back}
 use Rattle.exb_plan.proofs.change.claim_up.Goals as goal

@@ -3,9 +3,9 @@ use Rattle.exb_model.specs.Tree.{trunk, is_extended}
 use Rattle.exb_numbers.specs.Channels.{channel_of}
 use Rattle.exb_numbers.specs.Spaces.{channels_at}
 use Rattle.exb_plan.specs.Spaces.{held_by}
-use Rattle.exb_changing.specs.Planning.Held.{or_zero}
-use Rattle.exb_changing.specs.Planning.Plans.{own_channel}
-use Rattle.exb_changing.specs.Planning.Making.{IsAnyExtended}
+use Rattle.exb_changing.specs.Plans.Held.{or_zero}
+use Rattle.exb_changing.specs.Plans.Plans.{own_channel}
+use Rattle.exb_changing.specs.Plans.Making.{IsAnyExtended}
 use Rattle.exb_plan.proofs.SpaceHeld.{home_space, channel_in_is, unwrap_is}
 use Rattle.exb_plan.proofs.change.own_channel.Goals as goal
 

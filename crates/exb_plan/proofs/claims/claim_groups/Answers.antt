@@ -1,11 +1,11 @@
 use Rattle.std.proofs.Common.{◌≡◌, ◌∙◌, ◌+◌, ◌-◌, ◌++◌, ◌∷◌, [], ℕ, List, map, drop, length, sym, ap, subst, arith, length-append}
 use Rattle.std.proofs.lemmas.List.{drop_all, map-append}
 use Rattle.exb_model.specs.Ports.{ports_of}
-use Rattle.exb_changing.specs.Planning.Sets.{PortsAt, seen}
-use Rattle.exb_changing.specs.declared.plans.group_at.GroupAt.{GroupAt}
-use Rattle.exb_changing.specs.Planning.Held.{Group, group_for, free_group, give}
+use Rattle.exb_changing.specs.Plans.Sets.{PortsAt, seen}
+use Rattle.exb_changing.specs.declared.planning.group_at.GroupAt.{GroupAt}
+use Rattle.exb_changing.specs.Plans.Held.{Group, group_for, free_group, give}
 use Rattle.exb_plan.specs.Spaces.{held_by}
-use Rattle.exb_changing.specs.Planning.Making.{seen_group, AreFresh, IsFresh}
+use Rattle.exb_changing.specs.Plans.Making.{seen_group, AreFresh, IsFresh}
 use Rattle.exb_plan.specs.Working.{ArePlaced, IsPlaced}
 use Rattle.exb_plan.proofs.Lists.{image_rest}
 use Rattle.exb_plan.proofs.ClaimLoop.{IsClaiming, alike_itself, alike_more, claiming_begins, claiming_step, claiming_ends, limit_here}

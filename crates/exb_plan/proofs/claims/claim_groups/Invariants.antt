@@ -1,8 +1,8 @@
 use Rattle.std.proofs.Common.{◌≡◌, ◌≤◌, ℕ, map, drop, length}
 use Rattle.std.specs.Prelude.{vec_capacity}
-use Rattle.exb_changing.specs.Planning.Sets.{seen}
+use Rattle.exb_changing.specs.Plans.Sets.{seen}
 use Rattle.exb_plan.specs.Spaces.{held_by}
-use Rattle.exb_changing.specs.Planning.Making.{seen_group}
+use Rattle.exb_changing.specs.Plans.Making.{seen_group}
 use Rattle.exb_plan.specs.Working.{AreLimited, IsAlike}
 use Rattle.exb_plan.proofs.ClaimLoop.{IsClaiming}
 use Rattle.exb_plan.proofs.claims.claim_groups.Given as goal

@@ -1,9 +1,9 @@
 use Rattle.std.proofs.Common.{◌≡◌, ◌∙◌, ◌-◌, ◌++◌, ◌∷◌, [], ℕ, List, take, map, sym, ap, subst}
 use Rattle.std.proofs.lemmas.List.{append-nil, map-append}
-use Rattle.exb_changing.specs.declared.plans.group_at.GroupAt.{GroupAt}
-use Rattle.exb_changing.specs.Planning.Held.{Held, Group}
+use Rattle.exb_changing.specs.declared.planning.group_at.GroupAt.{GroupAt}
+use Rattle.exb_changing.specs.Plans.Held.{Held, Group}
 use Rattle.exb_plan.specs.Spaces.{held_by}
-use Rattle.exb_changing.specs.Planning.Making.{seen_group}
+use Rattle.exb_changing.specs.Plans.Making.{seen_group}
 use Rattle.exb_plan.specs.Working.{IsLaterBy}
 use Rattle.exb_plan.proofs.GivenBack.{IsLast, last_given, none_given}
 use Rattle.exb_plan.proofs.ClaimLoop.{alike_more}

@@ -1,8 +1,8 @@
 use Rattle.std.proofs.Common.{map}
 use Rattle.std.specs.Prelude.{vec_len}
-use Rattle.exb_changing.specs.Planning.Held.{Held}
+use Rattle.exb_changing.specs.Plans.Held.{Held}
 use Rattle.exb_plan.specs.Spaces.{held_by}
-use Rattle.exb_changing.specs.Planning.Making.{seen_group}
+use Rattle.exb_changing.specs.Plans.Making.{seen_group}
 use Rattle.exb_plan.specs.Working.{IsLaterBy, IsAlike}
 use Rattle.exb_plan.proofs.claims.free_groups.Given as goal
 

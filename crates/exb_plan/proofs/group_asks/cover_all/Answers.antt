@@ -1,7 +1,7 @@
 use Rattle.std.proofs.Common.{◌∙◌, List, map, take, sym, ap, refl}
-use Rattle.exb_changing.specs.Planning.Held.{Group}
-use Rattle.exb_changing.specs.Planning.Asks.{rows_at}
-use Rattle.exb_changing.specs.Planning.Making.{seen_group}
+use Rattle.exb_changing.specs.Plans.Held.{Group}
+use Rattle.exb_changing.specs.Plans.Asks.{rows_at}
+use Rattle.exb_changing.specs.Plans.Making.{seen_group}
 use Rattle.exb_plan.proofs.Lists.{image_next}
 use Rattle.exb_plan.proofs.RowSteps.{covered_more}
 use Rattle.exb_plan.proofs.group_asks.cover_all.Goals as goal

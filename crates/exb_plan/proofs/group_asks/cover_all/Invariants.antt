@@ -1,6 +1,6 @@
 use Rattle.std.proofs.Common.{◌≡◌, ℕ, take, map}
-use Rattle.exb_changing.specs.Planning.Asks.{rows_at}
-use Rattle.exb_changing.specs.Planning.Making.{seen_group}
+use Rattle.exb_changing.specs.Plans.Asks.{rows_at}
+use Rattle.exb_changing.specs.Plans.Making.{seen_group}
 use Rattle.exb_plan.specs.Working.{rows_of_covered}
 use Rattle.exb_plan.proofs.group_asks.cover_all.Given as goal
 

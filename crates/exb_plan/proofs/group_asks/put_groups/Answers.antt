@@ -4,8 +4,8 @@ use Rattle.std.proofs.lemmas.List.{take_all}
 use Rattle.exb_model.specs.Tree.{by_depth}
 use Rattle.exb_model.proofs.TreeLoops.{by_depth-range}
 use Rattle.exb_csp.specs.declared.ask_at.AskAt.{AskAt}
-use Rattle.exb_changing.specs.Planning.Asks.{asks_with}
-use Rattle.exb_changing.specs.Planning.Making.{seen_group}
+use Rattle.exb_changing.specs.Plans.Asks.{asks_with}
+use Rattle.exb_changing.specs.Plans.Making.{seen_group}
 use Rattle.exb_plan.specs.Working.{rows_of_covered}
 use Rattle.exb_plan.proofs.RowSteps.{all_asks}
 use Rattle.exb_plan.proofs.group_asks.put_groups.Goals as goal

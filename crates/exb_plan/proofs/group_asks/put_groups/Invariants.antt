@@ -1,7 +1,7 @@
 use Rattle.std.proofs.Common.{◌≡◌, ◌++◌, ℕ, take}
 use Rattle.std.specs.List.{flat_map}
 use Rattle.exb_model.specs.Tree.{by_depth}
-use Rattle.exb_changing.specs.Planning.Asks.{asks_with}
+use Rattle.exb_changing.specs.Plans.Asks.{asks_with}
 use Rattle.exb_plan.specs.Working.{rows_of_covered}
 use Rattle.exb_plan.proofs.group_asks.put_groups.Given as goal
 

@@ -1,5 +1,5 @@
 use Rattle.std.proofs.Common.{◌≡◌, map, fold, take}
-use Rattle.exb_changing.specs.Planning.Sets.{with_set_at, seen}
+use Rattle.exb_changing.specs.Plans.Sets.{with_set_at, seen}
 use Rattle.exb_plan.proofs.group_sets.put_all_once.Given as goal
 
 -- those of the sets so far

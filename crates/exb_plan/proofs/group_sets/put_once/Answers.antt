@@ -1,5 +1,5 @@
 use Rattle.std.proofs.Common.{◌∙◌, sym, ap, map}
-use Rattle.exb_changing.specs.Planning.Sets.{seen}
+use Rattle.exb_changing.specs.Plans.Sets.{seen}
 use Rattle.exb_plan.proofs.SetPorts.{empty_sets}
 use Rattle.exb_plan.proofs.SetFolds.{with_set-none}
 use Rattle.exb_plan.proofs.Once.{put_seen}

@@ -1,5 +1,5 @@
 use Rattle.std.proofs.Common.{◌∙◌, ◌-◌, ◌||◌, [], ◌∷◌, Bool, List, map, take, sym, ap}
-use Rattle.exb_changing.specs.Planning.Sets.{PortsAt, seen}
+use Rattle.exb_changing.specs.Plans.Sets.{PortsAt, seen}
 use Rattle.exb_plan.specs.Spaces.{held_by}
 use Rattle.exb_plan.specs.LostUses.{is_left}
 use Rattle.exb_plan.proofs.Lists.{image_next}

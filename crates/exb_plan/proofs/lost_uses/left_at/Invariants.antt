@@ -1,5 +1,5 @@
 use Rattle.std.proofs.Common.{◌≡◌, ◌-◌, ℕ, map, take}
-use Rattle.exb_changing.specs.Planning.Sets.{seen}
+use Rattle.exb_changing.specs.Plans.Sets.{seen}
 use Rattle.exb_plan.specs.Spaces.{held_by}
 use Rattle.exb_plan.specs.Rising.{is_among, IsRising}
 use Rattle.exb_plan.specs.LostUses.{is_left, AreGroups}

@@ -1,8 +1,8 @@
 use Rattle.std.proofs.Common.{◌≡◌, ◌∙◌, ◌-◌, ◌<◌, ◌||◌, Bool, ℕ, Some, None, sym, ap, subst, arith}
 use Rattle.std.proofs.lemmas.Result.{on_ok_weaker}
-use Rattle.exb_changing.specs.Planning.Sets.{seen}
+use Rattle.exb_changing.specs.Plans.Sets.{seen}
 use Rattle.exb_plan.specs.Spaces.{held_by}
-use Rattle.exb_changing.specs.Planning.Held.{group_in}
+use Rattle.exb_changing.specs.Plans.Held.{group_in}
 use Rattle.exb_plan.specs.Counted.{count_at}
 use Rattle.exb_plan.specs.Rising.{is_among}
 use Rattle.exb_plan.proofs.Recounting.{looked_up}

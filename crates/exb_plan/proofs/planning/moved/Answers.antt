@@ -1,5 +1,5 @@
 use Rattle.std.proofs.Common.{◌∙◌, ℕ, List, map, subst}
-use Rattle.exb_changing.specs.Planning.Sets.{seen}
+use Rattle.exb_changing.specs.Plans.Sets.{seen}
 use Rattle.exb_plan.specs.Recount.{AreLowered, HaveRowsOf}
 use Rattle.exb_plan.proofs.planning.moved.Goals as goal
 

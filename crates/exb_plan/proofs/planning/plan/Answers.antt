@@ -1,10 +1,10 @@
 use Rattle.std.proofs.Common.{◌∙◌, map, refl, sym, ap}
 use Rattle.exb_model.specs.Configuration.{after}
 use Rattle.exb_config.specs.Tables.{bridge_of}
-use Rattle.exb_changing.specs.Planning.Sets.{seen, sets_of}
+use Rattle.exb_changing.specs.Plans.Sets.{seen, sets_of}
 use Rattle.exb_plan.specs.Spaces.{held_by}
-use Rattle.exb_changing.specs.declared.plans.change.Decision.TheVariants.{Ready}
-use Rattle.exb_changing.proofs.Planning.Channels.{any_extended}
+use Rattle.exb_changing.specs.declared.planning.change.Decision.TheVariants.{Ready}
+use Rattle.exb_changing.proofs.Plans.Channels.{any_extended}
 use Rattle.exb_plan.proofs.WholePlans.{spaces_of, refusal_are, refused_is, refused_held, decided, decided_held}
 use Rattle.exb_plan.proofs.Moving.{used_sets}
 use Rattle.exb_plan.proofs.planning.plan.Goals as goal

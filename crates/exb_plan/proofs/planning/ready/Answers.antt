@@ -1,13 +1,13 @@
 use Rattle.std.proofs.Common.{◌≡◌, ◌∙◌, ℕ, List, Option, map, filter, not, sym, ap, subst}
 use Rattle.exb_model.specs.Configuration.{after}
 use Rattle.exb_config.specs.Tables.{bridge_of}
-use Rattle.exb_changing.specs.Planning.Sets.{PortsAt, seen, sets_of}
-use Rattle.exb_changing.specs.Planning.Touched.{parts_before, parts_after}
+use Rattle.exb_changing.specs.Plans.Sets.{PortsAt, seen, sets_of}
+use Rattle.exb_changing.specs.Plans.Touched.{parts_before, parts_after}
 use Rattle.exb_plan.specs.Spaces.{held_by}
-use Rattle.exb_changing.specs.Planning.Between.{gone_groups}
+use Rattle.exb_changing.specs.Plans.Between.{gone_groups}
 use Rattle.exb_plan.specs.Working.{CanClaim, CanClaimUp}
-use Rattle.exb_changing.specs.Planning.Making.{has_group, seen_group}
-use Rattle.exb_changing.proofs.Planning.Channels.{any_extended}
+use Rattle.exb_changing.specs.Plans.Making.{has_group, seen_group}
+use Rattle.exb_changing.proofs.Plans.Channels.{any_extended}
 use Rattle.exb_plan.proofs.WholePlans.{spaces_of, up_can, fresh_claim, changes_are, claims_are}
 use Rattle.exb_plan.specs.Recount.{AreEnough, AreLowered, AreRaised, AreUnused}
 use Rattle.exb_plan.specs.LostUses.{AreLeft}

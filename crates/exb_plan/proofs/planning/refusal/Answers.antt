@@ -1,6 +1,6 @@
 use Rattle.std.proofs.Common.{◌≡◌, true, Option, ℕ, subst}
 use Rattle.exb_model.specs.Tree.{is_extended}
-use Rattle.exb_changing.specs.Planning.Making.{IsAnyExtended}
+use Rattle.exb_changing.specs.Plans.Making.{IsAnyExtended}
 use Rattle.exb_plan.proofs.SpaceHeld.{home_space_at}
 use Rattle.exb_plan.proofs.planning.refusal.Goals as goal
 

@@ -1,6 +1,6 @@
 use Rattle.std.proofs.Common.{◌-◌, Some, None}
 use Rattle.exb_model.specs.Ports.{ports_of}
-use Rattle.exb_changing.specs.Planning.Sets.{seen}
+use Rattle.exb_changing.specs.Plans.Sets.{seen}
 use Rattle.exb_plan.proofs.Recounting.{looked_up, lowered_none, lowered_one, none_else}
 use Rattle.exb_plan.proofs.recount.lower.Goals as goal
 

@@ -1,5 +1,5 @@
 use Rattle.std.proofs.Common.{◌∙◌, ◌+◌, [], ◌∷◌, List, map, take, drop, sym, subst, rules}
-use Rattle.exb_changing.specs.Planning.Sets.{PortsAt, seen}
+use Rattle.exb_changing.specs.Plans.Sets.{PortsAt, seen}
 use Rattle.exb_plan.specs.Working.{IsPlaced}
 use Rattle.exb_plan.proofs.Lists.{image_next}
 use Rattle.exb_plan.specs.Recount.{AreLowered}

@@ -2,8 +2,8 @@ use Rattle.std.proofs.Common.{◌≡◌, ◌∙◌, ◌+◌, ◌-◌, ◌<◌, �
 use Rattle.std.specs.Prelude.{is_some}
 use Rattle.std.proofs.lemmas.Bool.{false≢true}
 use Rattle.exb_model.specs.declared.event.Cause.{Cause}
-use Rattle.exb_changing.specs.Planning.Sets.{seen}
-use Rattle.exb_changing.specs.Planning.Making.{how_many, is_at, short_at}
+use Rattle.exb_changing.specs.Plans.Sets.{seen}
+use Rattle.exb_changing.specs.Plans.Making.{how_many, is_at, short_at}
 use Rattle.exb_plan.proofs.Finding.{short_cause, short_found, short_none}
 use Rattle.exb_plan.specs.Counted.{used_at}
 use Rattle.exb_plan.proofs.shortage.groups_short.Goals as goal

@@ -2,7 +2,7 @@ use Rattle.std.proofs.Common.{◌∙◌, sym, ap, []}
 use Rattle.std.proofs.lemmas.Result.{on_ok_weaker}
 use Rattle.exb_model.specs.declared.command.Command.{Command}
 use Rattle.exb_config.specs.Tables.{bridge_of}
-use Rattle.exb_changing.specs.Planning.Touched.{touched_after}
+use Rattle.exb_changing.specs.Plans.Touched.{touched_after}
 use Rattle.exb_plan.proofs.PartLists.{adds_none, adds_same}
 use Rattle.exb_plan.proofs.Touching.{touched_is, same_after}
 use Rattle.exb_plan.proofs.touched.add_after.Goals as goal

@@ -3,7 +3,7 @@ use Rattle.std.specs.Option.{option_copied}
 use Rattle.std.proofs.lemmas.Result.{on_ok_weaker}
 use Rattle.exb_model.specs.declared.command.Command.{Command}
 use Rattle.exb_config.specs.Tables.{bridge_of}
-use Rattle.exb_changing.specs.Planning.Touched.{touched_before}
+use Rattle.exb_changing.specs.Plans.Touched.{touched_before}
 use Rattle.exb_plan.proofs.PartLists.{adds_none, adds_same}
 use Rattle.exb_plan.proofs.Touching.{touched_is, entry_there, entry_none}
 use Rattle.exb_plan.proofs.touched.add_before.Goals as goal

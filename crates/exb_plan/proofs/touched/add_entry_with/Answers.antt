@@ -2,7 +2,7 @@ use Rattle.std.proofs.Common.{◌∙◌, sym, [], filter}
 use Rattle.exb_model.specs.Ports.{port_in}
 use Rattle.exb_model.specs.Refusals.{both_kinds}
 use Rattle.exb_config.specs.Tables.{bridge_of}
-use Rattle.exb_changing.specs.Planning.Touched.{has_port}
+use Rattle.exb_changing.specs.Plans.Touched.{has_port}
 use Rattle.exb_plan.proofs.PartLists.{adds_none, adds_same}
 use Rattle.exb_plan.proofs.Touching.{kinds_apart}
 use Rattle.exb_plan.proofs.touched.add_entry_with.Goals as goal

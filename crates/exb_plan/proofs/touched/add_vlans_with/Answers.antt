@@ -2,7 +2,7 @@ use Rattle.std.proofs.Common.{◌≡◌, ◌∙◌, ◌+◌, ◌-◌, true, ap, 
 use Rattle.std.specs.List.{flat_map, range_with_len}
 use Rattle.exb_model.specs.Refusals.{Source, both_kinds}
 use Rattle.exb_config.specs.Tables.{bridge_of}
-use Rattle.exb_changing.specs.Planning.Touched.{has_port}
+use Rattle.exb_changing.specs.Plans.Touched.{has_port}
 use Rattle.exb_plan.proofs.PartLists.{all_among, adds_none, adds_more, adds_same}
 use Rattle.exb_plan.proofs.Touching.{vlans_more, vlans_are}
 use Rattle.exb_plan.proofs.touched.add_vlans_with.Goals as goal

@@ -3,7 +3,7 @@ use Rattle.std.specs.List.{flat_map, range_with_len}
 use Rattle.exb_model.specs.Tree.{Shape}
 use Rattle.exb_model.specs.Refusals.{both_kinds}
 use Rattle.exb_config.specs.Tables.{bridge_of}
-use Rattle.exb_changing.specs.Planning.Touched.{has_port}
+use Rattle.exb_changing.specs.Plans.Touched.{has_port}
 use Rattle.exb_plan.specs.Branches.{AreBranches}
 use Rattle.exb_plan.specs.Parts.{Adds}
 use Rattle.exb_plan.proofs.touched.add_vlans_with.Given as goal

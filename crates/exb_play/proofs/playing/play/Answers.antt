@@ -1,4 +1,4 @@
-use Rattle.std.proofs.Common.{◌≡◌, inl, inr, sym, subst, ◌∙◌, ℕ, true}
+use Rattle.std.proofs.Common.{◌≡◌, inl, inr, subst, ◌∙◌, ℕ, true}
 use Rattle.std.specs.Prelude.{string_bytes}
 use Rattle.exb_model.specs.Input.{Input}
 use Rattle.std.proofs.lemmas.Result.{err_from_is_err_and}

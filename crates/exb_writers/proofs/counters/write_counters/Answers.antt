@@ -2,7 +2,6 @@ use Rattle.std.proofs.Common.{rules, ◌≡◌, ◌<◌, ◌≤◌, ℕ, List, g
 use Rattle.std.proofs.lemmas.Grind.{get_or_default_zero}
 use Rattle.std.proofs.lemmas.List.{take_all}
 use Rattle.std.proofs.lemmas.Result.{err_from_is_err_and}
-use Rattle.exb_inputs.proofs.ShelvingLemmas.{counts_as, counts_from}
 use Rattle.exb_counters.specs.declared.counters.Counts5.{Counts5}
 use Rattle.exb_counters.specs.Counters.{count_line, count_lines}
 use Rattle.exb_model.specs.Tree.{external_ports}
@@ -15,7 +14,7 @@ use Rattle.exb_writers.proofs.Lines.{cut_counts, more_counts}
 use Rattle.exb_outputs.proofs.Places.{port_is}
 use Rattle.exb_outputs.proofs.Sizes.{counted_same, same_none, same_then}
 use Rattle.exb_writers.proofs.PortCounts.{counts_same}
-use Rattle.exb_outputs.proofs.ShelvingLemmas.{writes_none, writes_then}
+use Rattle.exb_outputs.proofs.ShelvingLemmas.{writes_from, writes_none, writes_then}
 use Rattle.exb_writers.proofs.counters.write_counters.Goals as goal
 
 pub loop-at-init : goal.loop-at-init
@@ -102,4 +101,4 @@ returns-in_err-add_count-clause-cut g c = λ t.
 pub returns-in_err-add_count-clause-faults : goal.returns-in_err-add_count-clause-faults
 returns-in_err-add_count-clause-faults g c =
     let e = err_from_is_err_and c.from_residual.result c.from_residual.ensures.1 in
-    rw (e.1, e.2) (counts_from _ _ _ _ c.loop-at.invariant.counted (counts_as c.in_err-add_count.field-0.0 _ _ c.in_err-add_count.ensures.faults))
+    rw (e.1, e.2) (writes_from _ _ _ _ c.loop-at.invariant.counted c.in_err-add_count.ensures.faults)

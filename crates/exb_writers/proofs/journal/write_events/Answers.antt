@@ -1,14 +1,13 @@
 use Rattle.std.proofs.Common.{rules, ◌<◌, take, length, arith, ◌≤◌, List, subst, ◌∙◌, refl}
 use Rattle.std.proofs.lemmas.List.{take_all}
 use Rattle.std.proofs.lemmas.Result.{err_from_is_err_and}
-use Rattle.exb_inputs.proofs.ShelvingLemmas.{counts_as, counts_from}
 use Rattle.exb_model.specs.declared.event.Event.{Event}
 use Rattle.exb_text.specs.declared.output.Output.TheVariants as output
 use Rattle.exb_outputs.specs.Writing.{HasTexts, pieces_of, with_more, lines_of}
 use Rattle.exb_outputs.proofs.OutputLemmas.{no_more}
 use Rattle.exb_writers.proofs.Lines.{cut_lines, more_lines}
 use Rattle.exb_outputs.proofs.Sizes.{same_none, same_then}
-use Rattle.exb_outputs.proofs.ShelvingLemmas.{writes_none, writes_then}
+use Rattle.exb_outputs.proofs.ShelvingLemmas.{writes_from, writes_none, writes_then}
 use Rattle.exb_writers.proofs.journal.write_events.Goals as goal
 
 pub loop-event-init : goal.loop-event-init
@@ -64,4 +63,4 @@ returns-clause-texts g c = λ t orig text p.
 pub returns-in_err-add_event-clause-faults : goal.returns-in_err-add_event-clause-faults
 returns-in_err-add_event-clause-faults g c =
     let e = err_from_is_err_and c.from_residual.result c.from_residual.ensures.1 in
-    rw (e.1, e.2) (counts_from _ _ _ _ c.loop-event.invariant.counted (counts_as c.in_err-add_event.field-0.0 _ _ c.in_err-add_event.ensures.faults))
+    rw (e.1, e.2) (writes_from _ _ _ _ c.loop-event.invariant.counted c.in_err-add_event.ensures.faults)

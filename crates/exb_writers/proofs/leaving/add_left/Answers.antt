@@ -1,6 +1,6 @@
 use Rattle.std.proofs.Common.{ℕ, List, [], length, ap, sym, subst, arith}
 use Rattle.exb_machine.specs.Worlds.{Left as Leaving}
-use Rattle.exb_network.specs.Rows.{ports_in}
+use Rattle.exb_boxes.specs.Rows.{ports_in}
 use Rattle.exb_outputs.specs.Sent.{HasSent}
 use Rattle.exb_outputs.specs.Writing.{HasTexts, pieces_of}
 use Rattle.exb_outputs.proofs.Sizes.{sent_as}

@@ -1,14 +1,13 @@
 use Rattle.std.proofs.Common.{rules, [], ◌<◌, take, length, arith, ◌≤◌, List, subst, ◌∙◌, refl}
 use Rattle.std.proofs.lemmas.List.{take_all}
 use Rattle.std.proofs.lemmas.Result.{err_from_is_err_and}
-use Rattle.exb_inputs.proofs.ShelvingLemmas.{counts_as, counts_from}
-use Rattle.exb_network.specs.declared.log.Left.{Left}
+use Rattle.exb_boxes.specs.declared.log.Left.{Left}
 use Rattle.exb_outputs.specs.Sent.{HasSent}
 use Rattle.exb_outputs.specs.Writing.{HasTexts, pieces_of}
 use Rattle.exb_writers.specs.Leaving.{sent_with, with_left_frames}
 use Rattle.exb_writers.proofs.Frames.{no_copies, more_frames, cut_left, frames_sent, sent_none}
 use Rattle.exb_outputs.proofs.Sizes.{sent_as}
-use Rattle.exb_outputs.proofs.ShelvingLemmas.{writes_none, writes_then}
+use Rattle.exb_outputs.proofs.ShelvingLemmas.{writes_from, writes_none, writes_then}
 use Rattle.exb_writers.proofs.leaving.write_left.Goals as goal
 
 pub loop-frame-init : goal.loop-frame-init
@@ -72,4 +71,4 @@ returns-clause-sent g c = λ sent has.
 pub returns-in_err-add_left-clause-faults : goal.returns-in_err-add_left-clause-faults
 returns-in_err-add_left-clause-faults g c =
     let e = err_from_is_err_and c.from_residual.result c.from_residual.ensures.1 in
-    rw (e.1, e.2) (counts_from _ _ _ _ c.loop-frame.invariant.counted (counts_as c.in_err-add_left.field-0.0 _ _ c.in_err-add_left.ensures.faults))
+    rw (e.1, e.2) (writes_from _ _ _ _ c.loop-frame.invariant.counted c.in_err-add_left.ensures.faults)

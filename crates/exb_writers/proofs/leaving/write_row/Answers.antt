@@ -1,12 +1,11 @@
 use Rattle.std.proofs.Common.{rules, ◌++◌, ℕ, List, [], ◌∷◌, refl, ap, sym, subst, ◌∙◌, arith}
 use Rattle.std.proofs.lemmas.Result.{err_from_is_err_and}
 use Rattle.exb_machine.specs.Worlds.{Left as Leaving}
-use Rattle.exb_inputs.proofs.ShelvingLemmas.{counts_as, counts_from}
-use Rattle.exb_network.specs.Rows.{ports_in}
+use Rattle.exb_boxes.specs.Rows.{ports_in}
 use Rattle.exb_outputs.specs.Sent.{HasSent, sent_more}
 use Rattle.exb_outputs.specs.Writing.{HasTexts, pieces_of}
 use Rattle.exb_outputs.proofs.Sizes.{sent_as}
-use Rattle.exb_outputs.proofs.ShelvingLemmas.{writes_none, writes_then}
+use Rattle.exb_outputs.proofs.ShelvingLemmas.{writes_from, writes_none, writes_then}
 use Rattle.exb_writers.specs.Leaving.{sent_with_copies, with_copies}
 use Rattle.exb_writers.proofs.Frames.{all_copied, copies_on, copy_can, cut_on, no_copies, rest_can, sent_none, sent_on, texts_on}
 use Rattle.exb_writers.proofs.leaving.write_row.Goals as goal
@@ -85,7 +84,7 @@ returns-in_err-write_record-clause-cut g c = λ t.
 pub returns-in_err-write_record-clause-faults : goal.returns-in_err-write_record-clause-faults
 returns-in_err-write_record-clause-faults g c =
     let e = err_from_is_err_and c.from_residual.result c.from_residual.ensures.1 in
-    rw (e.1, e.2) (counts_from _ _ _ _ c.loop-port.invariant.1.counted (counts_as c.in_err-write_record.field-0.0 _ _ c.in_err-write_record.ensures.faults))
+    rw (e.1, e.2) (writes_from _ _ _ _ c.loop-port.invariant.1.counted c.in_err-write_record.ensures.faults)
 
 pub returns-clause-texts : goal.returns-clause-texts
 returns-clause-texts g c = λ t orig text p.

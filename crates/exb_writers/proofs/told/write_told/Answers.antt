@@ -1,12 +1,11 @@
 use Rattle.std.proofs.Common.{◌∙◌}
 use Rattle.std.proofs.lemmas.Result.{err_from_is_err_and, on_err_weaker, on_ok_weaker}
-use Rattle.exb_inputs.proofs.ShelvingLemmas.{counts_as, counts_from}
 use Rattle.exb_model.specs.Traces.{trace_text}
 use Rattle.exb_text.specs.declared.output.Output.TheVariants as output
 use Rattle.exb_outputs.specs.Writing.{lines_of, with_more}
 use Rattle.exb_writers.specs.Leaving.{sent_with, with_left_frames}
 use Rattle.exb_outputs.proofs.Sizes.{sent_same}
-use Rattle.exb_outputs.proofs.ShelvingLemmas.{writes_then}
+use Rattle.exb_outputs.proofs.ShelvingLemmas.{writes_from, writes_then}
 use Rattle.exb_outputs.proofs.Cutting.{cut_more}
 use Rattle.exb_writers.proofs.Frames.{cut_frames}
 use Rattle.exb_writers.proofs.told.write_told.Goals as goal
@@ -66,7 +65,7 @@ returns-clause-sent g c =
 pub returns-in_err-write_left-clause-faults : goal.returns-in_err-write_left-clause-faults
 returns-in_err-write_left-clause-faults g c =
     let e = err_from_is_err_and c.from_residual-in_err-write_left.result c.from_residual-in_err-write_left.ensures.1 in
-    rw (e.1, e.2) (counts_from _ _ _ _ c.in_ok-write_events.ensures.faults.once (counts_as c.in_err-write_left.field-0.0 _ _ c.in_err-write_left.ensures.faults))
+    rw (e.1, e.2) (writes_from _ _ _ _ c.in_ok-write_events.ensures.faults.once c.in_err-write_left.ensures.faults)
 
 pub returns-clause-faults : goal.returns-clause-faults
-returns-clause-faults g c = counts_from c.write_trace.result _ _ _ (c.in_ok-write_left.ensures.faults.once ∙ c.in_ok-write_events.ensures.faults.once) c.write_trace.ensures.faults
+returns-clause-faults g c = writes_from c.write_trace.result _ _ _ (c.in_ok-write_left.ensures.faults.once ∙ c.in_ok-write_events.ensures.faults.once) c.write_trace.ensures.faults

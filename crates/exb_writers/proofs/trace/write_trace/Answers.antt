@@ -2,7 +2,6 @@ use Rattle.std.proofs.Common.{rules, ◌<◌, take, length, arith, ◌≤◌, Li
 use Rattle.std.proofs.lemmas.Bool.{false≢true}
 use Rattle.std.proofs.lemmas.List.{take_all}
 use Rattle.std.proofs.lemmas.Result.{err_from_is_err_and}
-use Rattle.exb_inputs.proofs.ShelvingLemmas.{counts_as, counts_from}
 use Rattle.exb_model.specs.Traces.{TraceLine}
 use Rattle.exb_model.specs.Traces.{trace_text}
 use Rattle.exb_text.specs.declared.output.Output.TheVariants as output
@@ -12,7 +11,7 @@ use Rattle.exb_outputs.proofs.OutputLemmas.{no_more, not_written}
 use Rattle.exb_writers.proofs.Lines.{cut_trace, more_trace}
 use Rattle.exb_writers.proofs.PortCounts.{asked_for, unasked}
 use Rattle.exb_outputs.proofs.Sizes.{same_none, same_then}
-use Rattle.exb_outputs.proofs.ShelvingLemmas.{writes_none, writes_then}
+use Rattle.exb_outputs.proofs.ShelvingLemmas.{writes_from, writes_none, writes_then}
 use Rattle.exb_writers.proofs.trace.write_trace.Goals as goal
 
 pub loop-one-init : goal.loop-one-init
@@ -69,7 +68,7 @@ returns-clause-texts g c = λ t orig text p.
 pub returns-in_err-add_line-clause-faults : goal.returns-in_err-add_line-clause-faults
 returns-in_err-add_line-clause-faults g c =
     let e = err_from_is_err_and c.from_residual.result c.from_residual.ensures.1 in
-    rw (e.1, e.2) (counts_from _ _ _ _ c.loop-one.invariant.counted (counts_as c.in_err-add_line.field-0.0 _ _ c.in_err-add_line.ensures.faults))
+    rw (e.1, e.2) (writes_from _ _ _ _ c.loop-one.invariant.counted c.in_err-add_line.ensures.faults)
 
 -- where no trace is asked for
 pub returns-then-not-options-clause-texts : goal.returns-then-not-options-clause-texts

@@ -1,6 +1,4 @@
-use Rattle.std.proofs.Common.{◌≡◌, ◌∙◌, ◌&&◌, Bool, false, sym, ap, ◌↔◌, IsTrue, ℕ}
-use Rattle.exb_model.specs.Ports.{port_in}
-use Rattle.exb_model.proofs.PortLemmas.{any_below-true}
+use Rattle.std.proofs.Common.{◌∙◌, ◌&&◌, sym, ap}
 use Rattle.exb_config.proofs.Rows.{empty_test, not_empty}
 use Rattle.exb_config.proofs.members.Members.is_empty.Goals as goal
 

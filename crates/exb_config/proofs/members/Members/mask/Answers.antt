@@ -1,4 +1,4 @@
-use Rattle.std.proofs.Common.{◌≡◌, ◌∙◌, ◌+◌, ◌*◌, sym, ap}
+use Rattle.std.proofs.Common.{◌∙◌, ◌+◌, ◌*◌, sym, ap}
 use Rattle.exb_model.specs.declared.vlan.Kind.{Kind}
 use Rattle.exb_model.specs.Masks.{bits_of}
 use Rattle.exb_model.specs.Configuration.{kind_in}

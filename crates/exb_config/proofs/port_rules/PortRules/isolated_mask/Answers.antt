@@ -1,4 +1,4 @@
-use Rattle.std.proofs.Common.{◌≡◌, ◌∙◌, ◌+◌, ◌*◌, ℕ, List, ap}
+use Rattle.std.proofs.Common.{◌∙◌, ◌+◌, ◌*◌, List, ap}
 use Rattle.exb_model.specs.declared.rules.PortRule.{PortRule}
 use Rattle.exb_model.specs.Masks.{bits_of}
 use Rattle.exb_model.proofs.MaskLemmas.{bits_of-same}

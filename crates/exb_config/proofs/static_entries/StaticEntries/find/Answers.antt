@@ -1,4 +1,4 @@
-use Rattle.std.proofs.Common.{◌≡◌, ◌∙◌, sym, ap}
+use Rattle.std.proofs.Common.{◌∙◌, sym}
 use Rattle.exb_config.proofs.Statics.{find_of, find_none}
 use Rattle.exb_config.proofs.static_entries.StaticEntries.find.Goals as goal
 

@@ -1,4 +1,4 @@
-use Rattle.std.proofs.Common.{◌≡◌, ◌∙◌, sym, ap}
+use Rattle.std.proofs.Common.{◌∙◌, ap}
 use Rattle.exb_config.specs.Rows.{statics_of}
 use Rattle.exb_config.proofs.Statics.{put_of}
 use Rattle.exb_config.proofs.static_entries.StaticEntries.put.Goals as goal

@@ -20,4 +20,4 @@ returns-in-Ok-clause-ok g c = λ n s told k free.
     arrived_so n s told x k c.args.bridge a _ refl refl (c.in-Ok.ensures.ok n s told (is_coming n s told x k c.args.bridge a c.requires.few c.requires.here free c.requires.can) k.wires)
 
 pub invariant_of-self-in-Err : goal.invariant_of-self-in-Err
-invariant_of-self-in-Err g c = record { quiet = all_marked c.play_arrival.new.nodes.items }
+invariant_of-self-in-Err g c = record { quiet = all_marked c.all-self.result c.all-self.ensures c.play_arrival.new.nodes.items }

@@ -10,4 +10,4 @@ pub returns-in-Ok-clause-begun : goal.returns-in-Ok-clause-begun
 returns-in-Ok-clause-begun g c = λ n of net. begun_so n c.args.setup.now _ of net c.in-Ok.ensures.long c.in-Ok.ensures.ok refl c.new.ensures.items (ap (λ zs. length zs) c.as_slice.ensures)
 
 pub invariant_of-result : goal.invariant_of-result
-invariant_of-result g c = record { quiet = all_marked c.make_all.new.nodes.items }
+invariant_of-result g c = record { quiet = all_marked c.all.result c.all.ensures c.make_all.new.nodes.items }

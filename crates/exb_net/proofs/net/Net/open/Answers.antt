@@ -10,7 +10,7 @@ pub returns-in-Ok-clause-ok : goal.returns-in-Ok-clause-ok
 returns-in-Ok-clause-ok g c = λ n k. opened_so n c.args.self.now _ k c.in-Ok.ensures.ok c.opened_nets_run.ensures (record { queue = refl; wires = refl; came = refl })
 
 pub invariant_of-self : goal.invariant_of-self
-invariant_of-self g c = record { quiet = all_marked c.open_all.new.nodes.items }
+invariant_of-self g c = record { quiet = all_marked c.all-self.result c.all-self.ensures c.open_all.new.nodes.items }
 
 pub invariant_of-self-in-Err : goal.invariant_of-self-in-Err
-invariant_of-self-in-Err g c = record { quiet = all_marked c.open_all.new.nodes.items }
+invariant_of-self-in-Err g c = record { quiet = all_marked c.all-self.result c.all-self.ensures c.open_all.new.nodes.items }

@@ -15,7 +15,7 @@ returns-in-Ok-clause-ok g c = λ n s told k.
     (let some = ne_eqb c.args.seconds 0 c.if-seconds-eq0.false in passed_so n s told c.args.self.now k c.seconds_pass.ensures _ (record { queue = refl; wires = refl; came = refl }) c.args.seconds some (c.requires.can some) c.in-Ok.ensures.ok)
 
 pub invariant_of-self : goal.invariant_of-self
-invariant_of-self g c = record { quiet = all_marked c.pass_all.new.nodes.items }
+invariant_of-self g c = record { quiet = all_marked c.all-self.result c.all-self.ensures c.pass_all.new.nodes.items }
 
 pub invariant_of-self-in-Err : goal.invariant_of-self-in-Err
-invariant_of-self-in-Err g c = record { quiet = all_marked c.pass_all.new.nodes.items }
+invariant_of-self-in-Err g c = record { quiet = all_marked c.all-self.result c.all-self.ensures c.pass_all.new.nodes.items }

@@ -1,5 +1,6 @@
 use Rattle.std.proofs.Common.{List, ap, sym, subst, ◌∙◌, arith}
 use Rattle.exb_model.specs.Texts.{Counts, summary_line}
+use Rattle.exb_outputs.proofs.ShelvingLemmas.{fault_counts, is_writing}
 use Rattle.exb_text.specs.Tallies.{FitsTally}
 use Rattle.exb_net_run.specs.declared.desk.Desk.{Desk}
 use Rattle.exb_net_run.specs.Desks.{tallies_in}
@@ -30,6 +31,16 @@ pub returns-in_err-line-clause-cut : goal.returns-in_err-line-clause-cut
 returns-in_err-line-clause-cut g c = λ t.
     let e = err_from_is_err_and c.from_residual-in_err-line.result c.from_residual-in_err-line.ensures.1 in
     rw e.1 (λ dones noted. whole_all_fronts (g.S.Shelf.file c.finish_all.new.shelf) c.args.self.now.desks.items dones (c.in_ok-finish_all.ensures.texts t dones noted))
+
+pub returns-in_err-finish_all-clause-causes : goal.returns-in_err-finish_all-clause-causes
+returns-in_err-finish_all-clause-causes g c =
+    let e = err_from_is_err_and c.from_residual.result c.from_residual.ensures.1 in
+    rw (e.1, e.2) (is_writing c.in_err-finish_all.field-0.0)
+
+pub returns-in_err-finish_all-clause-faults : goal.returns-in_err-finish_all-clause-faults
+returns-in_err-finish_all-clause-faults g c =
+    let e = err_from_is_err_and c.from_residual.result c.from_residual.ensures.1 in
+    rw (e.1, e.2) (fault_counts c.in_err-finish_all.field-0.0 _ _ c.in_err-finish_all.ensures.faults)
 
 pub returns-clause-line : goal.returns-clause-line
 returns-clause-line g c =

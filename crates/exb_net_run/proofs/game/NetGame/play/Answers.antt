@@ -1,8 +1,10 @@
 use Rattle.std.proofs.Common.{◌∙◌, List, sym, subst, arith}
 use Rattle.std.proofs.lemmas.Result.{err_from_is_err_and, on_err_weaker}
+use Rattle.exb_inputs.specs.Answers.{fault_of}
 use Rattle.exb_inputs.proofs.Outcomes.{if_err_map, if_ok_map, when_ok}
 use Rattle.exb_inputs.proofs.ShelvingLemmas.{counts_from}
 use Rattle.exb_outputs.specs.Manifests.{Listed}
+use Rattle.exb_outputs.proofs.ShelvingLemmas.{fault_counts, is_writing}
 use Rattle.exb_merge.specs.NetAgendas.{all_ids, programmes_in}
 use Rattle.exb_net.specs.Nets.{no_dones}
 use Rattle.exb_net_run.specs.Desks.{AreManifestsApart, manifests_in}
@@ -116,7 +118,7 @@ returns-clause-cut g c = λ t. on_err_weaker c.play_on.result
 pub returns-in_err-note-clause-never : goal.returns-in_err-note-clause-never
 returns-in_err-note-clause-never g c t =
     let e = err_from_is_err_and c.from_residual.result c.from_residual.ensures.1 in
-    rw (e.1, e.2) (λ change r begin. writing-never c.in_err-note.field-0.0 c.in_err-note.ensures.causes change)
+    rw (e.1, e.2) (λ change r begin. writing-never (fault_of c.in_err-note.field-0.0) (is_writing c.in_err-note.field-0.0) change)
 
 pub returns-clause-never : goal.returns-clause-never
 returns-clause-never g c tells = if_err_map c.play_on.result
@@ -152,12 +154,17 @@ returns-clause-only g c =
 pub returns-in_err-note-clause-changed : goal.returns-in_err-note-clause-changed
 returns-in_err-note-clause-changed g c name p at =
     let e = err_from_is_err_and c.from_residual.result c.from_residual.ensures.1 in
-    rw (e.1, e.2) (λ is. writing-changed (IsOfCaptures c.args.rests.now (programmes_in c.args.agenda.now)) c.in_err-note.field-0.0 c.in_err-note.ensures.causes name p at (err-own _ _ is))
+    rw (e.1, e.2) (λ is. writing-changed (IsOfCaptures c.args.rests.now (programmes_in c.args.agenda.now)) (fault_of c.in_err-note.field-0.0) (is_writing c.in_err-note.field-0.0) name p at (err-own _ _ is))
 
 pub returns-in_err-note-clause-causes : goal.returns-in_err-note-clause-causes
 returns-in_err-note-clause-causes g c =
     let e = err_from_is_err_and c.from_residual.result c.from_residual.ensures.1 in
-    rw (e.1, e.2) (writing-play c.in_err-note.field-0.0 c.in_err-note.ensures.causes)
+    rw (e.1, e.2) (writing-play (fault_of c.in_err-note.field-0.0) (is_writing c.in_err-note.field-0.0))
+
+pub returns-in_err-note-clause-faults : goal.returns-in_err-note-clause-faults
+returns-in_err-note-clause-faults g c =
+    let e = err_from_is_err_and c.from_residual.result c.from_residual.ensures.1 in
+    rw (e.1, e.2) (fault_counts c.in_err-note.field-0.0 _ _ c.in_err-note.ensures.faults)
 
 pub returns-clause-faults : goal.returns-clause-faults
 returns-clause-faults g c = counts_from c.play_on.result _ _ _ c.in_ok-note.ensures.faults.once c.play_on.ensures.faults

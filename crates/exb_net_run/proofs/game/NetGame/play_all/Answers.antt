@@ -4,10 +4,12 @@ use Rattle.exb_model.specs.Input.{second_of}
 use Rattle.exb_merge.specs.declared.agenda.NetNext.{NetNext}
 use Rattle.exb_merge.specs.NetAgendas.{AreAllReplays, IsFirstOf, all_ids, programmes_in}
 use Rattle.exb_merge.specs.Streams.{Stream}
+use Rattle.exb_inputs.specs.Answers.{fault_of}
 use Rattle.exb_inputs.specs.Shelving.{OnlyReads}
 use Rattle.exb_inputs.proofs.Outcomes.{some_at}
 use Rattle.exb_inputs.proofs.ShelvingLemmas.{counts_as, counts_from, fewer_same, fewer_then}
 use Rattle.exb_outputs.specs.Manifests.{Listed}
+use Rattle.exb_outputs.proofs.ShelvingLemmas.{fault_counts, is_writing}
 use Rattle.exb_net_run.specs.Desks.{OnlyWritesAll, manifests_in}
 use Rattle.exb_net_run.specs.Shelving.{IsOfCaptures}
 use Rattle.exb_net_run.proofs.Awaited.{all-told, cut-read, few-orders, is-due, ports-on, ready-on, rests-on, seconds-few, within-paid}
@@ -179,7 +181,7 @@ returns-in_err-due-clause-never g c t =
 pub returns-in_err-turn-clause-never : goal.returns-in_err-turn-clause-never
 returns-in_err-turn-clause-never g c t =
     let e = err_from_is_err_and c.from_residual-in_err-turn.result c.from_residual-in_err-turn.ensures.1 in
-    rw (e.1, e.2) (λ change r start. writing-never c.in_err-turn.field-0.0 c.in_err-turn.ensures.causes change)
+    rw (e.1, e.2) (λ change r start. writing-never (fault_of c.in_err-turn.field-0.0) (is_writing c.in_err-turn.field-0.0) change)
 
 pub returns-in_err-due-clause-only : goal.returns-in_err-due-clause-only
 returns-in_err-due-clause-only g c =
@@ -217,12 +219,12 @@ returns-in_err-due-clause-changed g c name p at =
 pub returns-in_err-turn-clause-changed : goal.returns-in_err-turn-clause-changed
 returns-in_err-turn-clause-changed g c name p at =
     let e = err_from_is_err_and c.from_residual-in_err-turn.result c.from_residual-in_err-turn.ensures.1 in
-    rw (e.1, e.2) (λ is. writing-changed (IsOfCaptures c.args.rests.now (programmes_in c.args.agenda.now)) c.in_err-turn.field-0.0 c.in_err-turn.ensures.causes name p at (err-own _ _ is))
+    rw (e.1, e.2) (λ is. writing-changed (IsOfCaptures c.args.rests.now (programmes_in c.args.agenda.now)) (fault_of c.in_err-turn.field-0.0) (is_writing c.in_err-turn.field-0.0) name p at (err-own _ _ is))
 
 pub returns-in_err-turn-clause-causes : goal.returns-in_err-turn-clause-causes
 returns-in_err-turn-clause-causes g c =
     let e = err_from_is_err_and c.from_residual-in_err-turn.result c.from_residual-in_err-turn.ensures.1 in
-    rw (e.1, e.2) (writing-play c.in_err-turn.field-0.0 c.in_err-turn.ensures.causes)
+    rw (e.1, e.2) (writing-play (fault_of c.in_err-turn.field-0.0) (is_writing c.in_err-turn.field-0.0))
 
 pub returns-in_err-due-clause-faults : goal.returns-in_err-due-clause-faults
 returns-in_err-due-clause-faults g c =
@@ -232,4 +234,4 @@ returns-in_err-due-clause-faults g c =
 pub returns-in_err-turn-clause-faults : goal.returns-in_err-turn-clause-faults
 returns-in_err-turn-clause-faults g c =
     let e = err_from_is_err_and c.from_residual-in_err-turn.result c.from_residual-in_err-turn.ensures.1 in
-    rw (e.1, e.2) (counts_from _ _ _ _ (c.in_ok-due.ensures.faults.once ∙ c.events.invariant.none_counted) (counts_as c.in_err-turn.field-0.0 _ _ c.in_err-turn.ensures.faults))
+    rw (e.1, e.2) (counts_from _ _ _ _ (c.in_ok-due.ensures.faults.once ∙ c.events.invariant.none_counted) (fault_counts c.in_err-turn.field-0.0 _ _ c.in_err-turn.ensures.faults))

@@ -1,10 +1,10 @@
 use Rattle.std.proofs.Common.{◌≡◌, ◌<◌, ◌∙◌, length, refl, arith}
 use Rattle.std.proofs.lemmas.Result.{err_from_is_err_and}
-use Rattle.exb_inputs.proofs.ShelvingLemmas.{counts_as, counts_from}
 use Rattle.exb_outputs.specs.Manifests.{output_count, output_name}
 use Rattle.exb_outputs.specs.Writing.{pieces_of}
 use Rattle.exb_outputs.proofs.OutputLemmas.{can_be_written, name_of_file, is_flushed, more_empty, all_written, of_kind}
 use Rattle.exb_outputs.proofs.Cutting.{cut_piece}
+use Rattle.exb_outputs.proofs.ShelvingLemmas.{writes_from}
 use Rattle.exb_outputs.proofs.Sizes.{ready_with}
 use Rattle.exb_outputs.proofs.outputs.Outputs.finish.Goals as goal
 
@@ -64,7 +64,7 @@ returns-in_err-flush-clause-cut g c = λ t.
 pub returns-in_err-flush-clause-faults : goal.returns-in_err-flush-clause-faults
 returns-in_err-flush-clause-faults g c =
     let e = err_from_is_err_and c.from_residual.result c.from_residual.ensures.1 in
-    rw (e.1, e.2) (counts_from _ _ _ _ c.loop-at.invariant.counted (counts_as c.in_err-flush.field-0.0 _ _ c.in_err-flush.ensures.faults))
+    rw (e.1, e.2) (writes_from _ _ _ _ c.loop-at.invariant.counted c.in_err-flush.ensures.faults)
 
 pub returns-in_err-flush-clause-only : goal.returns-in_err-flush-clause-only
 returns-in_err-flush-clause-only g c =

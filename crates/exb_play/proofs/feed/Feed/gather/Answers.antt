@@ -1,7 +1,7 @@
-use Rattle.std.proofs.Common.{◌≡◌, ℕ, List, ap, sym, subst, ◌∙◌}
+use Rattle.std.proofs.Common.{◌≡◌, ℕ, List, Err, ap, sym, subst, ◌∙◌}
 use Rattle.std.proofs.lemmas.Result.{err_from_is_err_and}
 use Rattle.exb_merge.proofs.Onward.{ports_before}
-use Rattle.exb_inputs.proofs.ShelvingLemmas.{counts_as, counts_from}
+use Rattle.exb_inputs.proofs.ShelvingLemmas.{fewer_then}
 use Rattle.exb_model.specs.Input.{Eager, Seeded}
 use Rattle.exb_merge.specs.Replays.{ids_in}
 use Rattle.exb_play.specs.Playing.{mode_of}
@@ -9,6 +9,7 @@ use Rattle.exb_inputs.specs.Shelving.{OnlyReads}
 use Rattle.exb_play.proofs.Gathering.{gathers-all, gathers-alone}
 use Rattle.exb_outputs.proofs.Keeping.{only-reads-then}
 use Rattle.exb_inputs.proofs.Outcomes.{some_at}
+use Rattle.exb_play.proofs.Ports.{again-from, again-own}
 use Rattle.exb_play.proofs.feed.Feed.gather.Goals as goal
 
 pub returns-in_err-take_second-in-Seeded-clause-reads : goal.returns-in_err-take_second-in-Seeded-clause-reads
@@ -51,9 +52,27 @@ pub returns-in_err-take_second-in-Seeded-clause-port : goal.returns-in_err-take_
 returns-in_err-take_second-in-Seeded-clause-port g c =
     let e = err_from_is_err_and c.from_residual-in_err-take_second-in-Seeded.result c.from_residual-in_err-take_second-in-Seeded.ensures.1 in
     let (d, one, is) = some_at _ c.in_ok-second.field-0 c.in-Some.second c.in-Some.is c.in_ok-second.ensures.taken in
-    rw (e.1, e.2) (λ p at same. ports_before c.args.self.now.programme d c.take_first.new.self.programme one.coming.is p (c.in_err-take_second-in-Seeded.ensures.port p at same))
+    rw (e.1, e.2) (λ p at same. ports_before c.args.self.now.programme d c.take_first.new.self.programme one.coming.is p (c.in_err-take_second-in-Seeded.ensures.port p at (ap Err (again-own _ _ same))))
+
+pub returns-in_err-take_second-in-Seeded-clause-never : goal.returns-in_err-take_second-in-Seeded-clause-never
+returns-in_err-take_second-in-Seeded-clause-never g c t =
+    let e = err_from_is_err_and c.from_residual-in_err-take_second-in-Seeded.result c.from_residual-in_err-take_second-in-Seeded.ensures.1 in
+    let (d, one, is) = some_at _ c.in_ok-second.field-0 c.in-Some.second c.in-Some.is c.in_ok-second.ensures.taken in
+    rw (e.1, e.2)
+    (λ p at same streams replays.
+    let rest = one.takes t streams replays in
+    c.in_err-take_second-in-Seeded.ensures.never t p at (ap Err (again-own _ _ same)) rest.0 rest.2)
+
+pub returns-in_err-take_second-in-Seeded-clause-counts : goal.returns-in_err-take_second-in-Seeded-clause-counts
+returns-in_err-take_second-in-Seeded-clause-counts g c =
+    let e = err_from_is_err_and c.from_residual-in_err-take_second-in-Seeded.result c.from_residual-in_err-take_second-in-Seeded.ensures.1 in
+    rw (e.1, e.2) (again-from c.in_err-take_second-in-Seeded.field-0.0 _ _ _ c.in_ok-second.ensures.counts c.in_err-take_second-in-Seeded.ensures.counts)
 
 pub returns-in_err-take_second-in-Seeded-clause-faults : goal.returns-in_err-take_second-in-Seeded-clause-faults
-returns-in_err-take_second-in-Seeded-clause-faults g c =
-    let e = err_from_is_err_and c.from_residual-in_err-take_second-in-Seeded.result c.from_residual-in_err-take_second-in-Seeded.ensures.1 in
-    rw (e.1, e.2) (counts_from _ _ _ _ c.in_ok-second.ensures.faults.once (counts_as c.in_err-take_second-in-Seeded.field-0.0 _ _ c.in_err-take_second-in-Seeded.ensures.faults))
+returns-in_err-take_second-in-Seeded-clause-faults g c = fewer_then _ _ _ c.take_first.ensures.faults c.take_second.ensures.faults
+
+pub returns-in_ok-take_second-in-Seeded-clause-counts : goal.returns-in_ok-take_second-in-Seeded-clause-counts
+returns-in_ok-take_second-in-Seeded-clause-counts g c = c.in_ok-take_second-in-Seeded.ensures.counts ∙ c.in_ok-second.ensures.counts
+
+pub returns-in_ok-take_second-in-Seeded-clause-faults : goal.returns-in_ok-take_second-in-Seeded-clause-faults
+returns-in_ok-take_second-in-Seeded-clause-faults g c = fewer_then _ _ _ c.take_first.ensures.faults c.take_second.ensures.faults

@@ -1,11 +1,12 @@
-use Rattle.std.proofs.Common.{ℕ, List, refl, subst, ◌∙◌}
+use Rattle.std.proofs.Common.{ℕ, List, Err, ap, refl, subst, ◌∙◌}
 use Rattle.std.proofs.lemmas.Result.{err_from_is_err_and}
 use Rattle.exb_merge.proofs.Onward.{ports_before}
 use Rattle.exb_merge.specs.Replays.{ids_in}
 use Rattle.exb_inputs.specs.Shelving.{OnlyReads}
 use Rattle.exb_play.proofs.Gathering.{gathers-more, gathers-same}
 use Rattle.exb_outputs.proofs.Keeping.{only-reads-then, replays-read}
-use Rattle.exb_inputs.proofs.ShelvingLemmas.{fewer_then, counts_as, counts_from}
+use Rattle.exb_inputs.proofs.ShelvingLemmas.{fewer_then}
+use Rattle.exb_play.proofs.Ports.{again-from, again-own}
 use Rattle.exb_play.proofs.feed.Feed.take_second.Goals as goal
 
 pub returns-in_err-take_within-clause-reads : goal.returns-in_err-take_within-clause-reads
@@ -28,8 +29,8 @@ second-preserved g c =
           c.args.self.now c.second.self c.take_within.new.self d inv.so_far one is;
       same = one.coming.ids ∙ inv.same;
       only = only-reads-then (ids_in c.args.self.now.programme.captures) _ _ _ _ _ _ inv.only read;
-      faults = fewer_then _ _ _ inv.faults c.take_within.ensures.faults.none_fell;
-      counted = c.in_ok-take_within.ensures.faults.once ∙ inv.counted;
+      faults = fewer_then _ _ _ inv.faults c.take_within.ensures.faults;
+      counted = c.in_ok-take_within.ensures.counts ∙ inv.counted;
       ports = λ q has. inv.ports q (ports_before c.second.self.programme d c.take_within.new.self.programme one.coming.is q has);
     }
 
@@ -47,12 +48,29 @@ returns-clause-taken g c =
           streams inv.feed.programme.opened.each c.take_within.ensures.reads replays,
     ))
 
-pub returns-in_err-take_within-clause-faults : goal.returns-in_err-take_within-clause-faults
-returns-in_err-take_within-clause-faults g c =
+pub returns-in_err-take_within-clause-never : goal.returns-in_err-take_within-clause-never
+returns-in_err-take_within-clause-never g c t =
     let e = err_from_is_err_and c.from_residual.result c.from_residual.ensures.1 in
-    rw (e.1, e.2) (counts_from _ _ _ _ c.second.invariant.counted (counts_as c.in_err-take_within.field-0.0 _ _ c.in_err-take_within.ensures.faults))
+    rw (e.1, e.2)
+    (λ p at is streams replays.
+    let rest = c.second.invariant.so_far.has.takes t streams replays in
+    c.in_err-take_within.ensures.never t p at (ap Err (again-own _ _ is)) rest.0 rest.2)
+
+pub returns-in_err-take_within-clause-counts : goal.returns-in_err-take_within-clause-counts
+returns-in_err-take_within-clause-counts g c =
+    let e = err_from_is_err_and c.from_residual.result c.from_residual.ensures.1 in
+    rw (e.1, e.2) (again-from c.in_err-take_within.field-0.0 _ _ _ c.second.invariant.counted c.in_err-take_within.ensures.counts)
+
+pub returns-in_err-take_within-clause-faults : goal.returns-in_err-take_within-clause-faults
+returns-in_err-take_within-clause-faults g c = fewer_then _ _ _ c.second.invariant.faults c.take_within.ensures.faults
+
+pub returns-clause-counts : goal.returns-clause-counts
+returns-clause-counts g c = c.in_ok-take_within.ensures.counts ∙ c.second.invariant.counted
+
+pub returns-clause-faults : goal.returns-clause-faults
+returns-clause-faults g c = fewer_then _ _ _ c.second.invariant.faults c.take_within.ensures.faults
 
 pub returns-in_err-take_within-clause-port : goal.returns-in_err-take_within-clause-port
 returns-in_err-take_within-clause-port g c =
     let e = err_from_is_err_and c.from_residual.result c.from_residual.ensures.1 in
-    rw (e.1, e.2) (λ p at is. c.second.invariant.ports p (c.in_err-take_within.ensures.port p at is))
+    rw (e.1, e.2) (λ p at is. c.second.invariant.ports p (c.in_err-take_within.ensures.port p at (ap Err (again-own _ _ is))))

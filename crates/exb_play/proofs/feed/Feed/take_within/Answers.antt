@@ -1,12 +1,10 @@
-use Rattle.std.proofs.Common.{◌≡◌, false, sym, subst, ℕ, Err, ap}
+use Rattle.std.proofs.Common.{◌≡◌, false, sym, subst}
 use Rattle.std.specs.Prelude.{Option, IfNone}
-use Rattle.std.proofs.lemmas.Result.{err_from_is_err_and}
-use Rattle.exb_inputs.proofs.Ports.{again-counts, again-port}
 use Rattle.exb_merge.specs.Agendas.{begins_in, still_to_come}
 use Rattle.exb_merge.specs.declared.programme.Next.{Next}
 use Rattle.exb_merge.specs.declared.programme.Programme.{Programme}
 use Rattle.exb_merge.specs.Programmes.{played_with}
-use Rattle.exb_merge.specs.Replays.{AreReplays, ids_in, HasPort, standings}
+use Rattle.exb_merge.specs.Replays.{AreReplays, ids_in}
 use Rattle.exb_play.specs.UnderWay.{NoMoreIn}
 use Rattle.exb_outputs.proofs.Keeping.{replays-unread}
 use Rattle.exb_play.proofs.feed.Feed.take_within.Goals as goal
@@ -24,13 +22,3 @@ returns-in-None-clause-end g c t is streams replays =
     (none streams
     (replays-unread (S.file c.args.shelf.now) (S.file c.next_within.new.shelf) (S.ids c.args.shelf.now) (S.ids c.next_within.new.shelf) (ids_in p.captures) p.captures.sources.items streams
     c.requires.feed.programme.opened.each (record { files = c.next_within.ensures.files; reads = c.next_within.ensures.reads }) before))
-
-pub returns-in_err-came-clause-port : goal.returns-in_err-came-clause-port
-returns-in_err-came-clause-port g c =
-    let e = err_from_is_err_and c.from_residual.result c.from_residual.ensures.1 in
-    rw (e.1, e.2) (again-port (λ (q : ℕ). HasPort q (standings c.args.self.now.programme.captures)) c.in_err-came.field-0.0 (λ p at is. c.in_err-came.ensures.port p at (ap Err is)))
-
-pub returns-in_err-came-clause-faults : goal.returns-in_err-came-clause-faults
-returns-in_err-came-clause-faults g c =
-    let e = err_from_is_err_and c.from_residual.result c.from_residual.ensures.1 in
-    rw (e.1, e.2) (again-counts c.in_err-came.field-0.0 _ _ c.in_err-came.ensures.faults c.in_err-came.ensures.counts)

@@ -3,7 +3,6 @@ use Rattle.std.proofs.lemmas.Result.{on_err_weaker}
 use mathlib.Core.Path.{fun_ext}
 use Rattle.exb_schedule.specs.Worlds.{network_of}
 use Rattle.exb_shelf.specs.Shelf.{Id}
-use Rattle.exb_text.specs.Tallies.{counts_of}
 use Rattle.exb_play.specs.Playing.{mode_of}
 use Rattle.exb_play.specs.UnderWay.{IsPlaying}
 use Rattle.exb_play.proofs.Going.{cut-on, from-low, goes-on, letters, playable}

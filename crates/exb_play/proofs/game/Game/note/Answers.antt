@@ -1,7 +1,7 @@
 use Rattle.std.proofs.Common.{◌≡◌, ℕ, Bool, List, length, ap, sym, subst, ◌∙◌, arith}
 use Rattle.exb_model.specs.declared.event.Event.{Event}
 use Rattle.exb_model.specs.Texts.{with_left}
-use Rattle.exb_network.specs.declared.log.Left.{Left}
+use Rattle.exb_boxes.specs.declared.log.Left.{Left}
 use Rattle.exb_network.specs.Worlds.{all_left}
 use Rattle.exb_schedule.specs.Worlds.{network_of}
 use Rattle.exb_text.specs.Tallies.{counts_of}

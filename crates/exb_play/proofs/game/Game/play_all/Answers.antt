@@ -1,13 +1,15 @@
-use Rattle.std.proofs.Common.{◌≡◌, ℕ, ◌<◌, ◌^◌, List, ◌∷◌, Some, drop, ap, sym, subst, ◌∙◌, arith}
+use Rattle.std.proofs.Common.{ℕ, List, ◌∷◌, Err, drop, ap, subst, ◌∙◌, arith}
 use Rattle.std.proofs.lemmas.Result.{err_from_is_err_and}
-use Rattle.exb_play.proofs.Ports.{ports-all}
-use Rattle.exb_outputs.proofs.ShelvingLemmas.{writing-port}
+use Rattle.exb_play.proofs.Ports.{again-never, ports-all}
+use Rattle.exb_inputs.proofs.Ports.{again-counts, again-port}
+use Rattle.exb_outputs.proofs.ShelvingLemmas.{fault_counts, fault_no_change, fault_plays, is_writing, writing-port}
 use Rattle.exb_model.specs.Texts.{Counts}
 use Rattle.exb_model.specs.declared.setup.Timed.{Timed}
 use Rattle.exb_merge.specs.Replays.{ids_in, HasPort, standings}
 use Rattle.exb_schedule.specs.Playing.{letters_in}
 use Rattle.exb_schedule.specs.Worlds.{network_of}
 use Rattle.exb_play.specs.Playing.{mode_of}
+use Rattle.exb_inputs.specs.Answers.{fault_of}
 use Rattle.exb_inputs.specs.Shelving.{OnlyReads}
 use Rattle.exb_machine.specs.Worlds.{left_at}
 use Rattle.exb_outputs.proofs.Sizes.{counted_of}
@@ -16,7 +18,7 @@ use Rattle.exb_play.proofs.PortCounts.{sizes-fit}
 use Rattle.exb_play.proofs.Going.{all-kept, all-played, can-go-on, cut-reading, seconds-fit}
 use Rattle.exb_play.proofs.Keeping.{feed-written, goes-reading, goes-writing}
 use Rattle.exb_outputs.proofs.Keeping.{ready-read}
-use Rattle.exb_inputs.proofs.ShelvingLemmas.{fewer_then, counts_as, counts_from}
+use Rattle.exb_inputs.proofs.ShelvingLemmas.{fewer_then, counts_from}
 use Rattle.exb_play.proofs.Taking.{comes-commands, comes-fewer, comes-ids}
 use Rattle.exb_play.proofs.Telling.{arrivals-low}
 use Rattle.exb_inputs.proofs.Outcomes.{none_at, some_at}
@@ -82,8 +84,8 @@ events-preserved g c =
           (subst (λ (mine : List ℕ). OnlyReads mine (S.file c.events.shelf) (S.file c.gather.new.shelf) (S.ids c.events.shelf) (S.ids c.gather.new.shelf)) inv.same c.gather.ensures.reads))
           c.go_on.ensures.only;
       ports = λ q has. inv.ports q (ports-all c.events.feed.programme c.gather.new.self.programme (got.first ∷ got.more) got.comes q has);
-      faults = fewer_then _ _ _ (fewer_then _ _ _ inv.faults c.gather.ensures.faults.none_fell) c.go_on.ensures.faults.none_fell;
-      none_counted = c.in_ok-go_on.ensures.faults.once ∙ c.in_ok-second.ensures.faults.once ∙ inv.none_counted;
+      faults = fewer_then _ _ _ (fewer_then _ _ _ inv.faults c.gather.ensures.faults) c.go_on.ensures.faults.none_fell;
+      none_counted = c.in_ok-go_on.ensures.faults.once ∙ c.in_ok-second.ensures.counts ∙ inv.none_counted;
     }
 
 pub events-smaller : goal.events-smaller
@@ -160,7 +162,17 @@ returns-in_err-second-clause-never g c t =
     rw (e.1, e.2)
     (λ change run start.
     let led = (c.events.invariant.goes_on run start).leads t in
-    c.in_err-second.ensures.never t change led.streams led.replays)
+    again-never c.in_err-second.field-0.0 (λ p at is. c.in_err-second.ensures.never t p at (ap Err is) led.streams led.replays) change)
+
+pub returns-in_err-go_on-clause-never : goal.returns-in_err-go_on-clause-never
+returns-in_err-go_on-clause-never g c t =
+    let e = err_from_is_err_and c.from_residual-in_err-go_on.result c.from_residual-in_err-go_on.ensures.1 in
+    rw (e.1, e.2) (λ change run start. fault_no_change c.in_err-go_on.field-0.0 change)
+
+pub returns-in_err-go_on-clause-causes : goal.returns-in_err-go_on-clause-causes
+returns-in_err-go_on-clause-causes g c =
+    let e = err_from_is_err_and c.from_residual-in_err-go_on.result c.from_residual-in_err-go_on.ensures.1 in
+    rw (e.1, e.2) (fault_plays c.in_err-go_on.field-0.0)
 
 pub returns-in_err-second-clause-only : goal.returns-in_err-second-clause-only
 returns-in_err-second-clause-only g c =
@@ -189,19 +201,20 @@ returns-clause-only g c =
 pub returns-in_err-second-clause-port : goal.returns-in_err-second-clause-port
 returns-in_err-second-clause-port g c =
     let e = err_from_is_err_and c.from_residual.result c.from_residual.ensures.1 in
-    rw (e.1, e.2) (λ p at is. c.events.invariant.ports p (c.in_err-second.ensures.port p at is))
+    rw (e.1, e.2)
+    (again-port (λ (q : ℕ). HasPort q (standings c.args.feed.now.programme.captures)) c.in_err-second.field-0.0 (λ p at is. c.events.invariant.ports p (c.in_err-second.ensures.port p at (ap Err is))))
 
 pub returns-in_err-go_on-clause-port : goal.returns-in_err-go_on-clause-port
 returns-in_err-go_on-clause-port g c =
     let e = err_from_is_err_and c.from_residual-in_err-go_on.result c.from_residual-in_err-go_on.ensures.1 in
-    rw (e.1, e.2) (writing-port (λ (q : ℕ). HasPort q (standings c.args.feed.now.programme.captures)) c.in_err-go_on.field-0.0 c.in_err-go_on.ensures.causes)
+    rw (e.1, e.2) (writing-port (λ (q : ℕ). HasPort q (standings c.args.feed.now.programme.captures)) (fault_of c.in_err-go_on.field-0.0) (is_writing c.in_err-go_on.field-0.0))
 
 pub returns-in_err-second-clause-faults : goal.returns-in_err-second-clause-faults
 returns-in_err-second-clause-faults g c =
     let e = err_from_is_err_and c.from_residual.result c.from_residual.ensures.1 in
-    rw (e.1, e.2) (counts_from _ _ _ _ c.events.invariant.none_counted (counts_as c.in_err-second.field-0.0 _ _ c.in_err-second.ensures.faults))
+    rw (e.1, e.2) (counts_from _ _ _ _ c.events.invariant.none_counted (again-counts c.in_err-second.field-0.0 _ _ c.in_err-second.ensures.faults c.in_err-second.ensures.counts))
 
 pub returns-in_err-go_on-clause-faults : goal.returns-in_err-go_on-clause-faults
 returns-in_err-go_on-clause-faults g c =
     let e = err_from_is_err_and c.from_residual-in_err-go_on.result c.from_residual-in_err-go_on.ensures.1 in
-    rw (e.1, e.2) (counts_from _ _ _ _ (c.in_ok-second.ensures.faults.once ∙ c.events.invariant.none_counted) (counts_as c.in_err-go_on.field-0.0 _ _ c.in_err-go_on.ensures.faults))
+    rw (e.1, e.2) (counts_from _ _ _ _ (c.in_ok-second.ensures.counts ∙ c.events.invariant.none_counted) (fault_counts c.in_err-go_on.field-0.0 _ _ c.in_err-go_on.ensures.faults))

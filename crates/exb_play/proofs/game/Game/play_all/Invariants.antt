@@ -4,7 +4,6 @@ use Rattle.exb_merge.specs.Replays.{ids_in, HasPort, standings}
 use Rattle.exb_schedule.specs.Playing.{letters_in}
 use Rattle.exb_schedule.specs.Worlds.{network_of}
 use Rattle.exb_shelf.specs.Shelf.{NoFewer}
-use Rattle.exb_text.specs.Tallies.{counts_of}
 use Rattle.exb_play.specs.Playing.{Run, mode_of}
 use Rattle.exb_play.specs.Shelving.{OnlyGoesOn}
 use Rattle.exb_play.specs.UnderWay.{CanFeed, IsPlaying}

@@ -1,4 +1,4 @@
-use Rattle.std.proofs.Common.{◌≡◌, ◌∙◌, ℕ, List, [], ap}
+use Rattle.std.proofs.Common.{◌≡◌, ◌∙◌, ℕ, [], ap}
 use Rattle.std.proofs.lemmas.Result.{err_from_is_err_and, on_err_weaker}
 use Rattle.exb_outputs.proofs.ShelvingLemmas.{writing-port}
 use Rattle.exb_merge.specs.Replays.{HasPort, standings}

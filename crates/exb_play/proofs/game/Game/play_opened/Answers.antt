@@ -1,6 +1,6 @@
 use Rattle.std.proofs.Common.{[], refl, arith, ℕ}
 use Rattle.std.proofs.lemmas.Result.{err_from_is_err_and, on_err_weaker}
-use Rattle.exb_outputs.proofs.ShelvingLemmas.{writing-port}
+use Rattle.exb_outputs.proofs.ShelvingLemmas.{fault_counts, fault_no_change, fault_plays, is_writing, writing-port}
 use Rattle.exb_merge.specs.Replays.{HasPort, standings}
 use Rattle.exb_model.specs.Input.{segments}
 use Rattle.exb_schedule.specs.Worlds.{network_of}
@@ -14,6 +14,7 @@ use Rattle.exb_play.proofs.PortCounts.{can-count}
 use Rattle.exb_writers.proofs.PortCounts.{none_together}
 use Rattle.exb_play.proofs.Going.{opened-playing}
 use Rattle.exb_play.proofs.Keeping.{feed-written, goes-none, goes-then, goes-writing}
+use Rattle.exb_inputs.specs.Answers.{fault_of}
 use Rattle.exb_inputs.proofs.Outcomes.{if_err_map, if_ok_map}
 use Rattle.exb_inputs.proofs.ShelvingLemmas.{counts_from}
 use Rattle.exb_writers.proofs.Telling.{text-first}
@@ -102,10 +103,25 @@ returns-clause-only g c =
     let S = g.S.Shelf in
     goes-then S.tells c.args.manifest.now _ _ _ _ _ _ _ (goes-writing S.tells c.args.manifest.now _ _ _ _ _ _ _ (goes-none S.tells c.args.manifest.now _ (S.file c.args.shelf.now) (S.ids c.args.shelf.now)) c.in_ok-note.ensures.only) c.play_on.ensures.only
 
+pub returns-in_err-note-clause-never : goal.returns-in_err-note-clause-never
+returns-in_err-note-clause-never g c t =
+    let e = err_from_is_err_and c.from_residual.result c.from_residual.ensures.1 in
+    rw (e.1, e.2) (λ change run is. fault_no_change c.in_err-note.field-0.0 change)
+
+pub returns-in_err-note-clause-causes : goal.returns-in_err-note-clause-causes
+returns-in_err-note-clause-causes g c =
+    let e = err_from_is_err_and c.from_residual.result c.from_residual.ensures.1 in
+    rw (e.1, e.2) (fault_plays c.in_err-note.field-0.0)
+
+pub returns-in_err-note-clause-faults : goal.returns-in_err-note-clause-faults
+returns-in_err-note-clause-faults g c =
+    let e = err_from_is_err_and c.from_residual.result c.from_residual.ensures.1 in
+    rw (e.1, e.2) (fault_counts c.in_err-note.field-0.0 _ _ c.in_err-note.ensures.faults)
+
 pub returns-clause-faults : goal.returns-clause-faults
 returns-clause-faults g c = counts_from c.play_on.result _ _ _ c.in_ok-note.ensures.faults.once c.play_on.ensures.faults
 
 pub returns-in_err-note-clause-port : goal.returns-in_err-note-clause-port
 returns-in_err-note-clause-port g c =
     let e = err_from_is_err_and c.from_residual.result c.from_residual.ensures.1 in
-    rw (e.1, e.2) (writing-port (λ (q : ℕ). HasPort q (standings c.args.feed.now.programme.captures)) c.in_err-note.field-0.0 c.in_err-note.ensures.causes)
+    rw (e.1, e.2) (writing-port (λ (q : ℕ). HasPort q (standings c.args.feed.now.programme.captures)) (fault_of c.in_err-note.field-0.0) (is_writing c.in_err-note.field-0.0))

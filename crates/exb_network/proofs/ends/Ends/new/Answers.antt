@@ -1,8 +1,0 @@
-use Rattle.std.proofs.Common.{ap, ◌∙◌}
-use Rattle.exb_ecp.specs.Machine.{new_state}
-use Rattle.exb_network.specs.Ends.{near_of}
-use Rattle.exb_network.proofs.Places.{at_all}
-use Rattle.exb_network.proofs.ends.Ends.new.Goals as goal
-
-pub returns : goal.returns
-returns c = ap near_of c.loop.invariant ∙ at_all c.loop.counter new_state
