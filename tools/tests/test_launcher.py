@@ -13,11 +13,11 @@ version) cat "$kit/kit" ;;
 doc) echo "$kit/START-HERE.md" ;;
 ci)
     echo $(ls crates) >>"$kit/calls"
-    [ -d crates/exbr ] || { # first
-        :
-    }
     for name in exb_low exb_high exb_beside exbr; do
         [ -d crates/$name ] || continue
+        [ $name != exb_high ] || [ -d crates/exbr ] || { # first
+            :
+        }
         if grep -q wrong crates/$name/src/*; then
             echo "rt: $name NOT PROVED"
             echo "0 passed, 1 failed"
