@@ -11,5 +11,4 @@ pub mod Carrying
 pub mod Watched
 pub mod Entered
 pub mod Finding
-pub mod Beginnings
 pub mod Spoken

@@ -15,7 +15,7 @@ use crate::capturing::are_captured;
 use crate::entering::{Captures, all_entered};
 use crate::frames::{PortFrames, table_of};
 use crate::linking::keep_links;
-use crate::places::{hanging, has_places, port_counts};
+use crate::places::{hanging, has_places};
 use crate::watching::follow_machines;
 use exb_legal::deciding::rule_5_is_decided;
 use exb_model::bytes::Bytes;
@@ -128,7 +128,7 @@ pub fn judge(
     ensures broken { IfOk result (λ judged. (r : ℕ) → judged ≡ Judged.Broken r → IsLowestBroken (files_by setup.now captures.now journal.now trace.now outputs.now) r) }
     ensures few { IfOk result (λ judged. (r : ℕ) → judged ≡ Judged.Broken r → (1 ≤ r) × (r ≤ 5)) }
 {
-    let ports = port_counts(setup);
+    let ports = setup.port_counts();
     let hanging = hanging(setup);
     if !has_places(&ports, journal, trace) {
         return Ok(Judged::Broken { rule: 1 });

@@ -1,5 +1,5 @@
 //! Rule 1: the journal's lines, and that each other line names a place that is there.
-ghost use Rattle.std.specs.Prelude.{◌≡◌, ◌∷◌, ◌++◌, ◌≤◌, ℕ, [], List, length, slice_index, IfSome, IfNone};
+ghost use Rattle.std.specs.Prelude.{◌≡◌, ◌∷◌, ◌++◌, ◌≤◌, ℕ, [], List, length, IfSome, IfNone};
 ghost use Rattle.std.specs.Bool.{Decides};
 ghost use Rattle.exb_model.specs.Setup.{IsPlace, IsValid, port_at, shape_of};
 ghost use Rattle.exb_model.specs.Traces.{TraceLine as Line};
@@ -12,20 +12,6 @@ use exb_model::bytes::Bytes;
 use exb_model::port::{DEVICES, PortId};
 use exb_model::setup::{Place, Setup};
 use exb_model::trace::{TraceLine, TraceWay};
-
-/// How many ports each device of a setup has, 0 where there is none.
-pub(crate) fn port_counts(setup: &Setup) -> [u8; DEVICES as usize]
-    requires { IsValid setup.now }
-    ensures counts { result ≡ (shape_of setup.now).ports }
-    ensures few { (n : ℕ) → slice_index result n ≤ 64 }
-{
-    let mut ports = [0u8; DEVICES as usize];
-    ports[0] = setup.ports;
-    for extender in setup.extenders.as_slice() {
-        ports[extender.number as usize] = extender.ports;
-    }
-    ports
-}
 
 /// The port at a place of a setup.
 fn port_at(place: &Place) -> PortId

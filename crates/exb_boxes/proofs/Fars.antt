@@ -1,17 +1,16 @@
 -- The extenders by number.
 use Rattle.std.proofs.Common.{◌≡◌, ◌≢◌, ◌⊎◌, ◌↔◌, ℕ, zero, suc, ◌+◌, ◌%◌, ◌<◌, ◌≤◌, ◌==◌, ◌&&◌, ◌||◌, Bool, true, false, not, IsTrue, List, [], ◌∷◌, ◌++◌, length, set, get_or, nat_lt, refl, ap, sym, ◌∙◌, subst, arith, inl, inr, eq-eqb}
-use Rattle.std.specs.Prelude.{if◌then◌else◌, Option, Some, None, slice_get, slice_index, replicate}
+use Rattle.std.specs.Prelude.{if◌then◌else◌, Option, Some, None, slice_get, slice_index}
 use Rattle.std.specs.Option.{is_some}
 use Rattle.std.proofs.lemmas.Bool.{cases_eq, cases_lt, cases_Bool, ne_eqb, and_from, and_parts, lt-ltb, ltb-true, false≢true}
 use Rattle.std.proofs.lemmas.List.{get_or_past, length-set}
 use mathlib.Core.Path.{fun_ext}
 use Rattle.exb_model.specs.Tree.{Shape, is_extender}
-use Rattle.exb_model.proofs.Words.{get_or-same}
 use Rattle.exb_csp.specs.Execute.{ExtenderTables}
 use Rattle.exb_ecp.specs.Machine.{State}
 use Rattle.exb_extender.specs.Fields.{Fields, state_of}
 use Rattle.exb_extender.specs.Machine.{ExtenderState, at_power_on}
-use Rattle.exb_boxes.specs.Tables.{at}
+use Rattle.exb_model.specs.Tables.{at}
 use Rattle.exb_extender.specs.Resting.{rests, rested}
 use Rattle.exb_extender.proofs.RestingLemmas.{awake_is, one_more, rests_rested, same_tables, same_end}
 use Rattle.exb_boxes.specs.Devices.{Devices, state_at, far_of, first_far, if_rests, is_there, has_extender, IsPoweredOn, AreSame, AreNoted, sent_at, waits_at}
@@ -388,8 +387,3 @@ powered_extends n ports None on there = absurd (false≢true there)
 pub powered_only : (t : Shape) (ports : List ℕ) (xs : List (Option Fields)) → ports ≡ t.ports → ArePoweredOn ports xs → (n : ℕ) → has_extender (devices ports xs 0) n ≡ true → is_extender t n ≡ true
 powered_only t ports xs same all n there =
     subst (λ (each : List ℕ). (nat_lt 0 n && nat_lt 0 (slice_index each n)) ≡ true) same (powered_extends n (slice_index ports n) (slice_get xs n) (λ x e. all n x e) there)
-
--- ---- how many ports each has, as it begins
-pub few_first : (p n : ℕ) → p ≤ 64 → slice_index (set (replicate 65 0) 0 p) n ≤ 64
-few_first p zero few = few
-few_first p (suc n) few = omega (arith, get_or-same {X = ℕ} 64 n 0)

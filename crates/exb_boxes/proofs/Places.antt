@@ -5,7 +5,7 @@ use Rattle.std.proofs.lemmas.Bool.{cases_eq, ne_eqb}
 use Rattle.std.proofs.lemmas.List.{get_or-set_same, get_or-set_other, get_or_default}
 use mathlib.Core.Path.{fun_ext}
 use Rattle.exb_model.proofs.Words.{get_or-same}
-use Rattle.exb_boxes.specs.Tables.{at}
+use Rattle.exb_model.specs.Tables.{at}
 
 -- what a list has at a place, and d past its end
 abbrev pub table : {A : Type 0} → List A → A → ℕ → A

@@ -1,4 +1,3 @@
-pub mod Tables
 pub mod Numbers
 pub mod Ends
 pub mod Devices

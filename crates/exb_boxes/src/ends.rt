@@ -1,7 +1,7 @@
 //! The bridge's ends of the transport between it and its extenders (ECP, IEEE 802.1Q, clause 43).
 ghost use Rattle.std.specs.Prelude.{◌≡◌, ◌↔◌, ℕ, ◌≤◌, false, IfNone, IfOk, IfSome, None, length};
 ghost use Rattle.exb_ecp.specs.Machine.{new_state, submitted, stopped, acknowledged, heard, is_fresh, beaten, beat_of};
-ghost use Rattle.exb_boxes.specs.Tables.{at};
+ghost use Rattle.exb_model.specs.Tables.{at};
 ghost use Rattle.exb_boxes.specs.Ends.{near_of, IsNextSending};
 ghost use Rattle.exb_boxes.specs.Numbers.{number_in, IsNumber};
 

@@ -1,5 +1,5 @@
 //! The extenders of a network.
-ghost use Rattle.std.specs.Prelude.{◌≡◌, ◌↔◌, ◌&&◌, ℕ, ◌≤◌, ◌<◌, true, false, not, if◌then◌else◌, is_none, IfOk, IfSome, None, [], slice_index};
+ghost use Rattle.std.specs.Prelude.{◌≡◌, ◌↔◌, ◌&&◌, ℕ, ◌≤◌, ◌<◌, true, false, not, if◌then◌else◌, is_none, IfOk, IfSome, None, []};
 ghost use Rattle.std.specs.List.{All};
 ghost use Rattle.exb_model.specs.Frames.{is_control_frame};
 ghost use Rattle.exb_model.specs.Setup.{IsValid, shape_of};
@@ -11,7 +11,7 @@ ghost use Rattle.exb_extender.specs.Passing.{GoesTo};
 ghost use Rattle.exb_extender.specs.Resting.{rests, rested};
 ghost use Rattle.exb_extender.specs.Sending.{form_sent, sent_by, CanBeGiven};
 ghost use Rattle.exb_boxes.specs.Forms.{CanGo};
-ghost use Rattle.exb_boxes.specs.Tables.{at};
+ghost use Rattle.exb_model.specs.Tables.{at};
 ghost use Rattle.exb_boxes.specs.Devices.{far_of, first_far, has_extender, if_rests, IsPoweredOn, AreSame};
 ghost use Rattle.exb_boxes.specs.Numbers.{number_in, IsNumber};
 
@@ -47,20 +47,6 @@ impl Model for Extenders {
     ghost view = { λ d. record { ports = d.ports; extenders = d.extenders.items; passed = d.passed } };
 
     ghost invariant = { λ d. AreNoted d.extenders.items d.sending d.waiting d.passed };
-}
-
-/// How many ports each device of a setup has.
-fn port_counts(setup: &Setup) -> [u8; DEVICES as usize]
-    requires { IsValid setup.now }
-    ensures counts { result ≡ (shape_of setup.now).ports }
-    ensures few { (n : ℕ) → slice_index result n ≤ 64 }
-{
-    let mut ports = [0u8; DEVICES as usize];
-    ports[0] = setup.ports;
-    for extender in setup.extenders.as_slice() {
-        ports[extender.number as usize] = extender.ports;
-    }
-    ports
 }
 
 /// An extender at power-on, where the device is one: it isn't the bridge, and has ports.
@@ -100,7 +86,7 @@ impl Extenders {
         ensures there { IfOk result (λ made. (n : ℕ) → is_extender (shape_of setup.now) n ≡ true → has_extender made n ≡ true) }
         ensures only { IfOk result (λ made. (n : ℕ) → has_extender made n ≡ true → is_extender (shape_of setup.now) n ≡ true) }
     {
-        let ports = port_counts(setup);
+        let ports = setup.port_counts();
         let mut extenders = Vec::new(alloc);
         // The bridge isn't one.
         extenders.push(None)?;

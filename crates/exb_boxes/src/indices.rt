@@ -1,6 +1,6 @@
 //! The index of the next record of each port.
 ghost use Rattle.std.specs.Prelude.{◌≡◌, ◌+◌, ◌<◌, ◌^◌, IfOk};
-ghost use Rattle.exb_boxes.specs.Tables.{at};
+ghost use Rattle.exb_model.specs.Tables.{at};
 ghost use Rattle.exb_boxes.specs.Indices.{next_of};
 
 use exb_model::memory::NoMemory;

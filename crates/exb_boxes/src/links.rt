@@ -2,7 +2,7 @@
 ghost use Rattle.std.specs.Prelude.{◌≡◌, ◌↔◌, ℕ, ◌≤◌, ◌++◌, ◌∷◌, [], false, IfNone, IfOk, IfSome, OnOk, filter, slice_get};
 ghost use Rattle.std.specs.Option.{option_copied};
 ghost use Rattle.exb_link.specs.Words.{is_control, is_data, without_data, without_control};
-ghost use Rattle.exb_boxes.specs.Tables.{at};
+ghost use Rattle.exb_model.specs.Tables.{at};
 ghost use Rattle.exb_boxes.specs.Directions.{words_of, IsNextBusy};
 ghost use Rattle.exb_boxes.specs.Numbers.{number_in, IsNumber};
 

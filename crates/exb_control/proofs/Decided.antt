@@ -6,7 +6,7 @@ use Rattle.std.proofs.lemmas.Bool.{and_parts, ltb-true}
 use Rattle.exb_model.specs.declared.command.Command.{Command}
 use Rattle.exb_model.specs.declared.command.Command.TheVariants as command
 use Rattle.exb_model.specs.declared.event.Cause.{Cause}
-use Rattle.exb_model.specs.Tree.{Shape, IsTree, is_port, is_cascade, device}
+use Rattle.exb_model.specs.Tree.{Shape, IsTree, is_port, is_cascade, device, port_number}
 use Rattle.exb_model.specs.Setup.{Limits, NamesExternal}
 use Rattle.exb_model.specs.Configuration.{Bridge, after}
 use Rattle.exb_csp.specs.declared.message.Request.TheVariants.{PortCreate}
@@ -15,7 +15,7 @@ use Rattle.exb_changing.specs.declared.planning.step.Step.TheVariants.{Lay}
 use Rattle.exb_changing.specs.declared.planning.change.Change.{Change}
 use Rattle.exb_changing.specs.declared.planning.change.Decision.{Decision}
 use Rattle.exb_changing.specs.declared.planning.change.Decision.TheVariants as decision
-use Rattle.exb_changing.specs.Plans.Asks.{ask, create_asks, port_number}
+use Rattle.exb_changing.specs.Plans.Asks.{ask, create_asks}
 use Rattle.exb_changing.specs.Plans.Held.{Held, HoldsNeeded, in_spaces}
 use Rattle.exb_changing.specs.Plans.Between.{refusal_between}
 use Rattle.exb_changing.specs.Plans.Plans.{change_of, claimed, decision as plan_decision, decision_by, held_after as plan_held, held_by_cause}

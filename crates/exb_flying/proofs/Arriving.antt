@@ -4,7 +4,7 @@ use Rattle.std.proofs.lemmas.Bool.{cases_Bool, cases_eq, cases_lt, lt-ltb, le-lt
 use Rattle.exb_model.specs.declared.event.Event.TheVariants as event
 use Rattle.exb_model.specs.ETags.{tagged}
 use Rattle.exb_model.specs.Frames.{kind_of, is_control_frame, IsBytes}
-use Rattle.exb_model.specs.Tree.{Shape, device, is_extender, is_external}
+use Rattle.exb_model.specs.Tree.{Shape, device, is_extender, is_external, port_number}
 use Rattle.exb_model.specs.Setup.{Limits}
 use Rattle.exb_model.specs.Input.{Arrival}
 use Rattle.exb_model.specs.History.{Basis, History, ◌then◌}
@@ -20,7 +20,7 @@ use Rattle.exb_changing.specs.Runs.Systems.{System}
 use Rattle.exb_changing.specs.Runs.Planned.{IsSetting}
 use Rattle.exb_machine.specs.Worlds.{World, Up, Left}
 use Rattle.exb_machine.specs.Effects.{Effect}
-use Rattle.exb_machine.specs.Extending.{port_number, stamp_of, ignored, does_or_ignores, arrives_at}
+use Rattle.exb_machine.specs.Extending.{stamp_of, ignored, does_or_ignores, arrives_at}
 use Rattle.exb_machine.specs.Stepping.{counted}
 use Rattle.exb_machine.specs.Runs.Simulation.{IsSound}
 use Rattle.exb_machine.proofs.Frames.{control_refused, relayed_long, tagged_to_control, tag_fits}

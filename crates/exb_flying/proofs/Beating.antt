@@ -12,7 +12,8 @@ use Rattle.exb_extender.specs.Machine.{ExtenderState, Reaction, Beats, react}
 use Rattle.exb_changing.specs.Machine.{State, beats}
 use Rattle.exb_changing.specs.Runs.Systems.{Beat}
 use Rattle.exb_changing.specs.Runs.Planned.{IsSetting}
-use Rattle.exb_machine.specs.Worlds.{World, Left, at, with_near, with_far, next_beat}
+use Rattle.exb_machine.specs.Worlds.{World, Left, with_near, with_far, next_beat}
+use Rattle.exb_model.specs.Tables.{at}
 use Rattle.exb_machine.specs.Effects.{Effect, then_do, each}
 use Rattle.exb_machine.specs.Extending.{reacts}
 use Rattle.exb_machine.specs.Hearing.{bridge_address, bridge_request, sends_again, beats_near, beats_control}

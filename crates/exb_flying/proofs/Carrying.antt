@@ -2,7 +2,7 @@
 use Rattle.std.proofs.Common.{◌≡◌, ℕ, ◌+◌, ◌%◌, ◌<◌, ◌≤◌, ◌++◌, nat_lt, nat_le, true, false, List, [], ◌∷◌, Option, Some, None, filter, slice_index, refl, sym, ◌∙◌, ap, subst, arith, inl, inr}
 use Rattle.std.proofs.lemmas.Bool.{cases_Bool, cases_eq, cases_lt, lt-ltb, le-ltb, and_parts, and_from, ltb-true, eq-eqb, ne_eqb}
 use Rattle.exb_model.specs.ETags.{read_etag, stripped}
-use Rattle.exb_model.specs.Tree.{Shape, device, on, is_extender, is_external}
+use Rattle.exb_model.specs.Tree.{Shape, device, on, is_extender, is_external, trunk, port_number}
 use Rattle.exb_model.specs.Setup.{Limits}
 use Rattle.exb_model.specs.History.{Basis, History}
 use Rattle.exb_frame.specs.TagValues.{TagRoundTrip}
@@ -13,7 +13,6 @@ use Rattle.exb_link.specs.Words.{is_control, is_data, without_data}
 use Rattle.exb_relay.specs.Laws.{SendsAreWords, SendsLeaveAsFlat}
 use Rattle.exb_config.specs.Pvids.{HasPvids}
 use Rattle.exb_changing.specs.Runs.Planned.{IsSetting}
-use Rattle.exb_model.specs.Tree.{trunk}
 use Rattle.exb_changing.proofs.Plans.Ways.{from_extended}
 use Rattle.exb_extender.specs.declared.sends.Side.TheVariants as side
 use Rattle.exb_csp.specs.AllTables.{tables_at}
@@ -23,8 +22,9 @@ use Rattle.exb_changing.specs.Plans.Held.{Held, channel_in}
 use Rattle.exb_relay.specs.Sends.{or_zero}
 use Rattle.exb_changing.specs.Runs.Systems.{System}
 use Rattle.exb_changing.proofs.Runs.Middle.{held_are_numbers}
-use Rattle.exb_machine.specs.Worlds.{World, Way, Up, Left, at, with_up, with_far, push_up}
-use Rattle.exb_machine.specs.Extending.{port_number, does, takes_from_below}
+use Rattle.exb_machine.specs.Worlds.{World, Way, Up, Left, with_up, with_far, push_up}
+use Rattle.exb_model.specs.Tables.{at}
+use Rattle.exb_machine.specs.Extending.{does, takes_from_below}
 use Rattle.exb_machine.specs.Stepping.{takes_any}
 use Rattle.exb_machine.proofs.Hearing.{seen_as}
 use Rattle.exb_machine.proofs.Steps.{home}

@@ -14,7 +14,8 @@ use Rattle.exb_extender.specs.Machine.{ExtenderState}
 use Rattle.exb_link.specs.declared.word.Word.{Word}
 use Rattle.exb_link.specs.Words.{is_control}
 use Rattle.exb_changing.specs.Runs.Planned.{IsSetting}
-use Rattle.exb_machine.specs.Worlds.{World, Way, Up, Down, Left, at, with_far}
+use Rattle.exb_machine.specs.Worlds.{World, Way, Up, Down, Left, with_far}
+use Rattle.exb_model.specs.Tables.{at}
 use Rattle.exb_machine.specs.Effects.{Effect}
 use Rattle.exb_machine.specs.Extending.{takes_from_above}
 use Rattle.exb_machine.specs.Relaying.{holder_by, hung_at, hears_from, takes_control, bridge_takes}

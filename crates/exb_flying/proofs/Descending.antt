@@ -18,7 +18,8 @@ use Rattle.exb_extender.specs.Forwarding.{Sent, forwarding_of}
 use Rattle.exb_link.specs.declared.word.Stamp.{Stamp}
 use Rattle.exb_link.specs.declared.word.Word.{Word}
 use Rattle.exb_model.specs.Frames.{is_control_frame}
-use Rattle.exb_machine.specs.Worlds.{World, Down, Left, Line, at, moment_of, left_at}
+use Rattle.exb_machine.specs.Worlds.{World, Down, Left, Line, moment_of, left_at}
+use Rattle.exb_model.specs.Tables.{at}
 use Rattle.exb_machine.specs.Effects.{Effect, only, joined, then_do, each}
 use Rattle.exb_machine.specs.Extending.{hung_on, sends}
 use Rattle.exb_machine.specs.Extending.{sent_at as sent_at_port}

@@ -26,7 +26,8 @@ use Rattle.exb_changing.specs.Deciding.{decide}
 use Rattle.exb_changing.specs.Machine.{Work}
 use Rattle.exb_changing.specs.Runs.Systems.{System, Execute, stepped}
 use Rattle.exb_changing.specs.Runs.Planned.{IsSetting}
-use Rattle.exb_machine.specs.Worlds.{World, Down, Left, at, with_far}
+use Rattle.exb_machine.specs.Worlds.{World, Down, Left, with_far}
+use Rattle.exb_model.specs.Tables.{at}
 use Rattle.exb_machine.specs.Effects.{only, each}
 use Rattle.exb_machine.specs.Extending.{sends, does}
 use Rattle.exb_machine.specs.Runs.Sessions.{Hands, WordFits, WasAsked, AskedOf, ArePaired}

@@ -19,7 +19,8 @@ use Rattle.exb_link.specs.Words.{is_control, without_data}
 use Rattle.exb_model.specs.Frames.{is_control_frame}
 use Rattle.exb_changing.specs.Runs.Systems.{System}
 use Rattle.exb_changing.specs.Runs.Planned.{IsSetting}
-use Rattle.exb_machine.specs.Worlds.{World, Down, Left, at, with_down, with_far}
+use Rattle.exb_machine.specs.Worlds.{World, Down, Left, with_down, with_far}
+use Rattle.exb_model.specs.Tables.{at}
 use Rattle.exb_machine.specs.Effects.{Effect, each}
 use Rattle.exb_machine.specs.Extending.{sends, takes_from_above}
 use Rattle.exb_machine.specs.Runs.Sessions.{Each}

@@ -29,7 +29,8 @@ use Rattle.exb_changing.specs.Runs.Standing.{OneWaits}
 use Rattle.exb_changing.specs.Runs.Planned.{IsSetting}
 use Rattle.exb_changing.proofs.Runs.Serials.{steps_wait}
 use Rattle.exb_changing.proofs.Runs.Strays.{strays_change_nothing}
-use Rattle.exb_machine.specs.Worlds.{World, Up, Left, at, with_near}
+use Rattle.exb_machine.specs.Worlds.{World, Up, Left, with_near}
+use Rattle.exb_model.specs.Tables.{at}
 use Rattle.exb_machine.specs.Effects.{Effect, only}
 use Rattle.exb_machine.specs.Controls.{is_of}
 use Rattle.exb_machine.specs.Hearing.{bridge_acknowledgement, bridge_address, to_extender, moves, stops, hears_message, hears_fresh, hears_request, hears_pdu, hears_frame, hears}

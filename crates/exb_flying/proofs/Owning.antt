@@ -30,7 +30,8 @@ use Rattle.exb_link.specs.declared.word.Word.{Word}
 use Rattle.exb_model.specs.Frames.{is_control_frame}
 use Rattle.exb_changing.specs.Plans.Held.{Held}
 use Rattle.exb_changing.specs.Runs.Planned.{IsSetting}
-use Rattle.exb_machine.specs.Worlds.{World, Up, Out, Left, at, push_up}
+use Rattle.exb_machine.specs.Worlds.{World, Up, Out, Left, push_up}
+use Rattle.exb_model.specs.Tables.{at}
 use Rattle.exb_machine.proofs.Answering.{SentFits}
 use Rattle.exb_machine.proofs.Reacting.{own_fits, announced_fits, again_fits}
 use Rattle.exb_machine.specs.Effects.{Effect, sending, then_do, each}

@@ -2,7 +2,7 @@
 use Rattle.std.proofs.Common.{◌≡◌, ◌⊎◌, ℕ, ◌&&◌, ◌<◌, ◌≤◌, nat_lt, Bool, true, false, if◌then◌else◌, List, [], ◌∷◌, Option, Some, None, refl, sym, ◌∙◌, ap, subst, arith, inl, inr}
 use Rattle.std.proofs.lemmas.Bool.{cases_Bool, and_parts, ltb-true}
 use Rattle.exb_model.specs.ETags.{Tag, read_etag, stripped, tagged}
-use Rattle.exb_model.specs.Tree.{Shape, IsTree, HangsOn, device, on, trunk, is_extender}
+use Rattle.exb_model.specs.Tree.{Shape, IsTree, HangsOn, device, on, trunk, is_extender, port_number}
 use Rattle.exb_model.specs.Setup.{Limits}
 use Rattle.exb_model.specs.History.{Basis, History, ◌then◌}
 use Rattle.exb_frame.specs.TagValues.{TagRoundTrip}
@@ -17,9 +17,10 @@ use Rattle.exb_model.specs.Frames.{is_control_frame}
 use Rattle.exb_changing.specs.Plans.Held.{Held}
 use Rattle.exb_changing.specs.Machine.{State}
 use Rattle.exb_changing.specs.Runs.Planned.{IsSetting}
-use Rattle.exb_machine.specs.Worlds.{World, Way, Up, Down, Out, Left, at, with_far, push_up, push_down}
+use Rattle.exb_machine.specs.Worlds.{World, Way, Up, Down, Out, Left, with_far, push_up, push_down}
+use Rattle.exb_model.specs.Tables.{at}
 use Rattle.exb_machine.specs.Effects.{Effect, sending, then_do, each}
-use Rattle.exb_machine.specs.Extending.{port_number, sent_at, sent_to, sends, takes_from_below}
+use Rattle.exb_machine.specs.Extending.{sent_at, sent_to, sends, takes_from_below}
 use Rattle.exb_machine.specs.Relaying.{hung_at}
 use Rattle.exb_machine.specs.Runs.Sessions.{Each, WordFits, AskedOf, StoredAt, ArePaired, IsFrameOn, IsOnWay, Hands, Routes}
 use Rattle.exb_machine.specs.Runs.Simulation.{system_of, IsSound}

@@ -12,7 +12,8 @@ use Rattle.exb_link.specs.Words.{is_control}
 use Rattle.exb_changing.specs.Plans.Held.{Held}
 use Rattle.exb_changing.specs.Machine.{Work}
 use Rattle.exb_changing.specs.Runs.Systems.{System}
-use Rattle.exb_machine.specs.Worlds.{World, Way, Up, Down, Left, Line, at, push_down, push_up}
+use Rattle.exb_machine.specs.Worlds.{World, Way, Up, Down, Left, Line, push_down, push_up}
+use Rattle.exb_model.specs.Tables.{at}
 use Rattle.exb_machine.specs.Effects.{Effect, only, sending, then_do}
 use Rattle.exb_machine.specs.Runs.Sessions.{WordFits, AskedOf, StoredAt, ArePaired, IsAnswered as WasAnswered}
 use Rattle.exb_machine.specs.Runs.Simulation.{answer_at, answer_in}

@@ -2,7 +2,7 @@
 use Rattle.std.proofs.Common.{◌≡◌, ℕ, ◌≤◌, ◌==◌, ◌++◌, nat_lt, Bool, true, false, cond, List, [], ◌∷◌, drop, length, Option, Some, None, Ok, Err, refl, ap, sym, ◌∙◌, arith, inl, inr}
 use Rattle.std.specs.Prelude.{Result}
 use Rattle.std.proofs.lemmas.Bool.{cases_Bool}
-use Rattle.exb_model.specs.Tree.{Shape, on, device, is_external}
+use Rattle.exb_model.specs.Tree.{Shape, on, device, is_external, port_number}
 use Rattle.exb_model.specs.Setup.{Limits}
 use Rattle.exb_model.specs.declared.event.Event.{Event}
 use Rattle.exb_model.specs.declared.event.Event.TheVariants as event
@@ -33,7 +33,7 @@ use Rattle.exb_changing.specs.Deciding.{decide}
 use Rattle.exb_changing.specs.Machine.{Moved, answered, ordered, beats}
 use Rattle.exb_machine.specs.Worlds.{World, Way, Up, Down, Step, Arrive, Carry, Control, Lose, Beat, Tick, Order, Mark, with_near, with_table, with_control, next_beat}
 use Rattle.exb_machine.specs.Effects.{Effect, only, each}
-use Rattle.exb_machine.specs.Extending.{port_number, reacts, takes_from_below, stamp_of, ignored, does_or_ignores, arrives_at}
+use Rattle.exb_machine.specs.Extending.{reacts, takes_from_below, stamp_of, ignored, does_or_ignores, arrives_at}
 use Rattle.exb_machine.specs.Controls.{announced, forgotten_all, taught}
 use Rattle.exb_machine.specs.Hearing.{bridge_acknowledgement, to_extender, asks, moves, stops, hears_message, hears_fresh, hears_request, hears_pdu, hears_frame, hears, beats_near, beats_control}
 use Rattle.exb_machine.specs.Relaying.{arrival_by, comes, comes_from, holder_by, hung_at, hears_from, passed_by as passed_as, sends_for, takes_control, bridge_takes}

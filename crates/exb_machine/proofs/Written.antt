@@ -2,7 +2,7 @@
 use Rattle.std.proofs.Common.{◌≡◌, ℕ, suc, ◌-◌, ◌<◌, ◌≤◌, ◌==◌, ◌++◌, nat_lt, Bool, true, false, cond, List, [], ◌∷◌, length, drop, Option, Some, None, Ok, Err, filter, refl, sym, subst, arith, inl, inr}
 use Rattle.std.specs.Prelude.{Result, All}
 use Rattle.std.proofs.lemmas.Bool.{cases_Bool, cases_lt, and_parts, lt-ltb, le-ltb}
-use Rattle.exb_model.specs.Tree.{Shape, IsTree, on, device, trunk, is_extender, is_external}
+use Rattle.exb_model.specs.Tree.{Shape, IsTree, on, device, trunk, is_extender, is_external, port_number}
 use Rattle.exb_model.specs.Setup.{Limits}
 use Rattle.exb_model.specs.Frames.{kind_of, egress, IsBytes}
 use Rattle.exb_model.specs.ETags.{read_etag, tagged, stripped}
@@ -57,7 +57,7 @@ use Rattle.exb_changing.specs.Runs.Planned.{IsSetting, planning, ReadyMidway, He
 use Rattle.exb_machine.specs.Worlds.{World, Way, Up, Down, Step, Arrive, Carry, Control, Lose, Beat, Tick, Order, Mark, control_word, push_down, push_up, with_near, with_far, with_control, with_table, next_beat}
 use Rattle.exb_machine.specs.Allowing.{Can}
 use Rattle.exb_machine.specs.Effects.{Effect, only, each}
-use Rattle.exb_machine.specs.Extending.{hung_on, port_number, sent_at, sent_to, sends, does, reacts, takes_from_above, takes_from_below, stamp_of, ignored, does_or_ignores, arrives_at}
+use Rattle.exb_machine.specs.Extending.{hung_on, sent_at, sent_to, sends, does, reacts, takes_from_above, takes_from_below, stamp_of, ignored, does_or_ignores, arrives_at}
 use Rattle.exb_machine.specs.Controls.{channel_at_trunk, forgotten_all, taught, announced}
 use Rattle.exb_machine.specs.Hearing.{bridge_address, bridge_request, bridge_acknowledgement, puts_tagged, to_extender, asks, moves, stops, hears_message, hears_fresh, hears_request, hears_pdu, hears_frame, hears, sends_again, beats_near, beats_control}
 use Rattle.exb_machine.specs.Relaying.{puts_word, sent_by, sends_in, sends_all, comes, arrival_by, comes_from, holder_by, hung_at, hears_from, bridge_takes}

@@ -1,8 +1,9 @@
 -- When a setup's tables are a tree, and its start speaks of external ports.
-use Rattle.std.proofs.Common.{◌≡◌, ◌≢◌, ℕ, suc, ◌+◌, ◌-◌, ◌*◌, ◌/◌, ◌%◌, ◌^◌, min, bit_and, ◌<◌, ◌≤◌, Bool, true, false, ◌&&◌, ◌||◌, ◌==◌, cond, IsTrue, List, [], ◌∷◌, length, slice_index, get_or, take, count_by, AllPairs, refl, sym, ap, ◌∙◌, add-one, add-zero, arith, inl, inr, nat_lt}
+use Rattle.std.proofs.Common.{◌≡◌, ◌≢◌, ℕ, zero, suc, ◌+◌, ◌-◌, ◌*◌, ◌/◌, ◌%◌, ◌^◌, min, bit_and, ◌<◌, ◌≤◌, Bool, true, false, ◌&&◌, ◌||◌, ◌==◌, cond, IsTrue, List, [], ◌∷◌, length, slice_index, get_or, take, replicate, set, count_by, AllPairs, refl, sym, ap, ◌∙◌, add-one, add-zero, arith, inl, inr, nat_lt}
 use Rattle.std.proofs.lemmas.Bool.{cases_eq, cases_lt, eq-eqb, eqb-true, lt-ltb, le-ltb, ltb-true, and_parts, and_from, false≢true}
 use Rattle.std.proofs.lemmas.Bool.Decides.{nat_tests}
 use Rattle.std.proofs.lemmas.List.{get_or_past}
+use Rattle.exb_model.proofs.Words.{get_or-same}
 use Rattle.std.proofs.lemmas.Nat.Bits.{bit_at_and, bit_at-lt, bit_at_above, bit_at-zero, same_from_bits}
 use Rattle.std.specs.Int.{bit_at}
 use Rattle.exb_model.specs.PortBits.{has_port}
@@ -217,3 +218,8 @@ all_more P xs i x lt is holds before k d low =
           let last : k ≡ i = omega arith in
           rw (last, sym (get_or_read xs i x lt is d)) holds
     ]
+
+-- how many ports each device has, before extenders are laid: the bridge's, of at most 64
+pub few_first : (p n : ℕ) → p ≤ 64 → slice_index (set (replicate 65 0) 0 p) n ≤ 64
+few_first p zero few = few
+few_first p (suc n) few = omega (arith, get_or-same {X = ℕ} 64 n 0)

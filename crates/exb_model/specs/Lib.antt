@@ -6,6 +6,7 @@ pub mod ETags
 pub mod Masks
 pub mod Tree
 pub mod TreeSets
+pub mod Tables
 pub mod TreeTables
 pub mod Configuration
 pub mod Setup

@@ -1,5 +1,5 @@
 -- The tree of extenders below the bridge (IEEE 802.1BR-2012).
-use Rattle.std.specs.Prelude.{◌≡◌, ℕ, zero, suc, ◌*◌, ◌/◌, ◌%◌, ◌<◌, ◌==◌, ◌&&◌, ◌||◌, Bool, true, false, not, ◌++◌, List, [], ◌∷◌, length, nat_lt, nat_le, slice_index, if◌then◌else◌, filter, flat_map, count_by}
+use Rattle.std.specs.Prelude.{◌≡◌, ℕ, zero, suc, ◌+◌, ◌*◌, ◌/◌, ◌%◌, ◌<◌, ◌==◌, ◌&&◌, ◌||◌, Bool, true, false, not, ◌++◌, List, [], ◌∷◌, length, nat_lt, nat_le, slice_index, if◌then◌else◌, filter, flat_map, count_by}
 use Rattle.std.specs.List.{list_any, range_with_len}
 use Rattle.exb_model.specs.declared.role.Role.{Role}
 use Rattle.exb_model.specs.declared.role.Role.TheVariants as role
@@ -8,6 +8,10 @@ use Rattle.exb_model.specs.Ports.{all_ports}
 -- the device of a port: 0 is the bridge, n is extender n
 abbrev pub device : ℕ → ℕ
 device p = p / 64
+
+-- the number of a port at its device, from 1
+abbrev pub port_number : ℕ → ℕ
+port_number p = p % 64 + 1
 
 -- The tree, by device from 0 (the bridge) to 64: how many ports a device has (0: there is no such
 -- extender), and the port on which an extender hangs.

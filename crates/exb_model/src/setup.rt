@@ -1,13 +1,14 @@
 //! What a topology sets up, and when that is valid.
-ghost use Rattle.std.specs.Prelude.{◌≡◌, ◌≢◌, ◌↔◌, ℕ, ◌==◌, ◌≤◌, IsTrue, All, AllPairs};
+ghost use Rattle.std.specs.Prelude.{◌≡◌, ◌≢◌, ◌↔◌, ℕ, ◌==◌, ◌≤◌, IsTrue, All, AllPairs, slice_index};
 ghost use Rattle.std.specs.List.{list_any};
 ghost use Rattle.exb_model.specs.Ports.{port_in};
 ghost use Rattle.exb_model.specs.Tree.{Shape, is_external};
-ghost use Rattle.exb_model.specs.Setup.{InRange, IsPlace, IsAgeing, IsStart, NamesExternal, IsValid};
+ghost use Rattle.exb_model.specs.Setup.{InRange, IsPlace, IsAgeing, IsStart, NamesExternal, IsValid, shape_of};
 
 use crate::command::Command;
 use crate::layout::Layout;
 use crate::list::List;
+use crate::port::DEVICES;
 use crate::port_set::PortSet;
 
 /// The port on which an extender hangs, numbered from 1.
@@ -183,6 +184,20 @@ impl Setup {
         layout.is_tree()
             && layout.has_room(&cascades, self.channels)
             && are_start(self.start.as_slice(), &layout.external(&cascades))
+    }
+
+    /// How many ports each device has, 0 where there is none: the bridge is device 0, an extender has its own number.
+    pub fn port_counts(&self) -> [u8; DEVICES as usize]
+        requires { IsValid self.now }
+        ensures counts { result ≡ (shape_of self.now).ports }
+        ensures few { (n : ℕ) → slice_index result n ≤ 64 }
+    {
+        let mut ports = [0u8; DEVICES as usize];
+        ports[0] = self.ports;
+        for extender in self.extenders.as_slice() {
+            ports[extender.number as usize] = extender.ports;
+        }
+        ports
     }
 }
 

@@ -19,7 +19,7 @@ use Rattle.exb_model.specs.Configuration.{Bridge}
 use Rattle.exb_model.specs.Input.{Arrival}
 use Rattle.exb_model.specs.LegalHistory.{EachEvent}
 use Rattle.exb_model.specs.Setup.{Limits}
-use Rattle.exb_model.specs.Tree.{Shape, device, on, is_external, is_extended}
+use Rattle.exb_model.specs.Tree.{Shape, device, on, is_external, is_extended, port_number}
 use Rattle.exb_model.specs.History.{Basis, History, ◌then◌, bridge_after}
 use Rattle.exb_frame.specs.TagValues.{TagRoundTrip}
 use Rattle.exb_extender.specs.Forwarding.{is_refused_kind, is_ignored}
@@ -35,8 +35,9 @@ use Rattle.exb_changing.specs.Deciding.{decide}
 use Rattle.exb_changing.specs.Machine.{Work, ordered}
 use Rattle.exb_changing.specs.Runs.Journal.{kept, StepsTell, Tells}
 use Rattle.exb_changing.specs.Runs.Systems.{System}
-use Rattle.exb_machine.specs.Worlds.{World, Way, Up, Down, Step, Arrive, Carry, Control, Lose, Beat, Tick, Order, Mark, Left, at}
-use Rattle.exb_machine.specs.Extending.{port_number, takes_from_above}
+use Rattle.exb_machine.specs.Worlds.{World, Way, Up, Down, Step, Arrive, Carry, Control, Lose, Beat, Tick, Order, Mark, Left}
+use Rattle.exb_model.specs.Tables.{at}
+use Rattle.exb_machine.specs.Extending.{takes_from_above}
 use Rattle.exb_machine.specs.Runs.Journal.{is_to_bridge}
 use Rattle.exb_machine.specs.Runs.Laws.{ordered_by}
 use Rattle.exb_machine.specs.Relaying.{arrival_by, comes}

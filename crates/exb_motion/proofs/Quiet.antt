@@ -3,7 +3,7 @@ use Rattle.std.proofs.Common.{◌≡◌, ℕ, ◌-◌, ◌==◌, ◌++◌, nat_l
 use Rattle.std.specs.Prelude.{Result}
 use Rattle.std.proofs.lemmas.Bool.{cases_Bool}
 use Rattle.std.proofs.lemmas.List.{append-nil}
-use Rattle.exb_model.specs.Tree.{Shape, on, device, trunk, is_extender, is_external}
+use Rattle.exb_model.specs.Tree.{Shape, on, device, trunk, is_extender, is_external, port_number}
 use Rattle.exb_model.specs.Setup.{Limits}
 use Rattle.exb_model.specs.Frames.{egress}
 use Rattle.exb_model.specs.ETags.{read_etag, tagged, stripped}
@@ -43,7 +43,7 @@ use Rattle.exb_changing.specs.Deciding.{decide}
 use Rattle.exb_changing.specs.Machine.{Moved, answered, beats}
 use Rattle.exb_machine.specs.Worlds.{World, control_word, push_down, push_up, with_near, with_far, with_control, with_table, next_beat}
 use Rattle.exb_machine.specs.Effects.{Effect, only, each}
-use Rattle.exb_machine.specs.Extending.{hung_on, port_number, stamp_of, sent_at, sent_to, sends, does, reacts, takes_from_above, takes_from_below}
+use Rattle.exb_machine.specs.Extending.{hung_on, stamp_of, sent_at, sent_to, sends, does, reacts, takes_from_above, takes_from_below}
 use Rattle.exb_machine.specs.Controls.{channel_at_trunk, forgotten_all, taught, announced}
 use Rattle.exb_machine.specs.Hearing.{bridge_request, bridge_acknowledgement, puts_tagged, to_extender, asks, moves, stops, hears_message, hears_fresh, hears_request, hears_pdu, hears_frame, hears, sends_again, beats_near, beats_control}
 use Rattle.exb_machine.specs.Relaying.{puts_word, sent_by, sends_in, sends_all, sends_for, comes, arrival_by, comes_from, holder_by, hung_at, hears_from, bridge_takes}

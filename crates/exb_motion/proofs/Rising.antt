@@ -8,7 +8,7 @@ use Rattle.exb_model.specs.declared.frame_kind.Seen.TheVariants as seen
 use Rattle.exb_model.specs.ETags.{tagged, stripped}
 use Rattle.exb_model.specs.EagerHistory.{is_relayed_kind, arrival_event}
 use Rattle.exb_model.specs.Frames.{kind_of, is_control_frame, IsBytes}
-use Rattle.exb_model.specs.Tree.{Shape, device, on, trunk, is_extender, is_external, is_extended}
+use Rattle.exb_model.specs.Tree.{Shape, device, on, trunk, is_extender, is_external, is_extended, port_number}
 use Rattle.exb_model.specs.Setup.{Limits}
 use Rattle.exb_model.specs.Input.{Arrival}
 use Rattle.exb_frame.specs.TagValues.{TagRoundTrip}
@@ -22,9 +22,10 @@ use Rattle.exb_changing.specs.Plans.Held.{channel_in}
 use Rattle.exb_changing.proofs.Plans.Giving.{channel_found}
 use Rattle.exb_relay.specs.Sends.{or_zero}
 use Rattle.exb_changing.specs.Runs.Planned.{IsSetting}
-use Rattle.exb_machine.specs.Worlds.{World, Up, Arrive, Carry, at, with_up}
+use Rattle.exb_machine.specs.Worlds.{World, Up, Arrive, Carry, with_up}
+use Rattle.exb_model.specs.Tables.{at}
 use Rattle.exb_machine.specs.Effects.{Effect}
-use Rattle.exb_machine.specs.Extending.{port_number, stamp_of, ignored, does, does_or_ignores, takes_from_below, arrives_at}
+use Rattle.exb_machine.specs.Extending.{stamp_of, ignored, does, does_or_ignores, takes_from_below, arrives_at}
 use Rattle.exb_machine.specs.Relaying.{holder_by, arrival_by, comes, bridge_takes}
 use Rattle.exb_machine.specs.Stepping.{counted, first_data, takes_any, takes_up, done_by, stepped}
 use Rattle.exb_machine.specs.Runs.Simulation.{IsSound}

@@ -7,11 +7,10 @@ use Rattle.exb_model.specs.ETags.{stripped}
 use Rattle.exb_model.specs.History.{Basis, History}
 use Rattle.exb_model.specs.Input.{Arrival}
 use Rattle.exb_model.specs.Setup.{Limits}
-use Rattle.exb_model.specs.Tree.{Shape, device, on}
+use Rattle.exb_model.specs.Tree.{Shape, device, on, port_number}
 use Rattle.exb_extender.specs.Forwarding.{is_ignored}
 use Rattle.exb_link.specs.declared.word.Stamp.{Stamp}
 use Rattle.exb_link.specs.declared.word.Word.{Word}
-use Rattle.exb_machine.specs.Extending.{port_number}
 use Rattle.exb_machine.specs.Relaying.{arrival_by}
 use Rattle.exb_machine.specs.Stepping.{first_data, stepped}
 use Rattle.exb_machine.specs.Worlds.{World, Way, Up, Down, Step, Arrive, Carry, Control, Lose, Beat, Tick, Order, Mark, Left}

@@ -10,7 +10,8 @@ use Rattle.exb_ecp.specs.Machine.{State as Ecp, Sending, beaten, beat_of, is_due
 use Rattle.exb_machine.specs.Effects.{Effect, only, each}
 use Rattle.exb_machine.specs.Hearing.{beats_near, bridge_request, sends_again, to_extender}
 use Rattle.exb_machine.specs.Stepping.{if_there}
-use Rattle.exb_machine.specs.Worlds.{World, at, with_near}
+use Rattle.exb_machine.specs.Worlds.{World, with_near}
+use Rattle.exb_model.specs.Tables.{at}
 use Rattle.exb_machine.proofs.Hearing.{to_extender_control}
 use Rattle.exb_machine.proofs.Words.{at_here}
 use Rattle.exb_boxes.specs.declared.log.Log.{Log}

@@ -6,7 +6,8 @@ use Rattle.exb_ecp.specs.Machine.{State as Ecp}
 use Rattle.exb_extender.specs.Machine.{ExtenderState}
 use Rattle.exb_link.specs.declared.word.Word.{Word}
 use Rattle.exb_machine.specs.Telling.{all_told, told}
-use Rattle.exb_machine.specs.Worlds.{World, Line, Left as Leaving, at, with_near, with_far, with_down, with_up}
+use Rattle.exb_machine.specs.Worlds.{World, Line, Left as Leaving, with_near, with_far, with_down, with_up}
+use Rattle.exb_model.specs.Tables.{at}
 use Rattle.exb_machine.specs.Effects.{Effect, only, sending, leaving}
 use Rattle.exb_boxes.specs.declared.log.Left.{Left}
 use Rattle.exb_boxes.specs.declared.log.Log.{Log}

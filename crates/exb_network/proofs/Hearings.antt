@@ -24,7 +24,8 @@ use Rattle.exb_control.specs.Controls.{announced as announced_in}
 use Rattle.exb_machine.specs.Controls.{announced, forgotten_all}
 use Rattle.exb_machine.specs.Effects.{only}
 use Rattle.exb_machine.specs.Hearing.{bridge_acknowledgement, hears, hears_frame, hears_fresh, hears_message, hears_pdu, hears_request, stops, to_extender}
-use Rattle.exb_machine.specs.Worlds.{World, at, with_control, with_table}
+use Rattle.exb_machine.specs.Worlds.{World, with_control, with_table}
+use Rattle.exb_model.specs.Tables.{at}
 use Rattle.exb_machine.specs.Runs.Asks.{AsksGo, AsksWell, CanGo}
 use Rattle.exb_machine.specs.Runs.Sessions.{AreLow, Each}
 use Rattle.exb_machine.proofs.Hearing.{to_extender_control}

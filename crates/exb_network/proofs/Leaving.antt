@@ -10,14 +10,14 @@ use Rattle.exb_extender.specs.Forwarding.{Sent}
 use Rattle.exb_extender.specs.Sending.{out_sent}
 use Rattle.exb_link.specs.declared.word.Stamp.{Stamp}
 use Rattle.exb_machine.specs.Effects.{Effect, only, each, joined, then_do}
-use Rattle.exb_machine.specs.Extending.{hung_on, port_number, sends, sent_at}
+use Rattle.exb_machine.specs.Extending.{hung_on, sends, sent_at}
+use Rattle.exb_model.specs.Tree.{port_number, Shape, IsTree, device, is_cascade}
 use Rattle.exb_machine.specs.Telling.{all_told, told}
 use Rattle.exb_machine.specs.Worlds.{World, Line, moment_of}
 use Rattle.exb_machine.specs.Worlds.{Left as Leaving, Out as LineOut}
 use Rattle.exb_machine.proofs.Trees.{hung_is}
 use Rattle.exb_model.specs.ETags.{stripped}
 use Rattle.exb_model.specs.Traces.{TraceLine}
-use Rattle.exb_model.specs.Tree.{Shape, IsTree, device, is_cascade}
 use Rattle.exb_model.proofs.TreeHung.{hung_cascade}
 use Rattle.exb_boxes.specs.declared.log.Left.{Left}
 use Rattle.exb_boxes.specs.declared.log.Log.{Log}

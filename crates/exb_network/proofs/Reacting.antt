@@ -6,7 +6,7 @@ use Rattle.std.proofs.lemmas.List.{append-nil}
 use mathlib.Core.Path.{fun_ext}
 use Rattle.exb_model.specs.declared.event.Event.TheVariants as event
 use Rattle.exb_model.specs.Input.{Arrival}
-use Rattle.exb_model.specs.Tree.{Shape, device}
+use Rattle.exb_model.specs.Tree.{Shape, device, port_number}
 use Rattle.exb_link.specs.declared.word.Stamp.{Stamp}
 use Rattle.exb_link.specs.declared.word.Word.{Word}
 use Rattle.exb_extender.specs.declared.sends.Form.{Form}
@@ -18,9 +18,10 @@ use Rattle.exb_extender.specs.Forwarding.{Sent, emitted, is_ignored, up}
 use Rattle.exb_extender.specs.Machine.{ExtenderState, Input, Arrives, IsPort, Reaction, react}
 use Rattle.exb_extender.specs.Passing.{GoesTo}
 use Rattle.exb_extender.specs.Sending.{bytes_in, out_sent, sent_by}
-use Rattle.exb_machine.specs.Worlds.{World, at, with_far}
+use Rattle.exb_machine.specs.Worlds.{World, with_far}
+use Rattle.exb_model.specs.Tables.{at}
 use Rattle.exb_machine.specs.Effects.{Effect, each}
-use Rattle.exb_machine.specs.Extending.{does, sends, reacts, takes_from_below, arrives_at, ignored, stamp_of, port_number}
+use Rattle.exb_machine.specs.Extending.{does, sends, reacts, takes_from_below, arrives_at, ignored, stamp_of}
 use Rattle.exb_boxes.specs.declared.log.Log.{Log}
 use Rattle.exb_network.specs.declared.site.Core.{Core}
 use Rattle.exb_network.specs.Arrivals.{IsPortAt}

@@ -8,7 +8,7 @@ use Rattle.exb_model.specs.declared.command.Command.{Command}
 use Rattle.exb_model.specs.declared.event.Event.TheVariants as event
 use Rattle.exb_model.specs.Input.{Arrival}
 use Rattle.exb_model.specs.Setup.{Limits}
-use Rattle.exb_model.specs.Tree.{Shape, IsTree, HangsOn, device, on, is_port, is_cascade, is_extender, is_external}
+use Rattle.exb_model.specs.Tree.{Shape, IsTree, HangsOn, device, on, is_port, is_cascade, is_extender, is_external, port_number}
 use Rattle.exb_link.specs.declared.word.Word.{Word}
 use Rattle.exb_link.specs.Words.{is_control, is_data, without_control, without_data}
 use Rattle.exb_control.specs.declared.outbox.Outbox.{Outbox}
@@ -16,9 +16,10 @@ use Rattle.exb_changing.specs.Deciding.{decide}
 use Rattle.exb_changing.specs.Machine.{ordered}
 use Rattle.exb_control.specs.Boxes.{HasTicked, IsMoved}
 use Rattle.exb_control.specs.Controls.{Parts, decide_of, state_of}
-use Rattle.exb_machine.specs.Worlds.{World, Way, Up, Down, at}
+use Rattle.exb_machine.specs.Worlds.{World, Way, Up, Down}
+use Rattle.exb_model.specs.Tables.{at}
 use Rattle.exb_machine.specs.Worlds.{Tick as Ticks, Mark, Lose}
-use Rattle.exb_machine.specs.Extending.{arrives_at, port_number, takes_from_below}
+use Rattle.exb_machine.specs.Extending.{arrives_at, takes_from_below}
 use Rattle.exb_machine.specs.Relaying.{bridge_takes, comes}
 use Rattle.exb_machine.specs.Stepping.{arrives, control_at, counted, done_by, first_data, rest_of, takes, takes_any, takes_up, with_words, words_on}
 use Rattle.exb_machine.specs.Runs.Asks.{AsksWell}

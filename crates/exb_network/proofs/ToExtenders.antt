@@ -10,7 +10,8 @@ use Rattle.exb_link.specs.declared.word.Word.{Word}
 use Rattle.exb_changing.specs.Plans.Held.{Held, channel_in}
 use Rattle.exb_changing.proofs.Plans.Giving.{channel_found}
 use Rattle.exb_csp.specs.Sessions.Asking.{AskerState}
-use Rattle.exb_machine.specs.Worlds.{World, BridgeOut, at, control_word}
+use Rattle.exb_machine.specs.Worlds.{World, BridgeOut, control_word}
+use Rattle.exb_model.specs.Tables.{at}
 use Rattle.exb_machine.specs.Controls.{channel_at_trunk}
 use Rattle.exb_machine.specs.Extending.{hung_on}
 use Rattle.exb_machine.specs.Hearing.{bridge_request, puts, puts_tagged, to_extender, submits}

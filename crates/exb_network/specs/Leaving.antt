@@ -9,9 +9,9 @@ use Rattle.exb_extender.specs.Forwarding.{Sent}
 use Rattle.exb_extender.specs.Sending.{out_sent}
 use Rattle.exb_link.specs.declared.word.Stamp.{Stamp}
 use Rattle.exb_machine.specs.Effects.{Effect, each}
-use Rattle.exb_machine.specs.Extending.{hung_on, port_number, sends}
+use Rattle.exb_machine.specs.Extending.{hung_on, sends}
+use Rattle.exb_model.specs.Tree.{port_number, Shape, device}
 use Rattle.exb_model.specs.ETags.{stripped}
-use Rattle.exb_model.specs.Tree.{Shape, device}
 use Rattle.exb_boxes.specs.declared.log.Log.{Log}
 use Rattle.exb_network.specs.declared.site.Core.{Core}
 use Rattle.exb_network.specs.Leading.{Leads}

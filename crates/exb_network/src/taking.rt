@@ -1,8 +1,8 @@
 //! What extenders do with words and frames that come to them, and at a beat.
 ghost use Rattle.std.specs.Prelude.{◌≡◌, ◌++◌, ◌∷◌, [], true, OnOk, None};
-ghost use Rattle.exb_model.specs.Tree.{device, is_extender};
+ghost use Rattle.exb_model.specs.Tree.{device, is_extender, port_number};
 ghost use Rattle.exb_extender.specs.Machine.{Arrives, Beats, CanTake};
-ghost use Rattle.exb_machine.specs.Extending.{arrives_at, port_number, reacts, takes_from_above, takes_from_below};
+ghost use Rattle.exb_machine.specs.Extending.{arrives_at, reacts, takes_from_above, takes_from_below};
 ghost use Rattle.exb_network.specs.Arrivals.{arrival_of, IsPortAt};
 ghost use Rattle.exb_boxes.specs.Devices.{far_of};
 ghost use Rattle.exb_network.specs.Worlds.{world_in, IsAt, Does, KeepsTrace};

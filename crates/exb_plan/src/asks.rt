@@ -1,7 +1,7 @@
 //! What is asked of extenders, in messages.
 ghost use Rattle.std.specs.Prelude.{◌≡◌, ◌≤◌, ◌++◌, ◌∷◌, [], length, min, OnOk};
-ghost use Rattle.exb_model.specs.Tree.{device};
-ghost use Rattle.exb_changing.specs.Plans.Asks.{ask, register, unregister, numbers_of, message, asks_with, channel_asks, create_asks, delete_asks, put_above, port_number};
+ghost use Rattle.exb_model.specs.Tree.{device, port_number};
+ghost use Rattle.exb_changing.specs.Plans.Asks.{ask, register, unregister, numbers_of, message, asks_with, channel_asks, create_asks, delete_asks, put_above};
 
 use crate::set_rows::rows;
 use exb_changing::{Row, Step};

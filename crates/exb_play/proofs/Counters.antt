@@ -3,7 +3,7 @@ use Rattle.std.proofs.Common.{◌≡◌, ℕ, ◌+◌, nat_lt, Bool, true, false
 use Rattle.exb_model.specs.declared.command.Command.{Command}
 use Rattle.exb_model.specs.Input.{Arrival}
 use Rattle.exb_model.specs.Setup.{Limits}
-use Rattle.exb_model.specs.Tree.{Shape, device, on, trunk}
+use Rattle.exb_model.specs.Tree.{Shape, device, on, trunk, port_number}
 use Rattle.exb_ecp.specs.Machine.{submitted, stopped}
 use Rattle.exb_csp.specs.Spelling.{message_bytes}
 use Rattle.exb_csp.specs.AllTables.{port_of}
@@ -23,11 +23,12 @@ use Rattle.exb_model.specs.Learning.{passes}
 use Rattle.exb_model.specs.Frames.{egress}
 use Rattle.exb_machine.specs.Controls.{channel_at_trunk, forgotten_all, taught}
 use Rattle.exb_machine.specs.Effects.{Effect, then_do, each}
-use Rattle.exb_machine.specs.Extending.{hung_on, port_number, sent_at, sent_to, sends, does, does_or_ignores, ignored, arrives_at, stamp_of}
+use Rattle.exb_machine.specs.Extending.{hung_on, sent_at, sent_to, sends, does, does_or_ignores, ignored, arrives_at, stamp_of}
 use Rattle.exb_machine.specs.Hearing.{bridge_request, puts_tagged, to_extender, asks, moves}
 use Rattle.exb_machine.specs.Relaying.{puts_word, sent_by, sends_in, sends_all, sends_for, comes}
 use Rattle.exb_machine.specs.Stepping.{counted, arrives, stepped}
-use Rattle.exb_machine.specs.Worlds.{World, Arrive, Order, Tick, at, with_near, with_far, with_table, with_control}
+use Rattle.exb_machine.specs.Worlds.{World, Arrive, Order, Tick, with_near, with_far, with_table, with_control}
+use Rattle.exb_model.specs.Tables.{at}
 use Rattle.exb_machine.specs.Runs.Simulation.{system_of}
 use Rattle.exb_machine.proofs.Jobs.{moved_given}
 

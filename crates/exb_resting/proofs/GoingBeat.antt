@@ -19,7 +19,8 @@ use Rattle.exb_changing.specs.Runs.Planned.{IsSetting}
 use Rattle.exb_changing.specs.Runs.Systems.{Beat as BeatStep, stepped as machine_stepped}
 use Rattle.exb_changing.proofs.Runs.Knowing.{steps_know}
 use Rattle.exb_changing.proofs.Runs.Steps.{any_steps_stand}
-use Rattle.exb_machine.specs.Worlds.{World, Beat, with_near, at, next_beat}
+use Rattle.exb_machine.specs.Worlds.{World, Beat, with_near, next_beat}
+use Rattle.exb_model.specs.Tables.{at}
 use Rattle.exb_machine.specs.Effects.{only}
 use Rattle.exb_machine.specs.Extending.{reacts}
 use Rattle.exb_machine.specs.Runs.Fixing.{fixing}

@@ -20,7 +20,8 @@ use Rattle.exb_changing.specs.Deciding.{decide}
 use Rattle.exb_changing.specs.Machine.{Work, answered}
 use Rattle.exb_changing.specs.Runs.Knowing.{KnowsWork}
 use Rattle.exb_changing.specs.Runs.Planned.{IsSetting}
-use Rattle.exb_machine.specs.Worlds.{World, Way, Up, Down, Step, Beat, with_up, with_down, with_far, at}
+use Rattle.exb_machine.specs.Worlds.{World, Way, Up, Down, Step, Beat, with_up, with_down, with_far}
+use Rattle.exb_model.specs.Tables.{at}
 use Rattle.exb_machine.specs.Allowing.{Can}
 use Rattle.exb_machine.specs.Controls.{announced}
 use Rattle.exb_machine.specs.Runs.Laws.{HasBytes, ordered_by}

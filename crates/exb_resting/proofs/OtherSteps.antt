@@ -3,7 +3,7 @@ use Rattle.std.proofs.Common.{◌≡◌, ℕ, nat_lt, Bool, true, false, cond, L
 use Rattle.exb_model.specs.declared.command.Command.{Command}
 use Rattle.exb_model.specs.Input.{Arrival}
 use Rattle.exb_model.specs.Setup.{Limits, NamesExternal}
-use Rattle.exb_model.specs.Tree.{Shape, IsTree, device, is_extender}
+use Rattle.exb_model.specs.Tree.{Shape, IsTree, device, is_extender, port_number}
 use Rattle.exb_frame.specs.TagValues.{TagRoundTrip}
 use Rattle.exb_model.specs.Frames.{IsBytes}
 use Rattle.exb_extender.specs.declared.sends.Side.TheVariants as side
@@ -16,7 +16,7 @@ use Rattle.exb_changing.specs.Machine.{Moved, ordered}
 use Rattle.exb_changing.specs.Runs.Planned.{IsSetting}
 use Rattle.exb_link.specs.declared.word.Stamp.{Stamp}
 use Rattle.exb_machine.specs.Allowing.{Can}
-use Rattle.exb_machine.specs.Extending.{port_number, stamp_of, ignored, does_or_ignores, arrives_at}
+use Rattle.exb_machine.specs.Extending.{stamp_of, ignored, does_or_ignores, arrives_at}
 use Rattle.exb_machine.specs.Hearing.{moves}
 use Rattle.exb_machine.specs.Relaying.{comes}
 use Rattle.exb_machine.specs.Stepping.{counted, stepped}

@@ -2,7 +2,7 @@
 use Rattle.std.proofs.Common.{◌≡◌, inl, inr, ℕ, ◌≤◌, Bool, true, false, cond, List, Option, refl, sym, ◌∙◌, subst}
 use Rattle.std.proofs.lemmas.Bool.{cases_lt, lt-ltb, le-ltb}
 use Rattle.exb_model.specs.Setup.{Limits}
-use Rattle.exb_model.specs.Tree.{Shape, IsTree, device, on, is_extender}
+use Rattle.exb_model.specs.Tree.{Shape, IsTree, device, on, is_extender, port_number}
 use Rattle.exb_frame.specs.TagValues.{TagRoundTrip}
 use Rattle.exb_model.specs.Frames.{IsBytes}
 use Rattle.exb_extender.specs.declared.sends.Side.TheVariants as side
@@ -15,7 +15,7 @@ use Rattle.exb_changing.specs.Beginning.{first_held}
 use Rattle.exb_changing.specs.Runs.Planned.{IsSetting}
 use Rattle.exb_machine.specs.Worlds.{World, Up, Down}
 use Rattle.exb_machine.specs.Effects.{only}
-use Rattle.exb_machine.specs.Extending.{port_number, reacts}
+use Rattle.exb_machine.specs.Extending.{reacts}
 use Rattle.exb_machine.specs.Stepping.{takes}
 use Rattle.exb_machine.specs.Runs.Sessions.{Each}
 use Rattle.exb_machine.specs.Runs.Simulation.{system_of, IsSound}

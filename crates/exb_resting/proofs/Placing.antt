@@ -1,7 +1,7 @@
 -- What an extender forwards of a control frame stands on the way of its extender again.
 use Rattle.std.proofs.Common.{◌≡◌, ◌≢◌, ◌⊎◌, ℕ, ◌%◌, ◌<◌, ◌≤◌, ◌&&◌, Bool, true, false, cond, nat_lt, List, [], ◌∷◌, map, Option, Some, None, refl, ap, sym, ◌∙◌, subst, arith, inl, inr}
 use Rattle.std.proofs.lemmas.Bool.{cases_Bool, and_parts, ltb-true, false≢true}
-use Rattle.exb_model.specs.Tree.{Shape, HangsOn, IsTree, device, on, is_extender, is_cascade, trunk}
+use Rattle.exb_model.specs.Tree.{Shape, HangsOn, IsTree, device, on, is_extender, is_cascade, trunk, port_number}
 use Rattle.exb_model.specs.ETags.{Tag, read_etag, tagged, stripped}
 use Rattle.exb_model.specs.ExtenderForwarding.{emits, emits_tagged, takes, left_out, bare}
 use Rattle.exb_model.proofs.TreeHung.{trunk-low}
@@ -14,7 +14,6 @@ use Rattle.exb_extender.specs.Machine.{ExtenderState, IsExtender}
 use Rattle.exb_link.specs.declared.word.Stamp.{Stamp}
 use Rattle.exb_model.specs.Setup.{Limits}
 use Rattle.exb_changing.specs.Plans.Held.{Held}
-use Rattle.exb_machine.specs.Extending.{port_number}
 use Rattle.exb_machine.specs.Runs.Sessions.{Each, IsTagged, KeepsCascades, Routes, IsNextHop}
 use Rattle.exb_machine.proofs.Fixing.{trunk_is_cascade}
 use Rattle.exb_machine.proofs.Forwarding.{bare_there, plain_there}

@@ -2,7 +2,7 @@
 use Rattle.std.proofs.Common.{◌≡◌, ◌≢◌, ◌⊎◌, inl, inr, ℕ, zero, suc, ◌%◌, ◌<◌, ◌≤◌, ◌==◌, ◌&&◌, ◌||◌, not, nat_lt, nat_le, Bool, true, false, cond, List, [], ◌∷◌, Option, Some, None, slice_index, refl, ap, sym, ◌∙◌, subst, arith, eq-eqb}
 use Rattle.std.proofs.lemmas.Bool.{cases_Bool, cases_eq, cases_lt, and_parts, and_from, ltb-true, lt-ltb, leb-true, le-leb, eqb-true, ne_eqb, false≢true, false_from_ne_true}
 use Rattle.exb_model.specs.Setup.{Limits}
-use Rattle.exb_model.specs.Tree.{Shape, IsTree, device, on, trunk, depth, is_port, is_extender, is_cascade, above, path, up}
+use Rattle.exb_model.specs.Tree.{Shape, IsTree, device, on, trunk, depth, is_port, is_extender, is_cascade, above, path, up, port_number}
 use Rattle.exb_model.specs.TreeSets.{covers}
 use Rattle.exb_model.specs.Configuration.{Bridge}
 use Rattle.exb_model.proofs.TreeHung.{trunk-low}
@@ -33,7 +33,6 @@ use Rattle.exb_changing.specs.Runs.Systems.{System}
 use Rattle.exb_changing.proofs.Runs.Growing.{are_within}
 use Rattle.exb_changing.proofs.Runs.LaidMidway.{left_clear}
 use Rattle.exb_changing.proofs.Runs.Reach.{covers_itself, covered_trunk}
-use Rattle.exb_machine.specs.Extending.{port_number}
 use Rattle.exb_machine.specs.Worlds.{World}
 use Rattle.exb_machine.specs.Runs.Fixing.{IsExactly, fixing}
 use Rattle.exb_machine.specs.Runs.Simulation.{system_of}

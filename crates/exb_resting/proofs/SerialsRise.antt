@@ -3,7 +3,7 @@ use Rattle.std.proofs.Common.{◌≡◌, ℕ, ◌+◌, ◌≤◌, ◌==◌, ◌|
 use Rattle.std.specs.Prelude.{Result}
 use Rattle.std.proofs.lemmas.Bool.{cases_Bool, cases_eq, eq-eqb, ne_eqb}
 use Rattle.exb_model.specs.Setup.{Limits}
-use Rattle.exb_model.specs.Tree.{Shape, IsTree, device, on}
+use Rattle.exb_model.specs.Tree.{Shape, IsTree, device, on, port_number}
 use Rattle.exb_model.specs.ETags.{read_etag, stripped}
 use Rattle.exb_model.specs.Input.{Arrival}
 use Rattle.exb_lldp.specs.declared.announce.Announce.{Announce}
@@ -30,7 +30,7 @@ use Rattle.exb_changing.specs.Machine.{State, Work, still, with_asker, answered,
 use Rattle.exb_changing.proofs.Runs.Taking.{beat_serial}
 use Rattle.exb_machine.specs.Controls.{is_of, announced}
 use Rattle.exb_machine.specs.Effects.{Effect, only}
-use Rattle.exb_machine.specs.Extending.{port_number, stamp_of, ignored, does_or_ignores, arrives_at, reacts, takes_from_below}
+use Rattle.exb_machine.specs.Extending.{stamp_of, ignored, does_or_ignores, arrives_at, reacts, takes_from_below}
 use Rattle.exb_machine.specs.Hearing.{bridge_acknowledgement, to_extender, stops, hears_message, hears_fresh, hears_request, hears_pdu, hears_frame, hears}
 use Rattle.exb_machine.specs.Relaying.{comes, comes_from, holder_by, hung_at, hears_from, takes_control, bridge_takes}
 use Rattle.exb_machine.specs.Stepping.{words_on, with_words, takes, takes_any, first_data, control_at, rest_of, counted, stepped}

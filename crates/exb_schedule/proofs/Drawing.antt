@@ -12,7 +12,8 @@ use Rattle.exb_model.specs.Setup.{Limits}
 use Rattle.exb_model.specs.Tree.{Shape}
 use Rattle.exb_machine.specs.Allowing.{Can}
 use Rattle.exb_machine.specs.Stepping.{stepped}
-use Rattle.exb_machine.specs.Worlds.{World, Step, Arrive, Tick, Order, at}
+use Rattle.exb_machine.specs.Worlds.{World, Step, Arrive, Tick, Order}
+use Rattle.exb_model.specs.Tables.{at}
 use Rattle.exb_machine.specs.Runs.Laws.{IsMove}
 use Rattle.exb_flight.specs.Items.{Each}
 use Rattle.exb_motion.specs.Given.{Given, Came, Told, given_by, arrivals_of, commands_of}

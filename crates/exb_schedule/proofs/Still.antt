@@ -9,15 +9,16 @@ use Rattle.exb_learn.specs.Histories.{relay_call, after_any}
 use Rattle.exb_changing.specs.Machine.{Moved, answered, beats, heard, ordered, still}
 use Rattle.exb_changing.specs.Runs.Systems.{Hear, Stray, Order as Ordering, Beat as BeatOf}
 use Rattle.exb_machine.specs.Controls.{channel_at_trunk, forgotten_all, taught, announced, is_of}
-use Rattle.exb_machine.specs.Extending.{hung_on, port_number, stamp_of, sent_at, sent_to, sends, does, reacts, takes_from_below, ignored, does_or_ignores, arrives_at}
+use Rattle.exb_machine.specs.Extending.{hung_on, stamp_of, sent_at, sent_to, sends, does, reacts, takes_from_below, ignored, does_or_ignores, arrives_at}
+use Rattle.exb_model.specs.Tree.{port_number, Shape, on, device, trunk, is_extender, is_external}
 use Rattle.exb_machine.specs.Stepping.{takes, takes_any, words_on, with_words, first_data, control_at, rest_of, counted, stepped, if_there, all_extenders, beats_all}
-use Rattle.exb_machine.specs.Worlds.{World, Way, Up, Down, Step, Arrive, Carry, Control, Lose, Beat, Tick, Order, Mark, at, control_word, push_down, push_up, with_near, with_far, with_control, with_table, next_beat}
+use Rattle.exb_machine.specs.Worlds.{World, Way, Up, Down, Step, Arrive, Carry, Control, Lose, Beat, Tick, Order, Mark, control_word, push_down, push_up, with_near, with_far, with_control, with_table, next_beat}
+use Rattle.exb_model.specs.Tables.{at}
 use Rattle.exb_machine.specs.Runs.Laws.{IsMove}
 use Rattle.exb_machine.specs.Runs.Simulation.{system_of}
 use Rattle.exb_machine.proofs.Jobs.{moved_given}
 use Rattle.std.specs.Prelude.{Result}
 use Rattle.std.proofs.lemmas.Bool.{cases_Bool}
-use Rattle.exb_model.specs.Tree.{Shape, on, device, trunk, is_extender, is_external}
 use Rattle.exb_model.specs.Setup.{Limits}
 use Rattle.exb_model.specs.Frames.{egress, source, is_group}
 use Rattle.exb_model.specs.ETags.{read_etag, tagged, stripped}

@@ -3,7 +3,8 @@ use Rattle.std.specs.Prelude.{◌≡◌, ◌≢◌, ℕ, ◌+◌, ◌<◌, ◌�
 use Rattle.exb_model.specs.declared.setup.Timed.{Timed}
 use Rattle.exb_model.specs.Setup.{NamesExternal}
 use Rattle.exb_model.specs.Tree.{Shape, is_external}
-use Rattle.exb_machine.specs.Worlds.{Step, at}
+use Rattle.exb_machine.specs.Worlds.{Step}
+use Rattle.exb_model.specs.Tables.{at}
 use Rattle.exb_flight.specs.Items.{Each}
 use Rattle.exb_motion.specs.Given.{arrivals_of, commands_of}
 use Rattle.exb_motion.specs.Kept.{given_in}

@@ -1,7 +1,7 @@
 -- The prepare of a plan only adds, its cleanup only clears, and an opening only adds.
 use Rattle.std.proofs.Common.{ℕ, Bool, true, false, List, [], ◌∷◌, ◌++◌, map, Option, Some, None}
 use Rattle.std.specs.Prelude.{flat_map}
-use Rattle.exb_model.specs.Tree.{Shape, by_depth, device}
+use Rattle.exb_model.specs.Tree.{Shape, by_depth, device, port_number}
 use Rattle.exb_model.specs.Setup.{Limits}
 use Rattle.exb_model.specs.Configuration.{Bridge}
 use Rattle.exb_csp.specs.declared.group_rows.GroupRow.{GroupRow}
@@ -9,7 +9,7 @@ use Rattle.exb_csp.specs.declared.message.Request.{Request}
 use Rattle.exb_csp.specs.declared.message.Request.TheVariants.{PortCreate, PortDelete}
 use Rattle.exb_csp.specs.declared.ask_at.AskAt.{AskAt}
 use Rattle.exb_changing.specs.declared.planning.step.Step.TheVariants.{Lay, Clear}
-use Rattle.exb_changing.specs.Plans.Asks.{ask, register, unregister, numbers_of, message, rows_at, asks_with, in_messages, group_asks, channel_rows, channel_ask, channel_asks, port_number, create_asks, delete_asks}
+use Rattle.exb_changing.specs.Plans.Asks.{ask, register, unregister, numbers_of, message, rows_at, asks_with, in_messages, group_asks, channel_rows, channel_ask, channel_asks, create_asks, delete_asks}
 use Rattle.exb_changing.specs.Plans.Held.{Held, Group}
 use Rattle.exb_changing.specs.Plans.Between.{goes_up, goes_down, gone_groups}
 use Rattle.exb_changing.specs.Plans.Sets.{sets_of}

@@ -1,13 +1,13 @@
 -- A port that is created, or deleted.
 use Rattle.std.proofs.Common.{◌≡◌, ◌≢◌, ℕ, ◌<◌, ◌≤◌, ◌==◌, ◌&&◌, ◌||◌, cond, Bool, true, false, not, [], ◌∷◌, nat_lt, nat_le, slice_index, refl, sym, ◌∙◌, ap, arith, eq-eqb}
 use Rattle.std.proofs.lemmas.Bool.{eqb-true, ne_eqb, and_from, and_right, lt-ltb, le-leb, false≢true}
-use Rattle.exb_model.specs.Tree.{Shape, device, is_port}
+use Rattle.exb_model.specs.Tree.{Shape, device, is_port, port_number}
 use Rattle.exb_model.specs.ExtenderForwarding.{Tables}
 use Rattle.exb_csp.specs.declared.message.Request.TheVariants.{PortCreate, PortDelete}
 use Rattle.exb_csp.specs.Execute.{is_channel, code_of, done}
 use Rattle.exb_csp.proofs.Executing.{or_false, and_true}
 use Rattle.exb_csp.specs.AllTables.{port_of, RunsAt}
-use Rattle.exb_changing.specs.Plans.Asks.{ask, port_number}
+use Rattle.exb_changing.specs.Plans.Asks.{ask}
 use Rattle.exb_changing.proofs.Plans.Bools.{same_tests}
 use Rattle.exb_changing.specs.Runs.Laid.{has_port, by_extender}
 use Rattle.exb_changing.proofs.Runs.Tables.{Like, PortAt, port_at, port_there, port_back, like_tables, same_extender, runs_to, runs_one}

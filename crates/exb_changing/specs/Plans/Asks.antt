@@ -1,7 +1,7 @@
 -- What is asked of the extenders for a change, in order.
-use Rattle.std.specs.Prelude.{ℕ, zero, suc, ◌+◌, ◌%◌, ◌==◌, not, Bool, List, [], ◌∷◌, ◌++◌, Option, Some, None, if◌then◌else◌, filter, filter_map, flat_map, map, length, take, drop}
+use Rattle.std.specs.Prelude.{ℕ, zero, suc, ◌+◌, ◌==◌, not, Bool, List, [], ◌∷◌, ◌++◌, Option, Some, None, if◌then◌else◌, filter, filter_map, flat_map, map, length, take, drop}
 use Rattle.exb_model.specs.Lists.{is_listed}
-use Rattle.exb_model.specs.Tree.{Shape, device, by_depth}
+use Rattle.exb_model.specs.Tree.{Shape, device, by_depth, port_number}
 use Rattle.exb_model.specs.TreeSets.{mask_of}
 use Rattle.exb_csp.specs.declared.group_rows.GroupRow.{GroupRow}
 use Rattle.exb_csp.specs.declared.message.Request.{Request}
@@ -77,10 +77,6 @@ put_above step own c row = if row.extender == own then [] else channel_ask step 
 
 abbrev pub channel_asks : Step → Shape → ℕ → ℕ → List AskAt
 channel_asks step t p c = map (channel_ask step c) (channel_rows t p)
-
--- a port is numbered from 1 at its extender
-abbrev pub port_number : ℕ → ℕ
-port_number p = p % 64 + 1
 
 -- port p gets a channel: Registers at each ancestor, then the port is created
 unfoldable pub create_asks : Shape → ℕ → Bool → ℕ → List AskAt

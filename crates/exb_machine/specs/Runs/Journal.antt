@@ -3,7 +3,7 @@ use Rattle.std.specs.Prelude.{◌≡◌, ◌⊎◌, ℕ, nat_lt, ◌||◌, Bool,
 use Rattle.exb_model.specs.declared.command.Command.{Command}
 use Rattle.exb_model.specs.declared.event.Event.{Event}
 use Rattle.exb_model.specs.declared.event.Event.TheVariants as event
-use Rattle.exb_model.specs.Tree.{Shape, device, on, is_external}
+use Rattle.exb_model.specs.Tree.{Shape, device, on, is_external, port_number}
 use Rattle.exb_model.specs.declared.setup.Setup.{Setup}
 use Rattle.exb_model.specs.Setup.{Limits, IsValid, shape_of, limits_of, start_of}
 use Rattle.exb_model.specs.Configuration.{Bridge}
@@ -19,7 +19,6 @@ use Rattle.exb_changing.specs.Runs.Planned.{IsSetting}
 use Rattle.exb_changing.specs.Runs.Begins.{MayBegin}
 use Rattle.exb_changing.specs.Runs.Journal.{told, kept, Tells}
 use Rattle.exb_machine.specs.Worlds.{World, Way, Up, Down, Step, Arrive, Carry, Control, Lose, Beat, Tick, Order, Mark, first_world}
-use Rattle.exb_machine.specs.Extending.{port_number}
 use Rattle.exb_machine.specs.Controls.{forgotten_all}
 use Rattle.exb_machine.specs.Relaying.{holder_by, arrival_by}
 use Rattle.exb_machine.specs.Stepping.{stepped, words_on, first_data}

@@ -1,7 +1,7 @@
 -- Data words have stamps.
 use Rattle.std.specs.Prelude.{◌≡◌, ℕ, true, false, ◌<◌, ◌≤◌, if◌then◌else◌, List, [], ◌∷◌, Some}
 use Rattle.exb_model.specs.declared.event.Event.{Event}
-use Rattle.exb_model.specs.Tree.{Shape, on, device, trunk, is_external}
+use Rattle.exb_model.specs.Tree.{Shape, on, device, trunk, is_external, port_number}
 use Rattle.exb_model.specs.Setup.{Limits}
 use Rattle.exb_model.specs.Configuration.{Bridge}
 use Rattle.exb_model.specs.ETags.{read_etag, stripped}
@@ -10,7 +10,6 @@ use Rattle.exb_model.specs.Input.{Arrival}
 use Rattle.exb_model.specs.EagerHistory.{arrival_event}
 use Rattle.exb_extender.specs.Forwarding.{is_ignored}
 use Rattle.exb_changing.specs.Runs.Planned.{IsSetting}
-use Rattle.exb_machine.specs.Extending.{port_number}
 use Rattle.exb_machine.specs.Runs.Simulation.{IsSound}
 use Rattle.exb_link.specs.declared.word.Stamp.{Stamp}
 use Rattle.exb_link.specs.declared.word.Word.{Word}

@@ -9,7 +9,7 @@ use Rattle.exb_model.specs.Frames.{kind_of, source, is_group, egress, IsBytes}
 use Rattle.exb_model.specs.Input.{Arrival}
 use Rattle.exb_model.specs.Learning.{passes}
 use Rattle.exb_model.specs.Setup.{Limits}
-use Rattle.exb_model.specs.Tree.{Shape, IsTree, device, on, trunk, any_below, is_port, is_cascade, is_extender, is_external}
+use Rattle.exb_model.specs.Tree.{Shape, IsTree, device, on, trunk, any_below, is_port, is_cascade, is_extender, is_external, port_number}
 use Rattle.exb_config.specs.Pvids.{HasPvids}
 use Rattle.exb_frame.specs.declared.etag.ETag.{ETag}
 use Rattle.exb_frame.specs.TagValues.{tag_of}
@@ -53,7 +53,7 @@ use Rattle.exb_machine.specs.Allowing.{Can}
 use Rattle.exb_changing.specs.Plans.Held.{numbers_in}
 use Rattle.exb_machine.specs.Controls.{channel_at_trunk, forgotten_all, taught, announced}
 use Rattle.exb_machine.specs.Effects.{Effect, only, then_do, each}
-use Rattle.exb_machine.specs.Extending.{hung_below, hung_on, port_number, sent_at, sent_to, sends, does, reacts, takes_from_above, takes_from_below, stamp_of, ignored, does_or_ignores, arrives_at}
+use Rattle.exb_machine.specs.Extending.{hung_below, hung_on, sent_at, sent_to, sends, does, reacts, takes_from_above, takes_from_below, stamp_of, ignored, does_or_ignores, arrives_at}
 use Rattle.exb_machine.specs.Hearing.{bridge_request, bridge_acknowledgement, puts_tagged, to_extender, asks, moves, stops, hears_message, hears_fresh, hears_request, hears_pdu, hears_frame, hears, sends_again, beats_near, beats_control}
 use Rattle.exb_machine.specs.Relaying.{puts_word, sent_by, sends_in, sends_all, sends_for, comes, arrival_by, comes_from, holder_by, hung_at, hears_from, bridge_takes}
 use Rattle.exb_machine.specs.Stepping.{words_on, with_words, takes_any, first_data, control_at, rest_of, counted, if_there, all_extenders, beats_all, done_by, stepped}
