@@ -11,8 +11,9 @@ kit=$(dirname "$0")
 case $1 in
 version) cat "$kit/kit" ;;
 doc) echo "$kit/START-HERE.md" ;;
+help) echo "rt ci [--anew]" ;;
 ci)
-    echo $(ls crates) >>"$kit/calls"
+    echo $2 $(ls crates) >>"$kit/calls"
     for name in exb_low exb_high exb_beside exbr; do
         [ -d crates/$name ] || continue
         [ $name != exb_high ] || [ -d crates/exbr ] || { # first
@@ -123,9 +124,16 @@ class TwoRuns(Launched):
     def test_anew_is_one_run(self):
         it = self.wide()
         self.says(["tools/build", "--anew"], 0, "exbr proved (4 of 4")
-        self.assertEqual(it.read("kit/calls").splitlines(), ["exb_beside exb_high exb_low exbr"])
+        self.assertEqual(it.read("kit/calls").splitlines(), ["--anew exb_beside exb_high exb_low exbr"])
 
-    def test_where_nothing_is_kept_there_is_one_run(self):
+    def test_a_kit_that_keeps_nothing_has_one_run_and_no_such_word(self):
+        it = self.wide(WIDE.replace("rt ci [--anew]", "rt ci"))
+        for words in ([], ["--anew"]):
+            it.write("kit/calls", "")
+            self.says(["tools/build", *words], 0, "(4 of 4")
+            self.assertEqual(it.read("kit/calls").splitlines(), ["exb_beside exb_high exb_low exbr"])
+
+    def test_where_nothing_is_shared_there_is_one_run(self):
         it = self.wide(WIDE.replace("doc)", "none)"))
         self.says(["tools/build"], 0, "exbr proved (4 of 4")
         self.assertEqual(it.read("kit/calls").splitlines(), ["exb_beside exb_high exb_low exbr"])
