@@ -1,8 +1,8 @@
 //! Worlds: a topology, steps, and what is told. `crates/exb_cases/cases.py` plays each of them over its own tree too.
 use crate::words::{Case, judge};
 
-/// Openings, frames on their way while a command is carried out, words that are lost or come twice, and traces.
-const CASES: [Case; 8] = [
+/// Openings, frames on their way while a command is carried out, words that are lost or come twice, traces, and what a fate is asked.
+const CASES: [Case; 14] = [
     // one announcement, Open, and a channel and a group for each port
     (
         "bridge = { ports = 1 }\nextender = [{ number = 1, on = 'b1', ports = 3 }]\n",
@@ -50,6 +50,37 @@ const CASES: [Case; 8] = [
         "bridge = { ports = 2 }\nextender = [{ number = 1, on = 'b1', ports = 2 }]\n",
         "settle; skip; arrive x1.1 1 FFFFFFFFFFFF0200000000010800AABB; carry 1 up; carry 1 down; trace; skip; tick 3; arrive b2 1 FF; mark; trace",
         "in x1 1 ffffffffffff0200000000010800aabb\nout x1 up ffffffffffff020000000001893f0000000100000800aabb\nin b 1 ffffffffffff020000000001893f0000000100000800aabb\n= relay x1.1 1\nout b 1 ffffffffffff020000000001893f0001100100000800aabb\nout b 2 ffffffffffff0200000000010800aabb\nin x1 up ffffffffffff020000000001893f0001100100000800aabb\nout x1 2 ffffffffffff0200000000010800aabb\n= tick 3\nin b 2 ff\n= ignore b2 1\n= settled\n",
+    ),
+    // a fate is asked once for each control frame that a device takes in, with a trace and without
+    (
+        "bridge = { ports = 1 }\nextender = [{ number = 1, on = 'b1', ports = 2 }]\n",
+        "arm P 1000; settle; arrive x1.1 1 FFFFFFFFFFFF0200000000010800AABB; settle; asked; heard",
+        "asked 25\nheard 25\n",
+    ),
+    (
+        "bridge = { ports = 1 }\nextender = [{ number = 1, on = 'b1', ports = 2 }]\n",
+        "bare; arm P 1000; settle; arrive x1.1 1 FFFFFFFFFFFF0200000000010800AABB; settle; asked",
+        "asked 25\n",
+    ),
+    (
+        "bridge = { ports = 2 }\nextender = [{ number = 1, on = 'b1', ports = 2 }, { number = 2, on = 'x1.2', ports = 2 }]\n",
+        "arm P 1000; settle; arrive x1.1 1 FFFFFFFFFFFF0200000000010800AABB; settle; asked; heard",
+        "asked 92\nheard 92\n",
+    ),
+    (
+        "bridge = { ports = 2 }\nextender = [{ number = 1, on = 'b1', ports = 2 }, { number = 2, on = 'x1.2', ports = 2 }]\n",
+        "bare; arm P 1000; settle; arrive x1.1 1 FFFFFFFFFFFF0200000000010800AABB; settle; asked",
+        "asked 92\n",
+    ),
+    (
+        "bridge = { ports = 1 }\nextender = [{ number = 1, on = 'b1', ports = 2 }]\nvlan = [{ vid = 10, tagged = ['x1.1-2'] }]\ncommand = [{ at = 0, op = 'member', vid = 10, port = 'x1.2', kind = 'untagged' }]\n",
+        "arm P 1000; settle; give; settle; arrive x1.1 1 FFFFFFFFFFFF0200000000010800AABB; settle; asked; heard",
+        "asked 33\nheard 33\n",
+    ),
+    (
+        "bridge = { ports = 1 }\nextender = [{ number = 1, on = 'b1', ports = 2 }]\nvlan = [{ vid = 10, tagged = ['x1.1-2'] }]\ncommand = [{ at = 0, op = 'member', vid = 10, port = 'x1.2', kind = 'untagged' }]\n",
+        "bare; arm P 1000; settle; give; settle; arrive x1.1 1 FFFFFFFFFFFF0200000000010800AABB; settle; asked",
+        "asked 33\n",
     ),
 ];
 
