@@ -195,9 +195,11 @@ class Driver:
 
 
 def cases():
+    """A topology, steps, and what must be told, of each case."""
     with open(TABLE, encoding="utf-8") as it:
-        table = re.findall(r'\(\s*"([^"]*)",\s*"([^"]*)",\s*"([^"]*)",?\s*\)', it.read())
-    return [tuple(text.replace("\\n", "\n") for text in case) for case in table]
+        text = re.search(r'const CASES: &str = "([^"]*)";', it.read())[1]
+    text = re.sub(r"\\\n *", "", text).replace("\\n", "\n")
+    return [re.fullmatch(r"([^>]*)>([^\n]*)\n(.*)", case, re.DOTALL).groups() for case in text.split("%")]
 
 
 def agree():

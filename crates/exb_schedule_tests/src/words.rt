@@ -453,9 +453,6 @@ fn log_of(
     progress.log
 }
 
-/// A topology, steps, and what must be told.
-pub(crate) type Case = (&'static str, &'static str, &'static str);
-
 // What the steps over a topology tell. A world is let go by `drop`, since all that goes with it is proved where it ends with a block.
 fn log_over(rt: &impl Abort, alloc: Global, topology: &Topology, steps: &str) -> String {
     let (steps, trace) = match steps.strip_prefix("bare; ") {
@@ -477,14 +474,16 @@ pub(crate) fn log_over_text(rt: &impl Abort, alloc: Global, topology: &str, step
 }
 
 // Asserts that a case tells what it must.
-fn expect_case(rt: &impl Abort, alloc: Global, topology: &str, steps: &str, wanted: &str) {
+fn expect_case(rt: &impl Abort, alloc: Global, case: &str) {
+    let (topology, rest) = case.split_once('>').expect(rt, "steps");
+    let (steps, wanted) = rest.split_once('\n').expect(rt, "what is told");
     let log = log_over_text(rt, alloc, topology, steps);
     assert!(rt; log.as_str() == wanted, "{log}of {steps}");
 }
 
-/// Asserts that each case tells what it must.
-pub(crate) fn judge(rt: &impl Abort, alloc: Global, cases: &[Case]) {
-    for (topology, steps, wanted) in cases {
-        expect_case(rt, alloc, topology, steps, wanted);
+/// Asserts that each case tells what it must: a topology, behind `>` a line of steps, and what is told. `%` stands between two.
+pub(crate) fn judge(rt: &impl Abort, alloc: Global, cases: &str) {
+    for case in cases.split('%') {
+        expect_case(rt, alloc, case);
     }
 }
