@@ -6,6 +6,8 @@ import sys
 from bridge import SECOND, name_of, number_of
 from world.extender import UP
 from world.machine import DOWN, World
+from disturbed import control_in
+from seeded import letters
 from world.schedule import directions, is_free, settle_and_mark
 
 TABLE = os.path.join(os.path.dirname(os.path.abspath(__file__)), "..", "exb_schedule_tests", "src", "worlds.rt")
@@ -43,7 +45,7 @@ class Driver:
 
     def __init__(self, topology):
         self.world, self.log = Recorded(topology), []
-        self.given, self.seconds, self.told, self.lines = 0, 0, 0, 0
+        self.given, self.seconds, self.armed, self.told, self.lines = 0, 0, 0, 0, 0
         self.left, self.logged = [], {port: 0 for port in self.world.left}
 
     def note_left(self):
@@ -142,6 +144,10 @@ class Driver:
         elif verb == "give":
             world.command(world.bridge.commands[self.given])
             self.given += 1
+        elif verb in ("arm", "draw"):
+            plan = words[0] * int(words[1]) if verb == "arm" else letters(*map(int, words))
+            self.armed += len(plan)
+            world.fate += plan
         elif verb == "decide":
             self.rounds(self.is_decided, False)
         elif verb == "settle":
@@ -161,6 +167,13 @@ class Driver:
             self.log += world.trace[self.lines:]
         elif verb == "skip":
             self.forget()
+        elif verb == "bare":
+            pass
+        elif verb == "asked":
+            self.log.append(f"asked {self.armed - len(world.fate)}")
+        elif verb == "heard":
+            lines = "".join(f"{line}\n" for line in world.trace[self.lines:])
+            self.log.append(f"heard {control_in(lines.encode())}")
         elif verb == "planned":
             self.log.append(f"planned {self.planned()}")
         elif verb == "free":
@@ -182,9 +195,11 @@ class Driver:
 
 
 def cases():
+    """A topology, steps, and what must be told, of each case."""
     with open(TABLE, encoding="utf-8") as it:
-        table = re.findall(r'\(\s*"([^"]*)",\s*"([^"]*)",\s*"([^"]*)",?\s*\)', it.read())
-    return [tuple(text.replace("\\n", "\n") for text in case) for case in table]
+        text = re.search(r'const CASES: &str = "([^"]*)";', it.read())[1]
+    text = re.sub(r"\\\n *", "", text).replace("\\n", "\n")
+    return [re.fullmatch(r"([^>]*)>([^\n]*)\n(.*)", case, re.DOTALL).groups() for case in text.split("%")]
 
 
 def agree():

@@ -12,14 +12,19 @@ from .tests import Skip, Test
 sys.path.insert(0, os.path.join(TOP, "crates/exb_cases"))
 
 
-def judge(program, words, files, written, summary):
-    """Plays these files: the run writes and prints this, and makes no other file."""
+def played(program, words, files):
+    """Plays these files: the status with what is printed, and the files that are there then."""
     with tempfile.TemporaryDirectory(prefix="exbr-outcome-", dir=MEMORY) as room:
         for file, data in files.items():
             with open(f"{room}/{file}", "wb") as it:
                 it.write(data)
         ran = play(program, words, room)
-        after = files_below(room)
+        return ran, files_below(room)
+
+
+def judge(program, words, files, written, summary):
+    """Plays these files: the run writes and prints this, and makes no other file."""
+    ran, after = played(program, words, files)
     assert ran == (0, f"{summary}\n", ""), f"{ran}, where {summary} is wanted"
     for file, data in {**files, **written}.items():
         same(file, after.pop(file, None), data)
@@ -61,13 +66,46 @@ def seed(program, number, budget):
     judge(program, ["run", "topology.toml", f"--seed={number}"], files, written, summary)
 
 
+def trace_over(program, text, fate, options):
+    """The trace of a run with this fate."""
+    import disturbed
+    ran, after = played(program, ["run", "t.toml", "--trace", *options], disturbed.counted(text, fate))
+    assert ran[0] == 0, f"{ran}, where status 0 is wanted"
+    return after["out-trace.txt"]
+
+
+def asked(program, text, options):
+    """A run asks its fate once for each control frame that a device takes in."""
+    import disturbed
+    whole = trace_over(program, text, "", options)
+    count = disturbed.control_in(whole)
+    assert count > 10, f"{count} control frames"
+    assert trace_over(program, text, "P" * count + "L", options) == whole, f"the fate is asked more than {count} times"
+    assert trace_over(program, text, "P" * (count - 1) + "L", options) != whole, f"the fate is asked less than {count} times"
+
+
 def skipped():
     raise Skip("the plain bridge in Python needs Python 3.11 or later")
+
+
+def disturbed_run(program, files):
+    as_plain(program, "t.toml", files)
+
+
+def over_links(program):
+    """Runs that links disturb as much as they may, and runs whose control frames are counted."""
+    import disturbed
+    found = [Test("outcomes", name, lambda it=files: disturbed_run(program, it)) for name, files in [*disturbed.chains(), *disturbed.lost_answers()]]
+    for at, text in enumerate(disturbed.COUNTED, 1):
+        for options in ([], ["--seed=3"]):
+            found.append(Test("outcomes", f"control frames of {at} {' '.join(options)}".strip(), lambda it=(text, options): asked(program, *it)))
+    return found
 
 
 def outcomes(program):
     """Each row, each trial and each seed, by its number."""
     try:
+        import disturbed
         import outcomes as tables
         import seeded
         import trials
@@ -76,5 +114,6 @@ def outcomes(program):
     found = [Test("outcomes", f"row {at}", lambda it=it: row(program, *it)) for at, it in enumerate([*tables.OUTCOMES, *tables.SUMMARY], 1)]
     for first, sizes in trials.TRIALS:
         found += [Test("outcomes", f"trial {first + size} of {size} extenders", lambda it=(first + size, size): trial(program, *it)) for size in sizes]
+    found += over_links(program)
     return found + [Test("outcomes", f"seed {number}{' over drawn verdicts' if budget else ''}", lambda it=(number, budget): seed(program, *it))
                     for number, budget in seeded.SEEDS]

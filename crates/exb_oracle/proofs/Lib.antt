@@ -17,6 +17,7 @@ pub mod AtOnce
 pub mod Playing
 pub mod FileOrder
 pub mod Summary
+pub mod Counts
 pub mod Lines
 pub mod Telling
 pub mod LegalTelling

@@ -1,4 +1,9 @@
 //! Laws of the histories that an input allows. Each speaks of every input, valid or not.
+ghost use Rattle.std.specs.Prelude.{◌≡◌, count_by};
+ghost use Rattle.exb_model.specs.Tree.{Shape};
+ghost use Rattle.exb_model.specs.History.{Basis, History};
+ghost use Rattle.exb_model.specs.Texts.{counts, with_left};
+ghost use Rattle.exb_oracle.specs.Counting.{counted_all, all_left, is_relay, is_ignored, is_commit, is_refusal};
 ghost use Rattle.exb_oracle.specs.Playing.{LegalPlaysInput, CommandsInFileOrder, SummaryAddsUp, PlayedAtOnceIsLegal, PlayedAtOnceIsEager, EagerIsLegal, SeededIsPossible};
 ghost use Rattle.exb_oracle.specs.Telling.{JournalTellsHistory, JournalTellsLegal, SmallIsWritten};
 
@@ -17,6 +22,19 @@ pub fn commands_in_file_order()
 /// refusals to the commands.
 pub fn summary_adds_up()
     ensures { SummaryAddsUp }
+{}
+
+/// The counts of a summary are how many events of each sort the history has, and how many frames left the
+/// external ports by the one flat bridge.
+pub fn counts_are_counted()
+    ensures all { (t : Shape) (b : Basis) (h : History) → counts t b h ≡ record {
+      relayed = count_by is_relay h;
+      ignored = count_by is_ignored h;
+      left = all_left t b h;
+      commits = count_by is_commit h;
+      refusals = count_by is_refusal h;
+    } }
+    ensures parts { (t : Shape) (b : Basis) (h : History) → counts t b h ≡ with_left (all_left t b h) (counted_all h) }
 {}
 
 /// In either mode one history is allowed: that in which each segment plays its tick, then its commands and then its

@@ -1,17 +1,21 @@
 //! A world before its first step, what is on its links, and its single steps, each asked of it before it is made. They have no clauses, so that what
 //! stands above them is proved without any of a world's.
-use exb_fate::Fate;
-use exb_flat_run::merge::Arrival;
+use exb_fate::{Fate, ScriptFate};
 use exb_link::Counts;
 use exb_model::port::PortId;
 use exb_model::setup::{Timed, Verdict};
-use exb_schedule::{Left, Step, Way, World, settle};
+use exb_schedule::{Step, Way, World, settle};
 use exb_topology::Topology;
 use std::alloc::Global;
 use std::process::Abort;
 
 /// More verdicts than any fate of these tests may give.
 const MANY: u64 = 1_000_000_000;
+
+/// A fate that does as it is armed to.
+pub(crate) fn scripted(rt: &impl Abort, alloc: Global) -> Box<dyn Fate> {
+    Box::new(alloc, ScriptFate::new(alloc)).expect(rt, "memory")
+}
 
 /// A world of a topology in which nothing has happened yet, with a trace or without.
 pub(crate) fn begun(
@@ -23,27 +27,6 @@ pub(crate) fn begun(
 ) -> World {
     assert!(rt; topology.setup.valid());
     World::new(alloc, &topology.setup, fate, trace).expect(rt, "memory")
-}
-
-/// Whether there is an extender of this number.
-pub(crate) fn is_extender(world: &World, link: u8) -> bool {
-    world.tree().is_extender(link)
-}
-
-/// Whether a port is external.
-pub(crate) fn is_external(world: &World, port: PortId) -> bool {
-    world.tree().is_external(port)
-}
-
-/// Whether a frame left this port.
-pub(crate) fn has_left(left: &Left, port: PortId) -> bool {
-    let mut rest = left.row;
-    for _ in 0..64u8 {
-        if rest.next() == Some(port) {
-            return true;
-        }
-    }
-    false
 }
 
 /// How many words are on a direction.
@@ -98,25 +81,21 @@ pub(crate) fn beat(rt: &impl Abort, world: &mut World) {
     world.step(Step::Beat).expect(rt, "memory");
 }
 
-// Seconds pass.
-fn pass(rt: &impl Abort, world: &mut World, seconds: u32) {
+/// Seconds pass.
+pub(crate) fn tick(rt: &impl Abort, world: &mut World, seconds: u32) {
     assert!(rt; world.can(&Step::Tick { seconds }));
     world.step(Step::Tick { seconds }).expect(rt, "memory");
 }
 
-/// Seconds pass, if there are any.
-pub(crate) fn tick(rt: &impl Abort, world: &mut World, seconds: u32) {
-    if seconds > 0 {
-        pass(rt, world, seconds);
-    }
-}
-
 /// A record arrives.
-pub(crate) fn arrive(rt: &impl Abort, world: &mut World, arrival: &Arrival) {
-    let port = arrival.port;
-    let index = arrival.index;
-    let moment = arrival.moment;
-    let bytes = arrival.bytes.as_slice();
+pub(crate) fn arrive(
+    rt: &impl Abort,
+    world: &mut World,
+    port: PortId,
+    index: u64,
+    moment: u64,
+    bytes: &[u8],
+) {
     assert!(rt;
         world.can(&Step::Arrive {
             port,
@@ -138,7 +117,7 @@ pub(crate) fn arrive(rt: &impl Abort, world: &mut World, arrival: &Arrival) {
 /// The fate is armed.
 pub(crate) fn arm(rt: &impl Abort, world: &mut World, plan: &[Verdict]) {
     assert!(rt; world.fate_left() < MANY);
-    assert!(rt; plan.len() < 100_000);
+    assert!(rt; plan.len() < 1_000_000);
     world.arm(plan).expect(rt, "memory");
 }
 
@@ -155,25 +134,20 @@ pub(crate) fn give(rt: &impl Abort, world: &mut World, timed: &Timed) {
     command(rt, world, timed);
 }
 
+/// How many of so many verdicts were given with which the fate was armed.
+pub(crate) fn asked(world: &World, armed: u64) -> u64 {
+    armed.saturating_sub(world.fate_left())
+}
+
+/// Of so many verdicts, if there are any, one was given at least.
+pub(crate) fn expect_spent(rt: &impl Abort, world: &World, armed: u64) {
+    assert!(rt; armed == 0 || asked(world, armed) > 0);
+}
+
 /// What is settled is marked.
 pub(crate) fn mark(rt: &impl Abort, world: &mut World) {
     assert!(rt; world.can(&Step::Mark));
     world.step(Step::Mark).expect(rt, "memory");
-}
-
-// The fate of a control word.
-fn fate(world: &mut World) -> Verdict {
-    world.fate()
-}
-
-/// The fate of a control word is asked, and done.
-pub(crate) fn ask(rt: &impl Abort, world: &mut World, link: u8, way: Way, at: u64) {
-    match fate(world) {
-        Verdict::Pass => deliver(rt, world, link, way, at, false),
-        Verdict::Lose => lose(rt, world, link, way, at),
-        Verdict::Twice => deliver(rt, world, link, way, at, true),
-        Verdict::Later => {}
-    }
 }
 
 // How many rounds a settling may take: 64 for each verdict that isn't Pass, each planned exchange, and one more.

@@ -4,22 +4,25 @@
 //! - `carry N up`, `control N down K`, `keep N down K`, `lose N up K`: a word of a direction of extender N is taken, the
 //!   control word at position K is delivered, or delivered and kept, or lost
 //! - `beat`, `tick S`, `give` (the next command of the topology), `mark`
+//! - `arm V COUNT`: the fate is armed with so many verdicts of the letter V; `draw NUMBER COUNT`: with verdicts that are drawn from a number,
+//!   up to the last of so many that disturb. `bare`, as the first word of the steps, is a world without a trace
 //! - `decide`: free control words are delivered, those of all links upward, then downward, and beats pass, until a command is decided
 //! - `settle`: rounds until all is settled, and a mark; `doubled`: the same, where each control word is delivered twice
 //! - `tell`: logs the events and what has left; `planned`, `counts N`: logs how many exchanges are planned, and how many data words
 //!   and control words are on a link, up and down; `free N down K`: logs whether a control word may be delivered; `trace`: logs
 //!   the lines of the trace; `skip`: forgets what was told
-use crate::fates::scripted;
+//! - `asked`: logs how many of the verdicts were given with which the steps armed the fate; `spent`: some were; `heard`: logs how many
+//!   lines of the trace are those of a control frame that a device takes in
 use crate::hex::bytes_of;
+use crate::plans::{drawn, same};
 use crate::steps::{
-    arrive, beat, begun, carry, counts, deliver, give, is_free, lose, mark, rest, tick,
+    arm, arrive, asked, beat, begun, carry, counts, deliver, expect_spent, give, is_free, lose,
+    mark, rest, scripted, tick,
 };
-use exb_flat_run::merge::Arrival;
 use exb_hostile::hex::text_of;
-use exb_model::bytes::Bytes;
 use exb_model::event::Event;
 use exb_model::port::PortId;
-use exb_model::setup::Timed;
+use exb_model::setup::{Timed, Verdict};
 use exb_schedule::{Left, Way, World};
 use exb_text::{PortName, write_line, write_trace_line};
 use exb_topology::{Topology, read};
@@ -27,11 +30,12 @@ use std::alloc::Global;
 use std::process::Abort;
 use std::str::SplitWhitespace;
 
-/// How many commands were given, how many seconds have passed, and what was told.
+/// How many commands were given, how many seconds have passed, with how many verdicts the steps armed the fate, and what was told.
 #[derive(Drop)]
 struct Progress {
     given: usize,
     seconds: u64,
+    armed: u64,
     log: String,
 }
 
@@ -204,10 +208,39 @@ fn counted(rt: &impl Abort, alloc: Global, world: &World, link: u8) -> String {
     text.expect(rt, "memory")
 }
 
-// How many exchanges are planned, as text.
-fn planned(rt: &impl Abort, alloc: Global, world: &World) -> String {
-    let planned = world.planned().expect(rt, "memory");
-    format!(in alloc; "planned {planned}\n").expect(rt, "memory")
+// Logs a number.
+fn say_count(rt: &impl Abort, alloc: Global, log: &mut String, of: &str, count: u64) {
+    let text = format!(in alloc; "{of} {count}\n").expect(rt, "memory");
+    log.push_str(text.as_str()).expect(rt, "memory");
+}
+
+// Whether a line of a trace is that of a control frame that a device takes in.
+fn is_control_in(line: &str) -> bool {
+    let bytes = line.split(' ').last().unwrap_or("");
+    line.starts_with("in ") && bytes.starts_with("0180c200000e")
+}
+
+// How many lines of a trace are such.
+fn control_in(trace: &str) -> u64 {
+    let mut count = 0u64;
+    for line in trace.lines() {
+        if is_control_in(line) {
+            count = count.saturating_add(1);
+        }
+    }
+    count
+}
+
+// How many lines of the trace are such.
+fn heard(rt: &impl Abort, alloc: Global, world: &World) -> u64 {
+    let mut trace = String::new(alloc);
+    traced(rt, alloc, world, &mut trace);
+    control_in(trace.as_str())
+}
+
+// How many exchanges are planned.
+fn planned(rt: &impl Abort, world: &World) -> u64 {
+    world.planned().expect(rt, "memory")
 }
 
 // Logs what was told and what has left, and forgets it.
@@ -244,7 +277,8 @@ fn tells(
         "tell" => tell(rt, alloc, world, log),
         "trace" => traced(rt, alloc, world, log),
         "skip" => world.clear(),
-        "planned" => say(rt, log, planned(rt, alloc, world).as_str()),
+        "planned" => say_count(rt, alloc, log, verb, planned(rt, world)),
+        "heard" => say_count(rt, alloc, log, verb, heard(rt, alloc, world)),
         "counts" => say(
             rt,
             log,
@@ -266,22 +300,19 @@ fn give_next(rt: &impl Abort, world: &mut World, commands: &[Timed], progress: &
     progress.given = progress.given.saturating_add(1);
 }
 
-// The record that arrives in a second.
-fn arrival(
+// A record arrives.
+fn arrive_next(
     rt: &impl Abort,
     alloc: Global,
+    world: &mut World,
     seconds: u64,
     words: &mut SplitWhitespace<'_>,
-) -> Arrival {
+) {
     let port = port(rt, words.next());
     let index = number(rt, words.next());
     let bytes = bytes_of(rt, alloc, words.next().expect(rt, "bytes"));
-    Arrival {
-        port,
-        index,
-        moment: seconds.saturating_mul(1_000_000_000),
-        bytes: Bytes::from_slice(alloc, bytes.as_slice()).expect(rt, "memory"),
-    }
+    let moment = seconds.saturating_mul(1_000_000_000);
+    arrive(rt, world, port, index, moment, bytes.as_slice());
 }
 
 // Lets seconds pass.
@@ -289,6 +320,12 @@ fn pass(rt: &impl Abort, world: &mut World, progress: &mut Progress, word: Optio
     let seconds = number(rt, word);
     progress.seconds = progress.seconds.saturating_add(seconds);
     tick(rt, world, u32::try_from(seconds).expect(rt, "seconds"));
+}
+
+// Arms the fate.
+fn arm_with(rt: &impl Abort, world: &mut World, progress: &mut Progress, plan: &[Verdict]) {
+    progress.armed = progress.armed.saturating_add(plan.len() as u64);
+    arm(rt, world, plan);
 }
 
 // Lets what comes from outside come, if a step is that.
@@ -304,7 +341,37 @@ fn comes(
     match verb {
         "give" => give_next(rt, world, commands, progress),
         "tick" => pass(rt, world, progress, words.next()),
-        "arrive" => arrive(rt, world, &arrival(rt, alloc, progress.seconds, words)),
+        "arrive" => arrive_next(rt, alloc, world, progress.seconds, words),
+        _ => return false,
+    }
+    true
+}
+
+// Arms the fate, or tells what was asked of it, if a step does.
+fn fates(
+    rt: &impl Abort,
+    alloc: Global,
+    world: &mut World,
+    progress: &mut Progress,
+    verb: &str,
+    words: &mut SplitWhitespace<'_>,
+) -> bool {
+    match verb {
+        "arm" => {
+            let letter = words.next().expect(rt, "a letter");
+            let plan = same(rt, alloc, letter, number(rt, words.next()));
+            arm_with(rt, world, progress, plan.as_slice());
+        }
+        "draw" => {
+            let seed = number(rt, words.next());
+            let plan = drawn(rt, alloc, seed, number(rt, words.next()));
+            arm_with(rt, world, progress, plan.as_slice());
+        }
+        "asked" => {
+            let asked = asked(world, progress.armed);
+            say_count(rt, alloc, &mut progress.log, verb, asked);
+        }
+        "spent" => expect_spent(rt, world, progress.armed),
         _ => return false,
     }
     true
@@ -359,6 +426,7 @@ fn make(
     let verb = words.next().expect(rt, "a step");
     let is_made = moves(rt, alloc, world, verb)
         || comes(rt, alloc, world, commands, progress, verb, &mut words)
+        || fates(rt, alloc, world, progress, verb, &mut words)
         || tells(rt, alloc, world, &mut progress.log, verb, &mut words);
     if !is_made {
         moves_word(rt, world, verb, &mut words);
@@ -376,6 +444,7 @@ fn log_of(
     let mut progress = Progress {
         given: 0,
         seconds: 0,
+        armed: 0,
         log: String::new(alloc),
     };
     for step in steps.split(';') {
@@ -384,19 +453,20 @@ fn log_of(
     progress.log
 }
 
-/// A topology, steps, and what must be told.
-pub(crate) type Case = (&'static str, &'static str, &'static str);
-
 // What the steps over a topology tell. A world is let go by `drop`, since all that goes with it is proved where it ends with a block.
 fn log_over(rt: &impl Abort, alloc: Global, topology: &Topology, steps: &str) -> String {
-    let mut world = begun(rt, alloc, topology, scripted(rt, alloc), true);
+    let (steps, trace) = match steps.strip_prefix("bare; ") {
+        Some(steps) => (steps, false),
+        None => (steps, true),
+    };
+    let mut world = begun(rt, alloc, topology, scripted(rt, alloc), trace);
     let log = log_of(rt, alloc, &mut world, topology.commands.as_slice(), steps);
     drop(world);
     log
 }
 
-// What the steps over the topology of a text tell.
-fn log_over_text(rt: &impl Abort, alloc: Global, topology: &str, steps: &str) -> String {
+/// What the steps over the topology of a text tell.
+pub(crate) fn log_over_text(rt: &impl Abort, alloc: Global, topology: &str, steps: &str) -> String {
     let topology = read(alloc, topology.as_bytes()).expect(rt, "a topology");
     let log = log_over(rt, alloc, &topology, steps);
     drop(topology);
@@ -404,14 +474,16 @@ fn log_over_text(rt: &impl Abort, alloc: Global, topology: &str, steps: &str) ->
 }
 
 // Asserts that a case tells what it must.
-fn expect_case(rt: &impl Abort, alloc: Global, topology: &str, steps: &str, wanted: &str) {
+fn expect_case(rt: &impl Abort, alloc: Global, case: &str) {
+    let (topology, rest) = case.split_once('>').expect(rt, "steps");
+    let (steps, wanted) = rest.split_once('\n').expect(rt, "what is told");
     let log = log_over_text(rt, alloc, topology, steps);
     assert!(rt; log.as_str() == wanted, "{log}of {steps}");
 }
 
-/// Asserts that each case tells what it must.
-pub(crate) fn judge(rt: &impl Abort, alloc: Global, cases: &[Case]) {
-    for (topology, steps, wanted) in cases {
-        expect_case(rt, alloc, topology, steps, wanted);
+/// Asserts that each case tells what it must: a topology, behind `>` a line of steps, and what is told. `%` stands between two.
+pub(crate) fn judge(rt: &impl Abort, alloc: Global, cases: &str) {
+    for case in cases.split('%') {
+        expect_case(rt, alloc, case);
     }
 }

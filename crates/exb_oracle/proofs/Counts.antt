@@ -1,7 +1,7 @@
 -- What is counted over a history.
-use Rattle.std.proofs.Common.{◌≡◌, ℕ, ◌+◌, ◌<◌, ◌≤◌, Bool, cond, List, [], ◌∷◌, length, count_by, refl, sym, ap, subst, ◌∙◌, arith, length-append}
-use Rattle.std.specs.Prelude.{sum_by, ◌^◌}
-use Rattle.std.proofs.lemmas.List.Sums.{sum_by-cons, count_by-le-length}
+use Rattle.std.proofs.Common.{◌≡◌, ℕ, ◌+◌, Bool, cond, List, [], ◌∷◌, length, count_by, refl, sym, ap, ◌∙◌, arith, length-append}
+use Rattle.std.specs.Prelude.{sum_by}
+use Rattle.std.proofs.lemmas.List.Sums.{sum_by-cons}
 use Rattle.exb_model.specs.declared.event.Event.{Event}
 use Rattle.exb_model.specs.declared.event.Event.TheVariants as event
 use Rattle.exb_model.specs.Tree.{Shape, external_ports}
@@ -9,8 +9,7 @@ use Rattle.exb_model.specs.History.{Basis, History, bridge_after}
 use Rattle.exb_model.specs.Learning.{learned}
 use Rattle.exb_model.specs.FlatBridge.{flat, sent_by}
 use Rattle.exb_model.specs.Texts.{Counts, counts, counted, left_by, with_left}
-use Rattle.exb_text.specs.Tallies.{FitsTally}
-use Rattle.exb_flat_run.specs.Counting.{counted_all, nothing_yet, all_left, is_relay, is_ignored, is_commit, is_refusal}
+use Rattle.exb_oracle.specs.Counting.{counted_all, nothing_yet, all_left, is_relay, is_ignored, is_commit, is_refusal}
 
 -- the counts as numbers of events
 abbrev by_sort : History → Counts
@@ -126,36 +125,3 @@ counts-sorted t b h =
   where
     none-before : 0 + all_left t b h ≡ all_left t b h
     none-before = omega arith
-
--- ---- no count passes the number of events
-pub fits_counted : (h : History) (n : ℕ) → length h ≤ n → n < 2 ^ 64 → FitsTally (counted_all h)
-fits_counted h n few small =
-    subst FitsTally (sym (sorted-all h)) (record {
-      relayed = omega (arith, count_by-le-length is_relay h);
-      ignored = omega (arith, count_by-le-length is_ignored h);
-      left = omega arith;
-      commits = omega (arith, count_by-le-length is_commit h);
-      refusals = omega (arith, count_by-le-length is_refusal h);
-    })
-
-both-few : (h : History) → count_by is_relay h + count_by is_ignored h ≤ length h
-both-few [] = omega arith
-both-few (e ∷ h) =
-    let a = count-cons is_relay e h in let b = count-cons is_ignored e h in let rest = both-few h in
-    let one : cond (is_relay e) 1 0 + cond (is_ignored e) 1 0 ≤ 1 = by_event e in omega (arith, a, b, rest, one)
-  where
-    by_event : (e : Event) → cond (is_relay e) 1 0 + cond (is_ignored e) 1 0 ≤ 1
-    by_event (event.Relay p n t b) = omega arith
-    by_event (event.Ignored p n) = omega arith
-    by_event (event.Tick s) = omega arith
-    by_event (event.Commit n) = omega arith
-    by_event (event.Refuse n x) = omega arith
-    by_event (event.Up p) = omega arith
-    by_event (event.NoUp p x) = omega arith
-    by_event event.Settled = omega arith
-
-pub none-left : (h : History) → (counted_all h).left ≡ 0
-none-left h = ap (λ c. c.left) (sorted-all h)
-
-pub few-arrivals : (h : History) → (counted_all h).relayed + (counted_all h).ignored ≤ length h
-few-arrivals h = let r = ap (λ c. c.relayed) (sorted-all h) in let i = ap (λ c. c.ignored) (sorted-all h) in let few = both-few h in omega (arith, r, i, few)

@@ -1,5 +1,5 @@
-use Rattle.exb_flat_run.proofs.Counts.{counts-apart, counts-sorted}
-use Rattle.exb_flat_run.proofs.laws.counts_are_counted.Goals as goal
+use Rattle.exb_oracle.proofs.Counts.{counts-apart, counts-sorted}
+use Rattle.exb_oracle.proofs.history_laws.counts_are_counted.Goals as goal
 
 pub returns-clause-all : goal.returns-clause-all
 returns-clause-all c = counts-sorted
