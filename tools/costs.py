@@ -6,8 +6,8 @@
     tools/costs.py FILE [CRATE]     what was watched: the seconds of each crate, or of the functions of one
 
 What a check keeps is written when it is checked, so the time between two files is that of the second. It holds only for a
-check from nothing at one job; beside other work the seconds are longer. `rt ci` keeps nothing in a crate, so --watch looks at the
-files of checks that run, every two seconds, and tells processor seconds.
+check from nothing at one job; beside other work the seconds are longer. --watch looks every two seconds at the files of checks that
+run, those of `rt ci`, which keeps nothing in a crate, and those of `rt check` and `rt lib`, and tells processor seconds.
 """
 import collections
 import glob
@@ -59,12 +59,37 @@ def processor(number):
     return (int(parts[11]) + int(parts[12])) / os.sysconf("SC_CLK_TCK")
 
 
-def look(folder, seen, out):
+def with_ended(number):
+    """The processor seconds of a process and of the copies of it that have ended."""
+    with open(f"/proc/{number}/stat", encoding="utf-8") as it:
+        parts = it.read().rpartition(")")[2].split()
+    return sum(map(int, parts[11:15])) / os.sysconf("SC_CLK_TCK")
+
+
+def keeping():
+    """The folders in which checks that run keep their work, each with the numbers of its processes."""
+    found = collections.defaultdict(list)
+    for file in glob.glob("/proc/[0-9]*/cmdline"):
+        try:
+            with open(file, encoding="utf-8", errors="replace") as it:
+                words = it.read().split("\0")
+            if os.path.basename(words[0]) == "rattle" and "--incremental" in words:
+                kept = os.path.join(os.readlink(f"{os.path.dirname(file)}/cwd"), words[words.index("--incremental") + 1])
+                found[kept].append(int(file.split("/")[2]))
+        except OSError:
+            # the process has ended
+            pass
+    return [(folder, numbers) for kept, numbers in found.items() for folder in glob.glob(f"{kept}/antt-checked-*")]
+
+
+def look(folder, number, spent, seen, out):
     """Writes what a check has written since the last look: its number, the processor seconds until then, and the file. Files of one look
     share its seconds by the times at which they were written."""
-    number = folder.split("-")[-2]
-    now, spent = time.time(), processor(number)
-    new = sorted((it.stat().st_mtime, it.name) for it in os.scandir(folder) if it.name not in seen.setdefault(folder, {}))
+    now = time.time()
+    if folder not in seen:
+        # what an earlier check has kept
+        seen[folder] = {it.name: 0 for it in os.scandir(folder) if it.stat().st_mtime < now - 2 * PAUSE}
+    new = sorted((it.stat().st_mtime, it.name) for it in os.scandir(folder) if it.name not in seen[folder])
     then, before = seen.get(number, (now - PAUSE, spent))
     for at, name in new:
         seen[folder][name] = at
@@ -78,9 +103,11 @@ def watch(file):
     with open(file, "a", encoding="utf-8") as out:
         try:
             while True:
-                for folder in glob.glob(RUNNING):
+                found = [(folder, [folder.split("-")[-2]], processor) for folder in glob.glob(RUNNING)]
+                found += [(folder, numbers, with_ended) for folder, numbers in keeping()]
+                for folder, numbers, spent_by in found:
                     try:
-                        look(folder, seen, out)
+                        look(folder, str(min(map(int, numbers))), sum(map(spent_by, numbers)), seen, out)
                     except OSError:
                         # the check has ended
                         pass

@@ -12,7 +12,7 @@ use exb_topology::{Named, Topology};
 use std::alloc::Global;
 
 /// What is said of a bridge of a net beside its setup. Its outputs have a prefix of the net's, so that of its topology is gone.
-#[derive(Debug, Drop)]
+#[derive(Drop)]
 pub struct NetRest {
     pub name: Text,
     /// The commands, by the second at which they come.
@@ -24,7 +24,7 @@ pub struct NetRest {
 }
 
 /// The setups and wires of a net, and what else is said of each bridge, in the order of the file.
-#[derive(Debug, Drop)]
+#[derive(Drop)]
 pub struct NetParts {
     pub setup: NetSetup,
     pub rests: List<NetRest>,

@@ -22,7 +22,7 @@ use toml::Table;
 const MOST_BYTES: usize = 1_048_576;
 
 /// What the file of a net says, elements in its order.
-#[derive(Debug, Drop)]
+#[derive(Drop)]
 pub struct NetFile {
     pub bridges: List<NetBridge>,
     pub wires: List<NetWire>,

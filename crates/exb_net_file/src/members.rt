@@ -26,7 +26,7 @@ use std::alloc::Global;
 const MOST_PORTS: usize = 4160;
 
 /// A bridge of a net: its name, and what its topology file says.
-#[derive(Debug, Drop)]
+#[derive(Drop)]
 pub struct NetMember {
     pub name: Text,
     pub topology: Topology,

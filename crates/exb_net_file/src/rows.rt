@@ -19,7 +19,7 @@ use std::alloc::Global;
 use toml::{Table, Value};
 
 /// An element of the list `bridge`.
-#[derive(Debug, Drop)]
+#[derive(Drop)]
 pub struct NetBridge {
     /// 1 to 32 letters a to z or digits.
     pub name: Text,
@@ -28,7 +28,7 @@ pub struct NetBridge {
 }
 
 /// An element of the list `wire`.
-#[derive(Debug, Drop)]
+#[derive(Drop)]
 pub struct NetWire {
     pub a: EndName,
     pub b: EndName,

@@ -11,7 +11,7 @@ use std::alloc::Global;
 use toml::Table;
 
 /// A table of the file by the keys that it defines.
-#[derive(Clone, Copy, Debug, PartialEq, Eq)]
+#[derive(Clone, Copy)]
 pub enum Schema {
     /// The whole file, whose keys are its tables.
     Root,

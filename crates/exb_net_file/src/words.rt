@@ -10,7 +10,7 @@ use exb_model::text::Text;
 use std::alloc::Global;
 
 /// An end of a wire as the file names it, `NAME:PORT`.
-#[derive(Debug, Drop)]
+#[derive(Drop)]
 pub struct EndName {
     /// The name of a bridge, 1 to 32 letters a to z or digits.
     pub bridge: Text,

@@ -28,7 +28,7 @@ use std::alloc::Global;
 const LIMIT: usize = 1_048_576;
 
 /// What a net is given: its bridges, each with its topology, and its wires.
-#[derive(Debug, Drop)]
+#[derive(Drop)]
 pub struct NetInputs {
     pub members: List<NetMember>,
     pub wires: List<Wire>,

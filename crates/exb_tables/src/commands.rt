@@ -7,7 +7,7 @@ ghost use Rattle.exb_keys.specs.Keys.{each, key_at};
 ghost use Rattle.exb_tables.specs.Schemas.{has_op_key};
 ghost use Rattle.exb_tables.specs.Commands.{op_in, action, command, command_item, after_command, commands};
 
-use crate::schema::{Schema, only};
+use crate::schema::{Schema, is_of_three, is_of_two, only};
 use exb_keys::faults::{KeyFault, TopoFault};
 use exb_keys::keys;
 use exb_keys::place::{Place, fault_at};
@@ -23,7 +23,7 @@ use std::alloc::Global;
 use toml::{Table, Value};
 
 /// The operation of a command.
-#[derive(Clone, Copy, Debug, PartialEq, Eq)]
+#[derive(Clone, Copy)]
 pub enum Op {
     Vlan,
     Member,
@@ -44,23 +44,21 @@ impl Op {
         ensures { result ≡ has_op_key self key.now }
     {
         match self {
-            Op::Vlan => matches!(key, "vid" | "tagged" | "untagged"),
-            Op::Member => matches!(key, "vid" | "port" | "kind"),
-            Op::Unmember => matches!(key, "vid" | "port"),
-            Op::Pvid => matches!(key, "vid" | "port"),
-            Op::Accept => matches!(key, "port" | "accept"),
-            Op::Filter => matches!(key, "port" | "filter"),
-            Op::Isolate => matches!(key, "port" | "isolated"),
-            Op::Static => matches!(key, "vid" | "mac" | "ports"),
-            Op::Unstatic => matches!(key, "vid" | "mac"),
-            Op::Up => matches!(key, "port"),
-            Op::Down => matches!(key, "port"),
+            Op::Vlan => is_of_three(key, "vid", "tagged", "untagged"),
+            Op::Member => is_of_three(key, "vid", "port", "kind"),
+            Op::Unmember | Op::Pvid => is_of_two(key, "vid", "port"),
+            Op::Accept => is_of_two(key, "port", "accept"),
+            Op::Filter => is_of_two(key, "port", "filter"),
+            Op::Isolate => is_of_two(key, "port", "isolated"),
+            Op::Static => is_of_three(key, "vid", "mac", "ports"),
+            Op::Unstatic => is_of_two(key, "vid", "mac"),
+            Op::Up | Op::Down => key == "port",
         }
     }
 }
 
 /// What a command does, with lists of ports as they were written.
-#[derive(Debug, Drop)]
+#[derive(Drop)]
 pub enum Action {
     Vlan {
         vid: Vid,
@@ -110,7 +108,7 @@ pub enum Action {
 }
 
 /// An element of the list `command`: `at` in seconds, and what becomes of the control frames that follow.
-#[derive(Debug, Drop)]
+#[derive(Drop)]
 pub struct CommandTable {
     pub at: u32,
     pub action: Action,

@@ -26,7 +26,7 @@ use std::alloc::Global;
 use toml::{Table, Value};
 
 /// The table `bridge`.
-#[derive(Debug, Drop)]
+#[derive(Drop)]
 pub struct BridgeTable {
     /// Local ports, 1 to 64.
     pub ports: u8,
@@ -41,7 +41,7 @@ pub struct BridgeTable {
 }
 
 /// An element of the list `port`.
-#[derive(Clone, Copy, Debug, PartialEq, Eq)]
+#[derive(Clone, Copy)]
 pub struct PortTable {
     pub name: PortId,
     pub pvid: Vid,
@@ -51,7 +51,7 @@ pub struct PortTable {
 }
 
 /// An element of the list `vlan`: it stands for each VLAN from `vid` to `last`.
-#[derive(Debug, Drop)]
+#[derive(Drop)]
 pub struct VlanTable {
     pub vid: Vid,
     pub last: Vid,
@@ -60,7 +60,7 @@ pub struct VlanTable {
 }
 
 /// An element of the list `static`.
-#[derive(Debug, Drop)]
+#[derive(Drop)]
 pub struct StaticTable {
     pub vid: Vid,
     pub address: Mac,
@@ -68,7 +68,7 @@ pub struct StaticTable {
 }
 
 /// The capture that is read for a port, by the name of its file.
-#[derive(Debug, Drop)]
+#[derive(Drop)]
 pub struct Named {
     pub port: PortId,
     pub name: Text,

@@ -1,8 +1,8 @@
 //! Which keys a table defines.
-ghost use Rattle.std.specs.Prelude.{◌≡◌, option_map};
+ghost use Rattle.std.specs.Prelude.{◌≡◌, [], ◌∷◌, option_map};
 ghost use Rattle.toml.specs.View.{table_view};
 ghost use Rattle.exb_keys.specs.Faults.{Gives, place_text};
-ghost use Rattle.exb_keys.specs.Keys.{unknown, only};
+ghost use Rattle.exb_keys.specs.Keys.{is_among, unknown, only};
 ghost use Rattle.exb_tables.specs.Schemas.{has_key};
 
 use crate::commands::Op;
@@ -12,7 +12,7 @@ use std::alloc::Global;
 use toml::Table;
 
 /// A table by the keys that it defines.
-#[derive(Clone, Copy, Debug, PartialEq, Eq)]
+#[derive(Clone, Copy)]
 pub enum Schema {
     /// The whole file, whose keys are its tables.
     Root,
@@ -24,6 +24,20 @@ pub enum Schema {
     Static,
     /// A command with that operation.
     Command { op: Op },
+}
+
+/// Whether it is one of two names.
+pub(crate) fn is_of_two(key: &str, a: &str, b: &str) -> bool
+    ensures { result ≡ is_among (a.now ∷ b.now ∷ []) key.now }
+{
+    key == a || key == b
+}
+
+/// Whether it is one of three names.
+pub(crate) fn is_of_three(key: &str, a: &str, b: &str, c: &str) -> bool
+    ensures { result ≡ is_among (a.now ∷ b.now ∷ c.now ∷ []) key.now }
+{
+    key == a || key == b || key == c
 }
 
 impl Schema {

@@ -20,7 +20,7 @@ use toml::Table;
 const MOST_BYTES: usize = 16_777_216;
 
 /// The tables of a topology file, elements in the order of the file.
-#[derive(Debug, Drop)]
+#[derive(Drop)]
 pub struct Tables {
     pub bridge: BridgeTable,
     /// The key `fate` of the table `links`.

@@ -20,7 +20,7 @@ use exb_tables::{Named, Tables, tables_of};
 use std::alloc::Global;
 
 /// What a topology file says.
-#[derive(Debug, Drop)]
+#[derive(Drop)]
 pub struct Topology {
     /// The bridge, its extenders, and what is set before anything happens.
     pub setup: Setup,
