@@ -6,11 +6,12 @@ use Rattle.std.proofs.lemmas.List.{take-append-le, take-take, drop-take}
 use Rattle.exb_capture.specs.declared.fault.Fault.{Fault}
 use Rattle.exb_capture.specs.declared.fault.Flaw.TheVariants.{Cut}
 use Rattle.exb_capture.specs.declared.order.ByteOrder.{ByteOrder}
-use Rattle.exb_capture.specs.declared.interface.Interface.{Interface}
+use Rattle.exb_capture.specs.declared.block.Interface.{Interface}
 use Rattle.exb_capture.specs.Within.{section_of}
 use Rattle.exb_capture.specs.declared.block.Head.{Head}
 use Rattle.exb_capture.specs.declared.block.Content.{Content}
 use Rattle.exb_capture.specs.declared.block.Content.TheVariants.{Skipped, NewSection, NewInterface, Packet}
+use Rattle.exb_capture.specs.declared.format.Seen.{Seen}
 use Rattle.exb_capture.specs.Formats.{Front, Nothing, Short, Over, Holds, fault}
 use Rattle.exb_capture.specs.Pieces.{IsFormat}
 use Rattle.exb_capture.proofs.FormatLemmas.{IsDecided, longer, IsMeasured, LiesWithin, format_by, not_empty}
@@ -68,7 +69,7 @@ shown_measured : (s : Sections) (head : Head) (b : List ℕ) (x : Result Content
 shown_measured s head b (Ok Skipped) h long lies some fits = some
 shown_measured s head b (Ok NewSection) h long lies some fits = some
 shown_measured s head b (Ok (NewInterface i)) h long lies some fits = some
-shown_measured s head b (Ok (Packet moment from n)) h long lies some fits = (long, fits)
+shown_measured s head b (Ok (Packet x)) h long lies some fits = (long, fits)
 shown_measured s head b (Err f) h long lies some fits = omega (arith, lies, fits)
 
 headed_measured : (s : Sections) (x : Result Head Fault) (h : List ℕ) → ((head : Head) → x ≡ Ok head → IsSized head) → 12 ≤ length h → LiesWithin 12 x → IsMeasured most_held h (headed_front s x h)
@@ -111,13 +112,13 @@ part_of held from n size fits =
     sym (take-take n (size - from) (drop from held) (omega arith))
     ∙ ap (take n) (sym (drop-take from (size - from) held) ∙ ap (λ k. drop from (take k held)) whole)
 
-pub packet_front : (order : Option ByteOrder) (interfaces : List Interface) (last : ℕ) (head : Head) (held : List ℕ) (moment from n : ℕ) → (order ≡ None → interfaces ≡ [])
-    → head.size ≤ length held → from + n ≤ head.size
-    → Ok (Packet moment from n) ≡ block_at head interfaces last (take head.size held)
-    → Holds (record { time = moment; bytes = take n (drop from held) }) head.size (record { section = section_of order interfaces; last = moment })
+pub packet_front : (order : Option ByteOrder) (interfaces : List Interface) (last : ℕ) (head : Head) (held : List ℕ) (x : Seen) → (order ≡ None → interfaces ≡ [])
+    → head.size ≤ length held → x.from + x.bytes ≤ head.size
+    → Ok (Packet x) ≡ block_at head interfaces last (take head.size held)
+    → Holds (record { time = x.moment; bytes = take x.bytes (drop x.from held) }) head.size (record { section = section_of order interfaces; last = x.moment })
     ≡ whole_front (record { section = section_of order interfaces; last = last }) head held
-packet_front order interfaces last head held moment from n none there fits e =
+packet_front order interfaces last head held x none there fits e =
     let s : Sections = record { section = section_of order interfaces; last = last } in
-    ap (λ bytes. Holds (record { time = moment; bytes = bytes }) head.size (record { section = section_of order interfaces; last = moment })) (part_of held from n head.size fits)
+    ap (λ bytes. Holds (record { time = x.moment; bytes = bytes }) head.size (record { section = section_of order interfaces; last = x.moment })) (part_of held x.from x.bytes head.size fits)
     ∙ ap (shown s head (take head.size held)) (e ∙ ap (λ xs. block_at head xs last (take head.size held)) (interfaces_is order interfaces none))
     ∙ ap (λ b. cond b (Short (fault Cut 0)) (block s head held)) (sym (le-ltb (length held) head.size there))

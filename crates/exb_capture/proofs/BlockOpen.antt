@@ -7,7 +7,7 @@ use Rattle.exb_capture.specs.declared.fault.Fault.{Fault}
 use Rattle.exb_capture.specs.declared.fault.Flaw.TheVariants.{Version, LinkType, Cut, Length, Time, Magic, TooMany, Resolution, Interface as NoInterface}
 use Rattle.exb_capture.specs.declared.order.ByteOrder.{ByteOrder}
 use Rattle.exb_capture.specs.declared.order.ByteOrder.TheVariants.{Big, Little}
-use Rattle.exb_capture.specs.declared.interface.Interface.{Interface}
+use Rattle.exb_capture.specs.declared.block.Interface.{Interface}
 use Rattle.exb_capture.specs.declared.block.Kind.{Kind}
 use Rattle.exb_capture.specs.declared.block.Kind.TheVariants.{SectionHeader, InterfaceBlock, EnhancedPacket, SimplePacket, Other}
 use Rattle.exb_capture.specs.declared.block.Head.{Head}
@@ -117,7 +117,7 @@ enhanced_whole head interfaces block =
     numbered = interface_number interfaces (word head.order block 8) (fault NoInterface 8)
 
     made : Interface → Result Content Fault
-    made interface = Ok (Packet (nanoseconds interface.digits (units_at head.order block)) 28 (word head.order block 20))
+    made interface = Ok (Packet (record { moment = nanoseconds interface.digits (units_at head.order block); from = 28; bytes = word head.order block 20 }))
 
     fitted : Interface → Result Content Fault
     fitted interface = refuse (is_no_frame head.size 32 (word head.order block 20)) (fault Length 20) >>= (λ fits. made interface)
@@ -140,7 +140,7 @@ simple_whole head interfaces last block =
     numbered = interface_number interfaces 0 (fault NoInterface 0)
 
     made : Interface → Result Content Fault
-    made interface = Ok (Packet last 12 (snapped interface.snap (word head.order block 8)))
+    made interface = Ok (Packet (record { moment = last; from = 12; bytes = snapped interface.snap (word head.order block 8) }))
 
     fitted : Interface → Result Content Fault
     fitted interface = refuse (is_no_frame head.size 16 (snapped interface.snap (word head.order block 8))) (fault Length 8) >>= (λ fits. made interface)
@@ -173,7 +173,7 @@ shown_other : (s : Sections) (head : Head) (b : List ℕ) (x : Result Content Fa
 shown_other s head b (Ok Skipped) n h e = (e, refl)
 shown_other s head b (Ok NewSection) n h e = (e, refl)
 shown_other s head b (Ok (NewInterface i)) n h e = (e, refl)
-shown_other s head b (Ok (Packet moment from bytes)) n h e = (e, refl)
+shown_other s head b (Ok (Packet x)) n h e = (e, refl)
 shown_other s head b (Err f) n h e = h
 
 -- a block of which all bytes are there, and no more
@@ -238,7 +238,7 @@ headed_undecided s h (Ok head) f long e = by_kind (is_read head.kind)
     no_short (Ok Skipped) is = cc
     no_short (Ok NewSection) is = cc
     no_short (Ok (NewInterface i)) is = cc
-    no_short (Ok (Packet moment from bytes)) is = cc
+    no_short (Ok (Packet x)) is = cc
     no_short (Err g) is = cc
 
     by_size : (t : Bool) → nat_lt (length h) head.size ≡ t → cond t (Short (fault Cut 0)) whole ≡ Short f → IsUndecided block_front s h f.flaw

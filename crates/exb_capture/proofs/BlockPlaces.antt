@@ -6,7 +6,7 @@ use Rattle.exb_capture.specs.declared.fault.Fault.{Fault}
 use Rattle.exb_capture.specs.declared.fault.Flaw.TheVariants.{Version, LinkType, Length, Time, Magic, TooMany, Resolution, Interface as NoInterface}
 use Rattle.exb_capture.specs.declared.order.ByteOrder.{ByteOrder}
 use Rattle.exb_capture.specs.declared.order.ByteOrder.TheVariants.{Big, Little}
-use Rattle.exb_capture.specs.declared.interface.Interface.{Interface}
+use Rattle.exb_capture.specs.declared.block.Interface.{Interface}
 use Rattle.exb_capture.specs.declared.block.Kind.{Kind}
 use Rattle.exb_capture.specs.declared.block.Kind.TheVariants.{SectionHeader, InterfaceBlock, EnhancedPacket, SimplePacket, Other}
 use Rattle.exb_capture.specs.declared.block.Head.{Head}
@@ -122,7 +122,7 @@ enhanced_within head interfaces block some =
     numbered = interface_number interfaces (word head.order block 8) (fault NoInterface 8)
 
     made : Interface → Result Content Fault
-    made interface = Ok (Packet (nanoseconds interface.digits (units_at head.order block)) 28 (word head.order block 20))
+    made interface = Ok (Packet (record { moment = nanoseconds interface.digits (units_at head.order block); from = 28; bytes = word head.order block 20 }))
 
     fitted : Interface → Result Content Fault
     fitted interface = refuse (is_no_frame head.size 32 (word head.order block 20)) (fault Length 20) >>= (λ fits. made interface)
@@ -145,7 +145,7 @@ simple_within head interfaces last block some =
     numbered = interface_number interfaces 0 (fault NoInterface 0)
 
     made : Interface → Result Content Fault
-    made interface = Ok (Packet last 12 (snapped interface.snap (word head.order block 8)))
+    made interface = Ok (Packet (record { moment = last; from = 12; bytes = snapped interface.snap (word head.order block 8) }))
 
     fitted : Interface → Result Content Fault
     fitted interface = refuse (is_no_frame head.size 16 (snapped interface.snap (word head.order block 8))) (fault Length 8) >>= (λ fits. made interface)

@@ -9,7 +9,7 @@ use Rattle.exb_capture.specs.declared.block.Kind.{Kind}
 use Rattle.exb_capture.specs.declared.block.Head.{Head}
 use Rattle.exb_capture.specs.Formats.{fault}
 use Rattle.exb_capture.specs.Fields.{◌>>=◌, refuse, word}
-use Rattle.exb_capture.specs.declared.interface.Interface.{Interface}
+use Rattle.exb_capture.specs.declared.block.Interface.{Interface}
 use Rattle.exb_capture.specs.declared.block.Kind.TheVariants.{SectionHeader, InterfaceBlock, EnhancedPacket, SimplePacket, Other}
 use Rattle.exb_capture.specs.declared.block.Content.{Content}
 use Rattle.exb_capture.specs.declared.block.Content.TheVariants.{Skipped, NewSection, NewInterface, Packet}
@@ -58,14 +58,14 @@ abbrev pub IsLong : ℕ → Result Content Fault → Type 0
 IsLong size (Ok Skipped) = Unit {0}
 IsLong size (Ok NewSection) = Unit {0}
 IsLong size (Ok (NewInterface i)) = Unit {0}
-IsLong size (Ok (Packet moment from n)) = 16 ≤ size
+IsLong size (Ok (Packet x)) = 16 ≤ size
 IsLong size (Err f) = Unit {0}
 
 long_enough : (size : ℕ) (x : Result Content Fault) → 16 ≤ size → IsLong size x
 long_enough size (Ok Skipped) h = tt
 long_enough size (Ok NewSection) h = tt
 long_enough size (Ok (NewInterface i)) h = tt
-long_enough size (Ok (Packet moment from n)) h = h
+long_enough size (Ok (Packet x)) h = h
 long_enough size (Err f) h = tt
 
 -- what is refused below a size of at least 16

@@ -6,8 +6,8 @@ use Rattle.exb_capture.specs.declared.fault.Flaw.TheVariants.{NotPcap, Cut}
 use Rattle.exb_capture.specs.declared.classic.Form.{Form}
 use Rattle.exb_capture.specs.declared.classic.Reached.{Reached}
 use Rattle.exb_capture.specs.declared.classic.Reached.TheVariants.{Start}
-use Rattle.exb_capture.specs.declared.capture.Capture.{Capture as State}
-use Rattle.exb_capture.specs.declared.capture.Capture.TheVariants.{Unknown, Classic, Blocks}
+use Rattle.exb_capture.specs.declared.format.Capture.{Capture as State}
+use Rattle.exb_capture.specs.declared.format.Capture.TheVariants.{Unknown, Classic, Blocks}
 use Rattle.exb_capture.specs.Fields.{agrees}
 use Rattle.exb_capture.specs.Formats.{Front, Nothing, Short, Bad, Over, Holds, Capture, at_fault, before, fault, behind, at_place, continued, reading_within, reading_from, whole}
 use Rattle.exb_capture.specs.Pieces.{IsFormat}

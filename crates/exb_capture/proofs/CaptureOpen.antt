@@ -5,8 +5,8 @@ use Rattle.std.proofs.lemmas.Bool.{ltb-false, ltb-true, le-ltb, lt-ltb, ne_eqb}
 use Rattle.exb_capture.specs.declared.fault.Fault.{Fault}
 use Rattle.exb_capture.specs.declared.fault.Flaw.TheVariants.{NotPcap, Cut}
 use Rattle.exb_capture.specs.declared.classic.Reached.TheVariants.{Start}
-use Rattle.exb_capture.specs.declared.capture.Capture.{Capture as State}
-use Rattle.exb_capture.specs.declared.capture.Capture.TheVariants.{Unknown, Classic, Blocks}
+use Rattle.exb_capture.specs.declared.format.Capture.{Capture as State}
+use Rattle.exb_capture.specs.declared.format.Capture.TheVariants.{Unknown, Classic, Blocks}
 use Rattle.exb_capture.specs.Fields.{agrees}
 use Rattle.exb_capture.specs.Formats.{Front, Nothing, Short, fault}
 use Rattle.exb_capture.specs.Pieces.{IsOther, IsUndecided, IsNotCut}

@@ -7,8 +7,8 @@ use Rattle.std.proofs.lemmas.List.{append-nil, take-append-drop}
 use Rattle.exb_model.specs.Input.{Record}
 use Rattle.exb_capture.specs.Formats.{Capture, before, at_end, at_fault, whole}
 use Rattle.exb_capture.specs.declared.fault.Fault.{Fault}
-use Rattle.exb_capture.specs.declared.capture.Capture.{Capture as State}
-use Rattle.exb_capture.specs.declared.capture.Capture.TheVariants.{Unknown}
+use Rattle.exb_capture.specs.declared.format.Capture.{Capture as State}
+use Rattle.exb_capture.specs.declared.format.Capture.TheVariants.{Unknown}
 use Rattle.exb_capture.specs.Blocks.{most_held}
 use Rattle.exb_capture.specs.Captures.{capture_front, capture_of, capture_records}
 use Rattle.exb_capture.specs.Pieces.{Reading, Step, Answer, Found, More, End, Faulty, unread, fed, asked, to_come, IsFirst}
@@ -20,7 +20,7 @@ use Rattle.exb_capture.proofs.Placing.{AnswersBy, IsAskedBy, asked_by, fails_on}
 use Rattle.exb_capture.proofs.TurnLemmas.{asked_reads}
 use Rattle.exb_capture.proofs.OpenLaws.{asked_unsettled, asked_left, IsLeft, IsHeld, taken_by}
 use Rattle.exb_capture.specs.declared.file.CaptureFile.{CaptureFile}
-use Rattle.exb_capture.specs.declared.file.Seen.{Seen}
+use Rattle.exb_capture.specs.declared.format.Seen.{Seen}
 use Rattle.exb_capture.specs.declared.file.Halt.TheVariants.{Broken, Large}
 use Rattle.exb_capture.specs.Reading.{IsSound, IsHeldIn, HasRead, IsWhole, HaltsBy, after, coming, next_of, seen_in, with_next, left_to_read}
 

@@ -4,13 +4,13 @@ use Rattle.std.specs.Prelude.{◌⊎◌, IsErrOf}
 use Rattle.std.proofs.lemmas.Bool.{cases_lt}
 use Rattle.exb_model.specs.Input.{Record}
 use Rattle.exb_capture.specs.declared.fault.Fault.{Fault}
-use Rattle.exb_capture.specs.declared.capture.Capture.{Capture as State}
+use Rattle.exb_capture.specs.declared.format.Capture.{Capture as State}
 use Rattle.exb_capture.specs.declared.reader.Ahead.{Ahead}
 use Rattle.exb_capture.specs.declared.reader.Ahead.TheVariants as ahead
 use Rattle.exb_capture.specs.Asked.{seen, IsAheadIn}
 use Rattle.exb_capture.specs.Pieces.{Reading, Found}
 use Rattle.exb_capture.specs.declared.file.CaptureFile.{CaptureFile}
-use Rattle.exb_capture.specs.declared.file.Seen.{Seen}
+use Rattle.exb_capture.specs.declared.format.Seen.{Seen}
 use Rattle.exb_capture.specs.declared.file.Halt.{Halt}
 use Rattle.exb_capture.specs.declared.file.Halt.TheVariants.{Memory, Failed, Broken, Large}
 use Rattle.exb_shelf.specs.Files.{Files, SameFiles, bytes_of}
@@ -48,29 +48,26 @@ module _ (f : CaptureFile) (reader : Reading State) (answer : Result Ahead Fault
       record { records = whole.records; size = whole.size; small = whole.small }
 
   -- ---- a record
-  module _ (moment from n : ℕ) (e : answer ≡ Ok (ahead.Record moment from n)) where
-    abbrev pub seen_of : Seen
-    seen_of = record { moment = moment; from = from; bytes = n }
-
+  module _ (x : Seen) (e : answer ≡ Ok (ahead.Record x)) where
     abbrev pub found : CaptureFile
-    found = with_seen f reader seen_of
+    found = with_seen f reader x
 
-    found_is : (asked_of f).answer ≡ Found (found_in seen_of (asked_of f).left.held)
-    found_is = sym (answered (Ok (ahead.Record moment from n)) e) ∙ ap (λ (r : Reading State). Found (found_in seen_of r.held)) is
+    found_is : (asked_of f).answer ≡ Found (found_in x (asked_of f).left.held)
+    found_is = sym (answered (Ok (ahead.Record x)) e) ∙ ap (λ (r : Reading State). Found (found_in x r.held)) is
 
-    pub found_sound : IsSound f → IsAheadIn reader.held moment from n → IsSound found
+    pub found_sound : IsSound f → IsAheadIn reader.held x.moment x.from x.bytes → IsSound found
     found_sound s ahead =
-        subst (λ (r : Reading State). IsSound (with_seen f r seen_of)) (sym is)
-        (seen_sound f seen_of s found_is (subst (λ (r : Reading State). IsAheadIn r.held moment from n) is ahead))
+        subst (λ (r : Reading State). IsSound (with_seen f r x)) (sym is)
+        (seen_sound f x s found_is (subst (λ (r : Reading State). IsAheadIn r.held x.moment x.from x.bytes) is ahead))
 
     pub found_left : left_to_read found ≤ left_to_read f
-    found_left = subst (λ (r : Reading State). left_to_read (with_seen f r seen_of) ≤ left_to_read f) (sym is) (seen_less f seen_of none found_is)
+    found_left = subst (λ (r : Reading State). left_to_read (with_seen f r x) ≤ left_to_read f) (sym is) (seen_less f x none found_is)
 
     pub found_read : (bytes : List ℕ) (xs : List Record) → HasRead bytes xs f → HasRead bytes xs found
-    found_read bytes xs h = subst (λ (r : Reading State). HasRead bytes xs (with_seen f r seen_of)) (sym is) (seen_read bytes xs f seen_of none found_is h)
+    found_read bytes xs h = subst (λ (r : Reading State). HasRead bytes xs (with_seen f r x)) (sym is) (seen_read bytes xs f x none found_is h)
 
-    pub found_next : ComesNext moment found
-    found_next = (record { time = moment; bytes = take n (drop from reader.held) }, refl, refl)
+    pub found_next : ComesNext x.moment found
+    found_next = (record { time = x.moment; bytes = take x.bytes (drop x.from reader.held) }, refl, refl)
 
   -- ---- where more is needed, the end wasn't told and there is room
   roomy : answer ≡ Ok ahead.More → (f.ended ≡ false) × (0 < (asked_of f).left.room)

@@ -1,9 +1,10 @@
 -- The parts of a turn make the turn.
 use Rattle.std.proofs.Common.{◌≡◌, ◌≤◌, ℕ, Bool, List, length, take, drop, Option, Some, None, refl, ap, sym, ◌∙◌, cond, arith}
 use Rattle.std.proofs.lemmas.Bool.{le-ltb}
+use Rattle.exb_capture.specs.declared.format.Seen.{Seen}
 use Rattle.exb_capture.specs.declared.fault.Fault.{Fault}
 use Rattle.exb_capture.specs.declared.fault.Flaw.TheVariants.{Cut}
-use Rattle.exb_capture.specs.declared.front.Front.{Front}
+use Rattle.exb_capture.specs.declared.format.Front.{Front}
 use Rattle.exb_capture.specs.Formats.{fault}
 use Rattle.exb_capture.specs.Formats.{Front as Stood}
 use Rattle.exb_capture.specs.Blocks.{most_held}
@@ -25,7 +26,7 @@ pub turned_at : {S : Type 0} (stands : S → List ℕ → Stood S) (ended : Bool
     → turn_at most_held ended (told x look.state g.held) g ≡ turn most_held stands ended r
 turned_at {S = S} stands ended r g l s x st is none look =
     let owing = ap (λ (y : Reading S). y.owing) is in
-    ap (λ y. turn_at most_held ended y g) look.value
+    ap (λ y. turn_at most_held ended y g) look.shows.value
     ∙ ap (λ (y : Reading S). turn_at most_held ended (stands s y.held) y) is
     ∙ turn_is stands ended r s st (omega (arith, owing, none))
 
@@ -50,9 +51,9 @@ place_is {S = S} r x e = ap (λ (y : Reading S). y.place) e
 pub held_is : {S : Type 0} (r x : Reading S) → r ≡ x → length r.held ≡ length x.held
 held_is {S = S} r x e = ap (λ (y : Reading S). length y.held) e
 
-pub found_is : {S : Type 0} (moment from n : ℕ) (r x : Reading S) → r ≡ x
-    → Answers (Found (record { time = moment; bytes = take n (drop from r.held) })) r ≡ Answers (Found (record { time = moment; bytes = take n (drop from x.held) })) x
-found_is {S = S} moment from n r x e = ap (λ (y : Reading S). Answers (Found (record { time = moment; bytes = take n (drop from y.held) })) y) e
+pub found_is : {S : Type 0} (s : Seen) (r x : Reading S) → r ≡ x
+    → Answers (Found (record { time = s.moment; bytes = take s.bytes (drop s.from r.held) })) r ≡ Answers (Found (record { time = s.moment; bytes = take s.bytes (drop s.from x.held) })) x
+found_is {S = S} s r x e = ap (λ (y : Reading S). Answers (Found (record { time = s.moment; bytes = take s.bytes (drop s.from y.held) })) y) e
 
 pub answer_is : {S : Type 0} (a b : Step S) → a ≡ b → a.answer ≡ b.answer
 answer_is {S = S} a b e = ap (λ (y : Step S). y.answer) e

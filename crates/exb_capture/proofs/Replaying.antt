@@ -6,7 +6,7 @@ use Rattle.std.proofs.lemmas.List.{take-append-drop, append_cancel_left}
 use Rattle.exb_model.specs.Input.{Record}
 use Rattle.exb_capture.specs.Formats.{Capture, whole}
 use Rattle.exb_capture.specs.declared.fault.Fault.{Fault}
-use Rattle.exb_capture.specs.declared.file.Seen.{Seen}
+use Rattle.exb_capture.specs.declared.format.Seen.{Seen}
 use Rattle.exb_capture.specs.Captures.{capture_front, capture_of, capture_records}
 use Rattle.exb_capture.specs.Pieces.{to_come}
 use Rattle.exb_capture.specs.declared.checking.Scanned.{Scanned}

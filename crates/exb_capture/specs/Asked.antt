@@ -3,9 +3,9 @@ use Rattle.std.specs.Prelude.{◌≡◌, ℕ, ◌+◌, ◌*◌, ◌^◌, ◌<◌
 use Rattle.exb_capture.specs.declared.fault.Fault.{Fault}
 use Rattle.exb_capture.specs.declared.reader.Ahead.{Ahead}
 use Rattle.exb_capture.specs.declared.reader.Ahead.TheVariants as ahead
-use Rattle.exb_capture.specs.declared.front.Front.{Front}
+use Rattle.exb_capture.specs.declared.format.Front.{Front}
 use Rattle.exb_capture.specs.Formats.{Front as Stood}
-use Rattle.exb_capture.specs.Within.{told, Keeps, IsWithin}
+use Rattle.exb_capture.specs.Within.{Shows}
 use Rattle.exb_capture.specs.Pieces.{Stage, At, Failed, Reading, Answer, Found, More, End, Faulty, Turn, Answers, GoesOn}
 
 -- it goes on, or has failed
@@ -15,7 +15,7 @@ stage_of (Some f) s = Failed f
 
 -- an answer, of what is held
 abbrev pub seen : Result Ahead Fault → List ℕ → Answer
-seen (Ok (ahead.Record moment from bytes)) held = Found (record { time = moment; bytes = take bytes (drop from held) })
+seen (Ok (ahead.Record x)) held = Found (record { time = x.moment; bytes = take x.bytes (drop x.from held) })
 seen (Ok ahead.More) held = More
 seen (Ok ahead.End) held = End
 seen (Err f) held = Faulty f
@@ -32,7 +32,7 @@ pub record IsAheadIn (held : List ℕ) (moment from bytes : ℕ) : Type 0 where
   pub short : bytes ≤ 262_144
 
 abbrev pub IsAhead : List ℕ → Ahead → Type 0
-IsAhead held (ahead.Record moment from bytes) = IsAheadIn held moment from bytes
+IsAhead held (ahead.Record x) = IsAheadIn held x.moment x.from x.bytes
 IsAhead held ahead.More = Unit {0}
 IsAhead held ahead.End = Unit {0}
 
@@ -40,9 +40,7 @@ IsAhead held ahead.End = Unit {0}
 pub record Looks {S : Type 0} (stands : S → List ℕ → Stood S) (x : Front) (s : S) (old new : Reading S) : Type 0 where
   pub state : S
   pub is : new ≡ record old { stage = At state }
-  pub value : told x state old.held ≡ stands s old.held
-  pub same : Keeps x (state ≡ s)
-  pub held : IsWithin old.held x
+  pub shows : Shows (stands s old.held) old.held x s state
 
 -- a record that is answered is held
 abbrev pub IsSeen : List ℕ → Option (Result Ahead Fault) → Type 0

@@ -4,7 +4,7 @@ use Rattle.std.specs.Int.{w32, from_be_bytes}
 use Rattle.exb_model.specs.Input.{Record}
 use Rattle.exb_capture.specs.declared.fault.Fault.{Fault}
 use Rattle.exb_capture.specs.declared.fault.Flaw.TheVariants.{Version, LinkType, Cut, Length, Time, Magic, TooMany, Resolution, Interface as NoInterface}
-use Rattle.exb_capture.specs.declared.interface.Interface.{Interface}
+use Rattle.exb_capture.specs.declared.block.Interface.{Interface}
 use Rattle.exb_capture.specs.declared.block.Kind.{Kind}
 use Rattle.exb_capture.specs.declared.block.Kind.TheVariants.{SectionHeader, InterfaceBlock, EnhancedPacket, SimplePacket, Other}
 use Rattle.exb_capture.specs.declared.block.Head.{Head}
@@ -148,7 +148,7 @@ enhanced_at head interfaces block = do
   ethernet ← refuse (not (interface.link == 1)) (fault LinkType 8)
   early ← refuse (nat_le (2 ^ 32 * 10 ^ interface.digits) (units_at head.order block)) (fault Time 12)
   fits ← refuse (is_no_frame head.size 32 (word head.order block 20)) (fault Length 20)
-  Ok (Packet (nanoseconds interface.digits (units_at head.order block)) 28 (word head.order block 20))
+  Ok (Packet (record { moment = nanoseconds interface.digits (units_at head.order block); from = 28; bytes = word head.order block 20 }))
 
 -- a length cut to what is stored of a frame
 abbrev pub snapped : ℕ → ℕ → ℕ
@@ -161,7 +161,7 @@ simple_at head interfaces last block = do
   interface ← interface_number interfaces 0 (fault NoInterface 0)
   ethernet ← refuse (not (interface.link == 1)) (fault LinkType 0)
   fits ← refuse (is_no_frame head.size 16 (snapped interface.snap (word head.order block 8))) (fault Length 8)
-  Ok (Packet last 12 (snapped interface.snap (word head.order block 8)))
+  Ok (Packet (record { moment = last; from = 12; bytes = snapped interface.snap (word head.order block 8) }))
 
 abbrev pub content_at : Kind → Head → List Interface → ℕ → List ℕ → Result Content Fault
 content_at SectionHeader head interfaces last block = section_at head block
@@ -194,7 +194,7 @@ abbrev pub shown : Sections → Head → List ℕ → Result Content Fault → F
 shown s head block (Ok Skipped) = Over head.size s
 shown s head block (Ok NewSection) = Over head.size (in_section s head.order [])
 shown s head block (Ok (NewInterface interface)) = Over head.size (in_section s head.order (interfaces_of s.section ++ interface ∷ []))
-shown s head block (Ok (Packet moment from n)) = Holds (record { time = moment; bytes = take n (drop from block) }) head.size (record s { last = moment })
+shown s head block (Ok (Packet x)) = Holds (record { time = x.moment; bytes = take x.bytes (drop x.from block) }) head.size (record s { last = x.moment })
 shown s head block (Err f) = Bad f
 
 -- what is looked into has to be there

@@ -6,8 +6,8 @@ use Rattle.exb_capture.specs.declared.fault.Flaw.TheVariants.{NotPcap}
 use Rattle.exb_capture.specs.declared.classic.Reached.TheVariants.{Start}
 use Rattle.exb_capture.specs.Blocks.{no_section, block_front, ng_records}
 use Rattle.exb_capture.specs.Classic.{classic_front, pcap_records}
-use Rattle.exb_capture.specs.declared.capture.Capture.{Capture as State}
-use Rattle.exb_capture.specs.declared.capture.Capture.TheVariants.{Unknown, Classic, Blocks}
+use Rattle.exb_capture.specs.declared.format.Capture.{Capture as State}
+use Rattle.exb_capture.specs.declared.format.Capture.TheVariants.{Unknown, Classic, Blocks}
 use Rattle.exb_capture.specs.Fields.{agrees}
 use Rattle.exb_capture.specs.Formats.{Front, Nothing, Short, Bad, Over, Holds, Capture, fault, reading_from, whole}
 

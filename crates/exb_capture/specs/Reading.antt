@@ -5,14 +5,14 @@ use Rattle.exb_capture.specs.Formats.{Capture, before}
 use Rattle.exb_capture.specs.Captures.{capture_front, capture_of, capture_records}
 use Rattle.exb_capture.specs.declared.fault.Fault.{Fault}
 use Rattle.exb_model.specs.Frames.{IsBytes}
-use Rattle.exb_capture.specs.declared.capture.Capture.TheVariants.{Unknown}
+use Rattle.exb_capture.specs.declared.format.Capture.TheVariants.{Unknown}
 use Rattle.exb_capture.specs.Blocks.{most_held}
 use Rattle.exb_capture.specs.Pieces.{Stage, At, Failed, Reading, to_come, unread, fed}
 use Rattle.exb_shelf.specs.declared.shelf.ShelfFault.{ShelfFault}
 use Rattle.exb_shelf.specs.declared.shelf.ShelfFault.TheVariants as shelf
 use Rattle.exb_shelf.specs.Shelf.{Id, IsReadingOf}
 use Rattle.exb_capture.specs.declared.file.CaptureFile.{CaptureFile}
-use Rattle.exb_capture.specs.declared.file.Seen.{Seen}
+use Rattle.exb_capture.specs.declared.format.Seen.{Seen}
 use Rattle.exb_capture.specs.declared.file.Halt.{Halt}
 use Rattle.exb_capture.specs.declared.file.Halt.TheVariants.{Memory, Failed, Broken, Large}
 

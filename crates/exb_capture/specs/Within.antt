@@ -1,10 +1,10 @@
 -- What is known of the numbers in a block that was read.
 use Rattle.std.specs.Prelude.{◌≡◌, ◌%◌, true, List, [], All, length, take, drop, ℕ, ◌+◌, ◌*◌, ◌^◌, ◌<◌, ◌≤◌, Option, Some, None, Result, Ok, Err}
 use Rattle.exb_capture.specs.declared.fault.Fault.{Fault}
-use Rattle.exb_capture.specs.declared.interface.Interface.{Interface}
+use Rattle.exb_capture.specs.declared.block.Interface.{Interface}
 use Rattle.exb_capture.specs.declared.order.ByteOrder.{ByteOrder}
-use Rattle.exb_capture.specs.declared.front.Front.{Front}
-use Rattle.exb_capture.specs.declared.front.Front.TheVariants as front
+use Rattle.exb_capture.specs.declared.format.Front.{Front}
+use Rattle.exb_capture.specs.declared.format.Front.TheVariants as front
 use Rattle.exb_capture.specs.Formats.{Front as Stood}
 use Rattle.exb_capture.specs.Formats as stood
 use Rattle.exb_capture.specs.Blocks.{Section, is_read}
@@ -37,7 +37,7 @@ abbrev pub IsIn : ℕ → ℕ → Content → Type 0
 IsIn size count Skipped = Unit {0}
 IsIn size count NewSection = Unit {0}
 IsIn size count (NewInterface interface) = IsRoomFor count interface
-IsIn size count (Packet moment from bytes) = IsFrameIn size moment from bytes
+IsIn size count (Packet seen) = IsFrameIn size seen.moment seen.from seen.bytes
 
 -- a head that may be read on
 pub record IsHead (head : Head) : Type 0 where
@@ -62,7 +62,7 @@ told front.Nothing s held = stood.Nothing
 told (front.Short f) s held = stood.Short f
 told (front.Bad f) s held = stood.Bad f
 told (front.Over n) s held = stood.Over n s
-told (front.Holds moment from bytes n) s held = stood.Holds (record { time = moment; bytes = take bytes (drop from held) }) n s
+told (front.Holds seen n) s held = stood.Holds (record { time = seen.moment; bytes = take seen.bytes (drop seen.from held) }) n s
 
 -- the state is kept, where more decides or there is a fault
 abbrev pub Keeps : Front → Type 0 → Type 0
@@ -70,7 +70,7 @@ Keeps front.Nothing same = same
 Keeps (front.Short f) same = same
 Keeps (front.Bad f) same = same
 Keeps (front.Over n) same = Unit {0}
-Keeps (front.Holds moment from bytes n) same = Unit {0}
+Keeps (front.Holds seen n) same = Unit {0}
 
 -- a record at the front of these bytes, all of which are there
 pub record IsRecordIn (held : List ℕ) (moment from bytes size : ℕ) : Type 0 where
@@ -84,4 +84,11 @@ IsWithin held front.Nothing = Unit {0}
 IsWithin held (front.Short f) = Unit {0}
 IsWithin held (front.Bad f) = Unit {0}
 IsWithin held (front.Over n) = 0 < n
-IsWithin held (front.Holds moment from bytes n) = IsRecordIn held moment from bytes n
+IsWithin held (front.Holds seen n) = IsRecordIn held seen.moment seen.from seen.bytes n
+
+-- This was found at the front of these bytes, and is what stands there. What was read is known from then on; the state is kept where
+-- more decides or there is a fault; and a record lies within the bytes.
+pub record Shows {S : Type 0} (stood : Stood S) (held : List ℕ) (x : Front) (old new : S) : Type 0 where
+  pub value : told x new held ≡ stood
+  pub same : Keeps x (new ≡ old)
+  pub within : IsWithin held x

@@ -1,11 +1,11 @@
 //! The blocks of a pcapng file, each looked at once.
 ghost use Rattle.std.specs.Prelude.{◌≡◌, ◌≤◌, ◌<◌, ◌*◌, ◌^◌, ◌+◌, ◌-◌, ◌%◌, All, None, length, IfOk};
-ghost use Rattle.exb_capture.specs.Blocks.{new_order, old_order, order_at, kind_of, is_read, head_at, padded, is_no_frame, units_at, snapped, digits_at, or_option, resolution_from, interface_number, section_at, interface_at, enhanced_at, simple_at, block_at};
+ghost use Rattle.exb_capture.specs.Blocks.{new_order, old_order, order_at, kind_of, is_read, head_at, is_no_frame, snapped, digits_at, or_option, resolution_from, interface_number, section_at, interface_at, enhanced_at, simple_at, block_at};
 ghost use Rattle.exb_capture.specs.Within.{HasDigits, HasResolution, IsIn, IsHead};
 ghost use Rattle.exb_capture.specs.Fields.{nanoseconds};
 
-use crate::fault::{Fault, Flaw};
-use crate::interface::Interface;
+use crate::fault::{Fault, Flaw, refuse};
+use crate::format::Seen;
 use crate::order::{ByteOrder, half_word_at, word_at};
 
 const SECTION_HEADER: u32 = 0x0A0D_0D0A;
@@ -31,6 +31,17 @@ pub enum Kind {
     Other,
 }
 
+/// An interface of a section.
+#[derive(Clone, Copy, Debug, Default, Drop, PartialEq, Eq)]
+pub struct Interface {
+    /// Its link type.
+    pub link: u16,
+    /// The most bytes of a frame that are stored, 0 where that is not limited.
+    pub snap: u32,
+    /// A time counts units of 10 to the power of minus this, 0 to 9.
+    pub digits: u8,
+}
+
 /// What the first twelve bytes of a block say.
 #[derive(Clone, Copy)]
 pub struct Head {
@@ -39,14 +50,13 @@ pub struct Head {
     pub size: u32,
 }
 
-/// What a block says: nothing that is read; that a section begins; an interface; or a frame, with its moment,
-/// where in the block it begins and how many bytes it has.
+/// What a block says: nothing that is read; that a section begins; an interface; or a frame of the block.
 #[derive(Clone, Copy)]
 pub enum Content {
     Skipped,
     NewSection,
     NewInterface(Interface),
-    Packet { moment: u64, from: u32, bytes: u32 },
+    Packet(Seen),
 }
 
 impl Kind {
@@ -126,22 +136,13 @@ pub(crate) fn head_of(old: Option<ByteOrder>, twelve: &[u8]) -> Result<Head, Fau
     Ok(Head { order, kind, size })
 }
 
-// The next multiple of four.
-#[inline(always)]
-fn padded(n: u32) -> u32
-    requires { n ≤ 262_144 }
-    ensures { result ≡ padded n }
-{
-    (n + 3) / 4 * 4
-}
-
 // Whether a frame is too long, or doesn't fit into a block of this size behind so many bytes.
 #[inline(always)]
 fn is_no_frame(size: u32, head: u32, n: u32) -> bool
     requires { head ≤ 32 }
     ensures { result ≡ is_no_frame size head n }
 {
-    n > MOST_BYTES || size < head + padded(n)
+    n > MOST_BYTES || size < head + (n + 3) / 4 * 4
 }
 
 // How many units of this resolution make a second.
@@ -176,15 +177,6 @@ fn nanoseconds(digits: u8, time: u64) -> u64
     time * units(9 - digits)
 }
 
-// A time in units, as its two halves stand in a block.
-#[inline(always)]
-fn units_at(order: ByteOrder, block: &[u8]) -> u64
-    requires { 20 ≤ length block.now }
-    ensures { result ≡ units_at order block.now }
-{
-    (word_at(order, block, 12) as u64) * SECONDS + word_at(order, block, 16) as u64
-}
-
 // A length cut to what is stored of a frame.
 fn snapped(snap: u32, n: u32) -> u32
     ensures { result ≡ snapped snap n }
@@ -197,12 +189,8 @@ fn section(head: Head, block: &[u8]) -> Result<Content, Fault>
     ensures value { result ≡ section_at head block.now }
     ensures within { IfOk result (IsIn head.size 0) }
 {
-    if head.size < 28 {
-        return Err(Fault::new(Flaw::Length, 4));
-    }
-    if half_word_at(head.order, block, 12) != 1 {
-        return Err(Fault::new(Flaw::Version, 12));
-    }
+    refuse!(head.size < 28, Length, 4);
+    refuse!(half_word_at(head.order, block, 12) != 1, Version, 12);
     Ok(Content::NewSection)
 }
 
@@ -280,27 +268,21 @@ fn numbered(interfaces: &[Interface], number: u32, none: Fault) -> Result<Interf
     }
 }
 
-fn interface(head: Head, interfaces: &[Interface], block: &[u8]) -> Result<Content, Fault>
+fn new_interface(head: Head, interfaces: &[Interface], block: &[u8]) -> Result<Content, Fault>
     requires whole { length block.now ≡ head.size }
     requires fours { head.size % 4 ≡ 0 }
     requires most { head.size ≤ 327_680 }
     ensures value { result ≡ interface_at head interfaces.now block.now }
     ensures within { IfOk result (IsIn head.size (length interfaces.now)) }
 {
-    if head.size < 20 {
-        return Err(Fault::new(Flaw::Length, 4));
-    }
-    if interfaces.len() >= 256 {
-        return Err(Fault::new(Flaw::TooMany, 0));
-    }
-    match resolution(head.order, block) {
-        Ok(digits) => Ok(Content::NewInterface(Interface {
-            link: half_word_at(head.order, block, 8),
-            snap: word_at(head.order, block, 12),
-            digits,
-        })),
-        Err(fault) => Err(fault),
-    }
+    refuse!(head.size < 20, Length, 4);
+    refuse!(interfaces.len() >= 256, TooMany, 0);
+    let digits = resolution(head.order, block)?;
+    Ok(Content::NewInterface(Interface {
+        link: half_word_at(head.order, block, 8),
+        snap: word_at(head.order, block, 12),
+        digits,
+    }))
 }
 
 #[inline(always)]
@@ -310,30 +292,20 @@ fn enhanced(head: Head, interfaces: &[Interface], block: &[u8]) -> Result<Conten
     ensures value { result ≡ enhanced_at head interfaces.now block.now }
     ensures within { IfOk result (IsIn head.size (length interfaces.now)) }
 {
-    if head.size < 32 {
-        return Err(Fault::new(Flaw::Length, 4));
-    }
+    refuse!(head.size < 32, Length, 4);
     let number = word_at(head.order, block, 8);
-    let interface = match numbered(interfaces, number, Fault::new(Flaw::Interface, 8)) {
-        Ok(interface) => interface,
-        Err(fault) => return Err(fault),
-    };
-    if interface.link != 1 {
-        return Err(Fault::new(Flaw::LinkType, 8));
-    }
-    let time = units_at(head.order, block);
-    if time >= SECONDS * units(interface.digits) {
-        return Err(Fault::new(Flaw::Time, 12));
-    }
+    let interface = numbered(interfaces, number, Fault::new(Flaw::Interface, 8))?;
+    refuse!(interface.link != 1, LinkType, 8);
+    let time = (word_at(head.order, block, 12) as u64) * SECONDS
+        + word_at(head.order, block, 16) as u64;
+    refuse!(time >= SECONDS * units(interface.digits), Time, 12);
     let bytes = word_at(head.order, block, 20);
-    if is_no_frame(head.size, 32, bytes) {
-        return Err(Fault::new(Flaw::Length, 20));
-    }
-    Ok(Content::Packet {
+    refuse!(is_no_frame(head.size, 32, bytes), Length, 20);
+    Ok(Content::Packet(Seen {
         moment: nanoseconds(interface.digits, time),
         from: 28,
         bytes,
-    })
+    }))
 }
 
 fn simple(head: Head, interfaces: &[Interface], last: u64, block: &[u8]) -> Result<Content, Fault>
@@ -343,25 +315,16 @@ fn simple(head: Head, interfaces: &[Interface], last: u64, block: &[u8]) -> Resu
     ensures value { result ≡ simple_at head interfaces.now last block.now }
     ensures within { IfOk result (IsIn head.size (length interfaces.now)) }
 {
-    if head.size < 16 {
-        return Err(Fault::new(Flaw::Length, 4));
-    }
-    let interface = match numbered(interfaces, 0, Fault::new(Flaw::Interface, 0)) {
-        Ok(interface) => interface,
-        Err(fault) => return Err(fault),
-    };
-    if interface.link != 1 {
-        return Err(Fault::new(Flaw::LinkType, 0));
-    }
+    refuse!(head.size < 16, Length, 4);
+    let interface = numbered(interfaces, 0, Fault::new(Flaw::Interface, 0))?;
+    refuse!(interface.link != 1, LinkType, 0);
     let bytes = snapped(interface.snap, word_at(head.order, block, 8));
-    if is_no_frame(head.size, 16, bytes) {
-        return Err(Fault::new(Flaw::Length, 8));
-    }
-    Ok(Content::Packet {
+    refuse!(is_no_frame(head.size, 16, bytes), Length, 8);
+    Ok(Content::Packet(Seen {
         moment: last,
         from: 12,
         bytes,
-    })
+    }))
 }
 
 /// What a whole block says, in a section of these interfaces, where the record before had this moment.
@@ -383,12 +346,11 @@ pub(crate) fn whole_block(
     ensures within { IfOk result (IsIn head.size (length interfaces.now)) }
 {
     let end = head.size - 4;
-    if word_at(head.order, block, end as usize) != head.size {
-        return Err(Fault::new(Flaw::Length, end as u64));
-    }
+    let again = word_at(head.order, block, end as usize);
+    refuse!(again != head.size, Length, end as u64);
     match head.kind {
         Kind::SectionHeader => section(head, block),
-        Kind::InterfaceBlock => interface(head, interfaces, block),
+        Kind::InterfaceBlock => new_interface(head, interfaces, block),
         Kind::EnhancedPacket => enhanced(head, interfaces, block),
         Kind::SimplePacket => simple(head, interfaces, last, block),
         Kind::Other => Ok(Content::Skipped),

@@ -1,13 +1,11 @@
 //! pcapng, block by block.
 ghost use Rattle.std.specs.Prelude.{◌≡◌, ◌≤◌};
 ghost use Rattle.exb_capture.specs.Blocks.{Sections, no_section, whole_front, block_front};
-ghost use Rattle.exb_capture.specs.Within.{IsHead, told, Keeps, IsWithin};
+ghost use Rattle.exb_capture.specs.Within.{IsHead, Shows};
 
-use crate::block::{Content, Head, PACKET, head_of, whole_block};
+use crate::block::{Content, Head, Interface, PACKET, head_of, whole_block};
 use crate::fault::{Fault, Flaw};
-use crate::format::Format;
-use crate::front::Front;
-use crate::interface::Interface;
+use crate::format::{Format, Front};
 use crate::order::{ByteOrder, word_at};
 use arrayvec::ArrayVec;
 use std::marker::Model;
@@ -55,9 +53,7 @@ impl Blocks {
     fn whole(&mut self, head: Head, held: &[u8]) -> Front
         requires sized { IsHead head }
         requires most { head.size ≤ 327_680 }
-        ensures value { told result self.new held.now ≡ whole_front self.old head held.now }
-        ensures same { Keeps result (self.new ≡ self.old) }
-        ensures within { IsWithin held.now result }
+        ensures { Shows (whole_front self.old head held.now) held.now result self.old self.new }
     {
         let size = head.size as usize;
         if held.len() < size {
@@ -75,31 +71,19 @@ impl Blocks {
                 self.interfaces.push(interface);
                 Front::Over(head.size)
             }
-            Ok(
-                Content::Packet {
-                    moment,
-                    from,
-                    bytes,
-                },
-            ) => {
-                self.last = moment;
-                Front::Holds {
-                    moment,
-                    from,
-                    bytes,
-                    size: head.size,
-                }
+            Ok(Content::Packet(seen)) => {
+                self.last = seen.moment;
+                Front::Holds(seen, head.size)
             }
             Err(fault) => Front::Bad(fault),
         }
     }
+
     // What stands at the front of these bytes.
     #[tactic(auto, unfolding(crate::specs::Blocks::block_front))]
     #[inline(always)]
     fn stands(&mut self, held: &[u8]) -> Front
-        ensures value { told result self.new held.now ≡ block_front self.old held.now }
-        ensures same { Keeps result (self.new ≡ self.old) }
-        ensures within { IsWithin held.now result }
+        ensures { Shows (block_front self.old held.now) held.now result self.old self.new }
     {
         if held.is_empty() {
             return Front::Nothing;
@@ -108,13 +92,8 @@ impl Blocks {
             return Front::Short(Fault::new(Flaw::Cut, 0));
         }
         match head_of(self.order, &held[..12]) {
-            Ok(head) => {
-                if head.kind.is_read() {
-                    self.whole(head, held)
-                } else {
-                    Front::Over(head.size)
-                }
-            }
+            Ok(head) if head.kind.is_read() => self.whole(head, held),
+            Ok(head) => Front::Over(head.size),
             Err(fault) => Front::Bad(fault),
         }
     }
@@ -123,9 +102,7 @@ impl Blocks {
     #[cold]
     #[inline(never)]
     fn stands_apart(&mut self, held: &[u8]) -> Front
-        ensures value { told result self.new held.now ≡ block_front self.old held.now }
-        ensures same { Keeps result (self.new ≡ self.old) }
-        ensures within { IsWithin held.now result }
+        ensures { Shows (block_front self.old held.now) held.now result self.old self.new }
     {
         match self.order {
             Some(ByteOrder::Big) if is_packet(ByteOrder::Big, held) => self.stands(held),

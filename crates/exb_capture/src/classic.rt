@@ -1,12 +1,11 @@
 //! Classic pcap: a header, and then record by record.
 ghost use Rattle.std.specs.Prelude.{◌≡◌, ◌&&◌, ◌≤◌, ◌<◌, ◌-◌, ◌*◌, ◌^◌, ◌∷◌, [], length, IfOk};
-ghost use Rattle.exb_capture.specs.Classic.{digits, classic_front, magic_front, record_front, header_at, shown_header, head_at, form_of, time_at};
+ghost use Rattle.exb_capture.specs.Classic.{digits, classic_front, magic_front, record_front, header_at, shown_header, head_at, form, form_of, time_at};
 ghost use Rattle.exb_capture.specs.Fields.{agrees, byte_agrees, word};
-ghost use Rattle.exb_capture.specs.Within.{told, Keeps, IsWithin};
+ghost use Rattle.exb_capture.specs.Within.{told, IsWithin, Shows};
 
-use crate::fault::{Fault, Flaw};
-use crate::format::Format;
-use crate::front::Front;
+use crate::fault::{Fault, Flaw, refuse};
+use crate::format::{Format, Front, Seen};
 use crate::order::{ByteOrder, half_word_at, word_at};
 
 /// What a record's fraction of a second counts.
@@ -50,22 +49,6 @@ fn byte_agrees(byte: u8, bytes: &[u8], at: usize) -> bool
     bytes.len() <= at || byte == bytes[at]
 }
 
-// Whether all four hold.
-fn all_four(p: bool, q: bool, r: bool, s: bool) -> bool
-    ensures { result ≡ (((p && q) && r) && s) }
-{
-    if !p {
-        return false;
-    }
-    if !q {
-        return false;
-    }
-    if !r {
-        return false;
-    }
-    s
-}
-
 // Whether these bytes are those of a magic number, as far as both go.
 #[tactic(auto, using(crate::proofs::AgreeLemmas::agrees_by))]
 pub(crate) fn agrees(a: u8, b: u8, c: u8, d: u8, bytes: &[u8]) -> bool
@@ -75,7 +58,7 @@ pub(crate) fn agrees(a: u8, b: u8, c: u8, d: u8, bytes: &[u8]) -> bool
     let second = byte_agrees(b, bytes, 1);
     let third = byte_agrees(c, bytes, 2);
     let fourth = byte_agrees(d, bytes, 3);
-    all_four(first, second, third, fourth)
+    first & second & third & fourth
 }
 
 // What the magic number says, as far as it is there.
@@ -96,33 +79,6 @@ fn form_of(left: &[u8]) -> Option<Form>
     Some(Form { order, resolution })
 }
 
-// What stands at the front of a file.
-#[cold]
-#[inline(never)]
-fn start(held: &[u8]) -> (Front, Reached)
-    ensures value { told result.0 result.1 held.now ≡ magic_front (form_of held.now) held.now }
-    ensures same { Keeps result.0 (result.1 ≡ Reached.Start) }
-    ensures within { IsWithin held.now result.0 }
-{
-    let Some(form) = form_of(held) else {
-        return (Front::Bad(Fault::new(Flaw::NotPcap, 0)), Reached::Start);
-    };
-    if held.len() < 4 {
-        return (Front::Short(Fault::new(Flaw::NotPcap, 0)), Reached::Start);
-    }
-    if held.len() < 24 {
-        return (Front::Short(Fault::new(Flaw::Cut, 0)), Reached::Start);
-    }
-    let header = &held[..24];
-    if half_word_at(form.order, header, 4) != 2 || half_word_at(form.order, header, 6) != 4 {
-        return (Front::Bad(Fault::new(Flaw::Version, 4)), Reached::Start);
-    }
-    if word_at(form.order, header, 20) != 1 {
-        return (Front::Bad(Fault::new(Flaw::LinkType, 20)), Reached::Start);
-    }
-    (Front::Over(24), Reached::Behind(form))
-}
-
 // The stored length in a record's head.
 #[inline(always)]
 fn stored(form: Form, head: &[u8]) -> Result<u32, Fault>
@@ -131,13 +87,10 @@ fn stored(form: Form, head: &[u8]) -> Result<u32, Fault>
     ensures early { IfOk result (λ n. word form.order head.now 4 < 10 ^ digits form.resolution) }
     ensures short { IfOk result (λ n. n ≤ 262_144) }
 {
-    if word_at(form.order, head, 4) >= form.resolution.units() {
-        return Err(Fault::new(Flaw::Time, 4));
-    }
+    let fraction = word_at(form.order, head, 4);
+    refuse!(fraction >= form.resolution.units(), Time, 4);
     let n = word_at(form.order, head, 8);
-    if n > 262_144 {
-        return Err(Fault::new(Flaw::Length, 8));
-    }
+    refuse!(n > 262_144, Length, 8);
     Ok(n)
 }
 
@@ -160,8 +113,8 @@ fn time_at(form: Form, head: &[u8]) -> u64
 // The record at the front of what is left.
 #[tactic(auto, using(crate::proofs::ClassicLemmas::record_is))]
 #[inline(always)]
-fn record_of(form: Form, held: &[u8]) -> Front
-    ensures value { told result (Reached.Behind form) held.now ≡ record_front form held.now }
+fn record_of(order: ByteOrder, resolution: Resolution, held: &[u8]) -> Front
+    ensures value { told result (Reached.Behind (form order resolution)) held.now ≡ record_front (form order resolution) held.now }
     ensures within { IsWithin held.now result }
 {
     if held.is_empty() {
@@ -170,6 +123,7 @@ fn record_of(form: Form, held: &[u8]) -> Front
     if held.len() < 16 {
         return Front::Short(Fault::new(Flaw::Cut, 0));
     }
+    let form = Form { order, resolution };
     let head = &held[..16];
     match stored(form, head) {
         Ok(bytes) => {
@@ -177,12 +131,12 @@ fn record_of(form: Form, held: &[u8]) -> Front
             if held.len() < size as usize {
                 return Front::Short(Fault::new(Flaw::Cut, 0));
             }
-            Front::Holds {
+            let seen = Seen {
                 moment: time_at(form, head),
                 from: 16,
                 bytes,
-                size,
-            }
+            };
+            Front::Holds(seen, size)
         }
         Err(fault) => Front::Bad(fault),
     }
@@ -194,22 +148,38 @@ fn record(form: Form, held: &[u8]) -> Front
     ensures value { told result (Reached.Behind form) held.now ≡ record_front form held.now }
     ensures within { IsWithin held.now result }
 {
-    let Form { order, resolution } = form;
-    match order {
-        ByteOrder::Little => record_of(
-            Form {
-                order: ByteOrder::Little,
-                resolution,
-            },
-            held,
-        ),
-        ByteOrder::Big => record_of(
-            Form {
-                order: ByteOrder::Big,
-                resolution,
-            },
-            held,
-        ),
+    match form.order {
+        ByteOrder::Little => record_of(ByteOrder::Little, form.resolution, held),
+        ByteOrder::Big => record_of(ByteOrder::Big, form.resolution, held),
+    }
+}
+
+impl Reached {
+    // What stands at the front of a file.
+    #[cold]
+    #[inline(never)]
+    fn at_start(&mut self, held: &[u8]) -> Front
+        requires { self.old ≡ Reached.Start }
+        ensures { Shows (magic_front (form_of held.now) held.now) held.now result self.old self.new }
+    {
+        let Some(form) = form_of(held) else {
+            return Front::Bad(Fault::new(Flaw::NotPcap, 0));
+        };
+        if held.len() < 4 {
+            return Front::Short(Fault::new(Flaw::NotPcap, 0));
+        }
+        if held.len() < 24 {
+            return Front::Short(Fault::new(Flaw::Cut, 0));
+        }
+        let header = &held[..24];
+        if half_word_at(form.order, header, 4) != 2 || half_word_at(form.order, header, 6) != 4 {
+            return Front::Bad(Fault::new(Flaw::Version, 4));
+        }
+        if word_at(form.order, header, 20) != 1 {
+            return Front::Bad(Fault::new(Flaw::LinkType, 20));
+        }
+        *self = Reached::Behind(form);
+        Front::Over(24)
     }
 }
 
@@ -222,11 +192,7 @@ impl Format for Reached {
     #[inline(always)]
     fn front(&mut self, held: &[u8]) -> Front {
         match *self {
-            Reached::Start => {
-                let (front, reached) = start(held);
-                *self = reached;
-                front
-            }
+            Reached::Start => self.at_start(held),
             Reached::Behind(form) => record(form, held),
         }
     }

@@ -43,3 +43,14 @@ impl Fault {
         Fault { flaw, at }
     }
 }
+
+// Answers this flaw at this byte where the test holds: a line of the tables of faults.
+macro_rules! refuse {
+    ($test:expr, $flaw:ident, $at:expr) => {
+        if $test {
+            return Err(Fault::new(Flaw::$flaw, $at));
+        }
+    };
+}
+
+pub(crate) use refuse;

@@ -7,8 +7,8 @@ ghost use Rattle.exb_shelf.specs.Shelf.{IsReadingOf, Opens, reading, Rose, NoFew
 ghost use Rattle.exb_capture.specs.Counts.{after_looking};
 ghost use Rattle.exb_capture.specs.Reading.{IsAt, IsBegun, IsSameFile, IsSound, IsWhole, HasRead, HaltsBy, ComesNext, MovesOn, left_to_read, next_of};
 
-use crate::capture::Capture;
 use crate::fault::Fault;
+use crate::format::{Capture, Seen};
 use crate::reader::{Ahead, Reader};
 use exb_model::bytes::Bytes;
 use exb_model::memory::NoMemory;
@@ -61,14 +61,6 @@ fn written(mut buffer: Vec<u8>, bytes: &[u8]) -> Result<Bytes, NoMemory>
     Ok(Bytes::from_vec(buffer))
 }
 
-/// A record that was looked at: its moment, and where its frame lies in what the reader holds.
-#[derive(Clone, Copy, Debug, PartialEq, Eq)]
-pub struct Seen {
-    moment: u64,
-    from: u32,
-    bytes: u32,
-}
-
 /// A capture on a shelf that is read in pieces, at most up to a limit. It keeps no more of the file than the
 /// buffer of its reader.
 #[derive(Drop)]
@@ -114,10 +106,7 @@ impl CaptureFile {
         let Ok(reader) = Reader::new(alloc, Capture::Unknown) else {
             return Err(OpenFault::Memory);
         };
-        let id = match shelf.open(name) {
-            Ok(id) => id,
-            Err(fault) => return Err(fault),
-        };
+        let id = shelf.open(name)?;
         Ok(CaptureFile {
             id,
             reader,
@@ -215,19 +204,9 @@ impl CaptureFile {
         }
         'looking: loop {
             match self.reader.advance(self.ended) {
-                Ok(
-                    Ahead::Record {
-                        moment,
-                        from,
-                        bytes,
-                    },
-                ) => {
-                    self.next = Some(Seen {
-                        moment,
-                        from,
-                        bytes,
-                    });
-                    return Ok(Some(moment));
+                Ok(Ahead::Record(seen)) => {
+                    self.next = Some(seen);
+                    return Ok(Some(seen.moment));
                 }
                 Ok(Ahead::End) => return Ok(None),
                 Ok(Ahead::More) => self.read_on(shelf)?,

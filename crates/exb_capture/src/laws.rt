@@ -4,7 +4,7 @@ ghost use Rattle.std.specs.Prelude.{◌≡◌, ℕ, List, Option, Result, Ok, Al
 ghost use Rattle.exb_model.specs.FlatBridge.{Sent};
 ghost use Rattle.exb_model.specs.Texts.{capture_text};
 ghost use Rattle.exb_capture.specs.Blocks.{block_front, no_section, most_held};
-ghost use Rattle.exb_capture.specs.declared.capture.Capture.TheVariants.{Unknown};
+ghost use Rattle.exb_capture.specs.declared.format.Capture.TheVariants.{Unknown};
 ghost use Rattle.exb_capture.specs.Captures.{capture_front, capture_records, EachIsRead};
 ghost use Rattle.exb_capture.specs.declared.classic.Reached.TheVariants.{Start};
 ghost use Rattle.exb_capture.specs.Classic.{classic_front, pcap_records};

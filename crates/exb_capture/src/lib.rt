@@ -7,30 +7,24 @@
 
 mod block;
 mod blocks;
-mod capture;
 mod checking;
 mod classic;
 mod fault;
 mod file;
 mod format;
-mod front;
-mod interface;
 pub mod laws;
 mod order;
 mod reader;
 mod replay;
 mod writer;
 
-pub use block::{Content, Head, Kind};
+pub use block::{Content, Head, Interface, Kind};
 pub use blocks::Blocks;
-pub use capture::Capture;
 pub use checking::{ScanFault, Scanned, scan};
 pub use classic::{Form, Reached, Resolution};
 pub use fault::{Fault, Flaw};
 pub use file::{CaptureFile, Halt};
-pub use format::Format;
-pub use front::Front;
-pub use interface::Interface;
+pub use format::{Capture, Format, Front, Seen};
 pub use order::ByteOrder;
 pub use reader::{Ahead, Reader};
 pub use replay::{Replay, ReplayFault};

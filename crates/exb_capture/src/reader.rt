@@ -10,8 +10,7 @@ ghost use Rattle.exb_capture.specs.Reading.{HasFilled};
 ghost use Rattle.exb_capture.specs.Asked.{turned, seen, IsAhead, IsSeen, Looks};
 
 use crate::fault::{Fault, Flaw};
-use crate::format::Format;
-use crate::front::Front;
+use crate::format::{Format, Front, Seen};
 use exb_model::memory::NoMemory;
 use exb_shelf::{Shelf, ShelfFault};
 use std::alloc::{AllocError, Global};
@@ -23,9 +22,8 @@ const BUFFER: usize = 327_680;
 /// What comes next. A record's bytes stay in the reader until it is asked again.
 #[derive(Clone, Copy, Debug, PartialEq, Eq)]
 pub enum Ahead {
-    /// A captured frame: its moment in nanoseconds since the epoch, below 2^32 seconds; where in what is held
-    /// it begins, and how many bytes it has, at most 262,144.
-    Record { moment: u64, from: u32, bytes: u32 },
+    /// A captured frame in what is held.
+    Record(Seen),
     /// Bytes that weren't fed yet decide what comes next.
     More,
     /// There is no further record.
@@ -269,18 +267,9 @@ impl<F: Format> Reader<F> {
                 self.pass(n);
                 None
             }
-            Front::Holds {
-                moment,
-                from,
-                bytes,
-                size,
-            } => {
+            Front::Holds(seen, size) => {
                 self.pass(size);
-                Some(Ok(Ahead::Record {
-                    moment,
-                    from,
-                    bytes,
-                }))
+                Some(Ok(Ahead::Record(seen)))
             }
         }
     }

@@ -92,16 +92,10 @@ impl<'a> Told<'a> {
     fn put_answers(&mut self, rt: &impl Abort, reader: &mut Reader<Capture>, ended: bool) -> bool {
         for _answer in 0..9u32 {
             match reader.advance(ended) {
-                Ok(
-                    Ahead::Record {
-                        moment,
-                        from,
-                        bytes,
-                    },
-                ) => {
+                Ok(Ahead::Record(seen)) => {
                     let place = reader.begun() as usize;
-                    let frame = reader.frame(from, bytes);
-                    self.put_record(rt, place, moment, frame);
+                    let frame = reader.frame(seen.from, seen.bytes);
+                    self.put_record(rt, place, seen.moment, frame);
                 }
                 Ok(Ahead::More) => return true,
                 Ok(Ahead::End) => return false,

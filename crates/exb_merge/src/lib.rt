@@ -7,7 +7,6 @@
 
 mod agenda;
 pub mod laws;
-mod moments;
 mod programme;
 mod replays;
 pub mod turns;

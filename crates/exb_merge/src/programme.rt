@@ -4,16 +4,67 @@ ghost use Rattle.exb_model.specs.Input.{moment_of, second_of};
 ghost use Rattle.exb_shelf.specs.Files.{SameFiles};
 ghost use Rattle.exb_shelf.specs.Shelf.{Id, Rose, NoFewer};
 ghost use Rattle.exb_merge.specs.Counting.{CountsAgain};
-ghost use Rattle.exb_merge.specs.Agendas.{begins_in, comes_first, commands_left, first_moment, still_to_come};
+ghost use Rattle.exb_merge.specs.Agendas.{begins_in, comes_first, commands_left, first_moment, is_of, still_to_come, turn_by};
 ghost use Rattle.exb_merge.specs.NetAgendas.{IsTurn};
 ghost use Rattle.exb_merge.specs.Programmes.{IsComing, IsProgramme, IsSoonest, IsTakenOf, moment_in, played_with, what};
 ghost use Rattle.exb_merge.specs.Replays.{AreOpened, AreReplays, AreToldSince, HasPort, IsEarliest, IsWithin, NoneIsBefore, ReadsOn, ids_in, standings};
 ghost use Rattle.exb_merge.specs.Streams.{Stream, to_come};
 
-use crate::moments::{comes_first, is_of, moment_after, turn_by};
 use crate::replays::{Came, CaptureFault, Replays};
 use exb_model::setup::Timed;
 use exb_shelf::Shelf;
+
+/// A second in nanoseconds.
+const NANOSECONDS: u64 = 1_000_000_000;
+
+/// Whether a command comes before a record, by their moments.
+#[inline(always)]
+fn comes_first(command: Option<u64>, captured: Option<u64>) -> bool
+    ensures { result ≡ comes_first command captured }
+{
+    match (command, captured) {
+        (None, _) => false,
+        (Some(_), None) => true,
+        (Some(command), Some(captured)) => command <= captured,
+    }
+}
+
+/// Whether a moment is of this second.
+#[inline(always)]
+fn is_of(moment: Option<u64>, second: u64) -> bool
+    ensures { result ≡ is_of moment second }
+{
+    match moment {
+        None => false,
+        Some(moment) => moment / NANOSECONDS == second,
+    }
+}
+
+/// The moment that is so many seconds after the start.
+#[inline(always)]
+fn moment_after(start: u64, at: u32) -> u64
+    requires { start < 2 ^ 32 }
+    ensures value { result ≡ (start + at) * 1000000000 }
+    ensures before { result < (start + 2 ^ 32) * 1000000000 }
+{
+    (start + at as u64) * NANOSECONDS
+}
+
+/// The turn among several bridges of what has these moments, in halves of a nanosecond: that of a record is half a one
+/// behind its moment, so that the commands of all bridges come before the records of their moment.
+#[inline(always)]
+fn turn_by(command: Option<u64>, captured: Option<u64>) -> Option<u64>
+    requires command { IfSome command (λ m. m < 2 ^ 63) }
+    requires captured { IfSome captured (λ m. m < 2 ^ 63) }
+    ensures { result ≡ turn_by command captured }
+{
+    match (command, captured) {
+        (None, None) => None,
+        (Some(command), None) => Some(2 * command),
+        (None, Some(captured)) => Some(2 * captured + 1),
+        (Some(command), Some(captured)) => Some((2 * command).min(2 * captured + 1)),
+    }
+}
 
 /// What comes next.
 #[derive(Debug, Drop)]

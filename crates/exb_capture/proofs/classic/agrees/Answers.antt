@@ -5,6 +5,5 @@ use Rattle.exb_capture.proofs.classic.agrees.Goals as goal
 
 pub returns : goal.returns
 returns c =
-    c.all_four.ensures
-    ∙ (λ i. ((c.byte_agrees-first.ensures i && c.byte_agrees-second.ensures i) && c.byte_agrees-third.ensures i) && c.byte_agrees-fourth.ensures i)
+    (λ i. ((c.byte_agrees-first.ensures i && c.byte_agrees-second.ensures i) && c.byte_agrees-third.ensures i) && c.byte_agrees-fourth.ensures i)
     ∙ agrees_by c.args.a c.args.b c.args.c c.args.d c.args.bytes.now

@@ -1,5 +1,5 @@
 use Rattle.exb_capture.specs.Blocks.{block_front, no_section, most_held}
-use Rattle.exb_capture.specs.declared.capture.Capture.TheVariants.{Unknown}
+use Rattle.exb_capture.specs.declared.format.Capture.TheVariants.{Unknown}
 use Rattle.exb_capture.specs.Captures.{capture_front}
 use Rattle.exb_capture.specs.declared.classic.Reached.TheVariants.{Start}
 use Rattle.exb_capture.specs.Classic.{classic_front}

@@ -31,19 +31,19 @@ looking-init g c = record {
 }
 
 pub returns-in-Ok-Record-clause-sound : goal.returns-in-Ok-Record-clause-sound
-returns-in-Ok-Record-clause-sound g c = found_sound c.looking.self c.advance.new.self (Ok c.in-Ok-Record.field-0) c.looking.invariant.unseen c.in-Ok-Record.ensures.answer c.advance.ensures.left _ _ _ (ap Ok c.in-Ok-Record.field-0-is) c.looking.invariant.sound (subst (IsAhead c.advance.new.self.held) c.in-Ok-Record.field-0-is c.in-Ok-Record.ensures.frame)
+returns-in-Ok-Record-clause-sound g c = found_sound c.looking.self c.advance.new.self (Ok c.in-Ok-Record.field-0) c.looking.invariant.unseen c.in-Ok-Record.ensures.answer c.advance.ensures.left _ (ap Ok c.in-Ok-Record.field-0-is) c.looking.invariant.sound (subst (IsAhead c.advance.new.self.held) c.in-Ok-Record.field-0-is c.in-Ok-Record.ensures.frame)
 
 pub returns-in-Ok-Record-clause-left : goal.returns-in-Ok-Record-clause-left
-returns-in-Ok-Record-clause-left g c = omega (arith, found_left c.looking.self c.advance.new.self (Ok c.in-Ok-Record.field-0) c.looking.invariant.unseen c.in-Ok-Record.ensures.answer c.advance.ensures.left _ _ _ (ap Ok c.in-Ok-Record.field-0-is), c.looking.invariant.left)
+returns-in-Ok-Record-clause-left g c = omega (arith, found_left c.looking.self c.advance.new.self (Ok c.in-Ok-Record.field-0) c.looking.invariant.unseen c.in-Ok-Record.ensures.answer c.advance.ensures.left _ (ap Ok c.in-Ok-Record.field-0-is), c.looking.invariant.left)
 
 pub returns-in-Ok-Record-clause-found : goal.returns-in-Ok-Record-clause-found
-returns-in-Ok-Record-clause-found g c = found_next c.looking.self c.advance.new.self (Ok c.in-Ok-Record.field-0) c.looking.invariant.unseen c.in-Ok-Record.ensures.answer c.advance.ensures.left _ _ _ (ap Ok c.in-Ok-Record.field-0-is)
+returns-in-Ok-Record-clause-found g c = found_next c.looking.self c.advance.new.self (Ok c.in-Ok-Record.field-0) c.looking.invariant.unseen c.in-Ok-Record.ensures.answer c.advance.ensures.left _ (ap Ok c.in-Ok-Record.field-0-is)
 
 pub returns-in-Ok-Record-clause-moment : goal.returns-in-Ok-Record-clause-moment
 returns-in-Ok-Record-clause-moment g c = (subst (IsAhead c.advance.new.self.held) c.in-Ok-Record.field-0-is c.in-Ok-Record.ensures.frame).in_time
 
 pub returns-in-Ok-Record-clause-read : goal.returns-in-Ok-Record-clause-read
-returns-in-Ok-Record-clause-read g c = λ tells xs h. found_read c.looking.self c.advance.new.self (Ok c.in-Ok-Record.field-0) c.looking.invariant.unseen c.in-Ok-Record.ensures.answer c.advance.ensures.left _ _ _ (ap Ok c.in-Ok-Record.field-0-is) _ xs (c.looking.invariant.read tells xs h)
+returns-in-Ok-Record-clause-read g c = λ tells xs h. found_read c.looking.self c.advance.new.self (Ok c.in-Ok-Record.field-0) c.looking.invariant.unseen c.in-Ok-Record.ensures.answer c.advance.ensures.left _ (ap Ok c.in-Ok-Record.field-0-is) _ xs (c.looking.invariant.read tells xs h)
 
 pub returns-in-Ok-End-clause-sound : goal.returns-in-Ok-End-clause-sound
 returns-in-Ok-End-clause-sound g c = looked_sound c.looking.self c.advance.new.self (Ok c.in-Ok-End.field-0) c.looking.invariant.unseen c.in-Ok-End.ensures.answer c.advance.ensures.left c.looking.invariant.sound

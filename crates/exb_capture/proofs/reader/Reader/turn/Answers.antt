@@ -13,7 +13,7 @@ returns-in-Nothing-clause-value g c =
     let owing = owing_is _ _ c.self-2.view_is in
     let look = c.in-Nothing.ensures s gs in
     c.at_nothing.ensures.value
-    ∙ ap (at_nothing most_held c.args.ended) (same_state c.go.new.self c.look.new.self s look.state look.is look.same gs)
+    ∙ ap (at_nothing most_held c.args.ended) (same_state c.go.new.self c.look.new.self s look.state look.is look.shows.same gs)
     ∙ turned_at g.F.Format.stands c.args.ended c.args.self.now c.go.new.self c.look.new.self s _ st c.go.ensures (omega (arith, owing, c.if-self-gt0.false)) look
 
 pub returns-in-Short-clause-value : goal.returns-in-Short-clause-value
@@ -27,7 +27,7 @@ returns-in-Short-clause-value g c =
     let at : c.at_place.result ≡ at_place c.go.new.self.place c.in-Short.fault = c.at_place.ensures ∙ ap (λ p. at_place p c.in-Short.fault) place in
     c.at_last-in-Short-2.ensures.value
     ∙ ap (λ f. at_last most_held c.args.ended f c.look.new.self) at
-    ∙ ap (at_last most_held c.args.ended (at_place c.go.new.self.place c.in-Short.fault)) (same_state c.go.new.self c.look.new.self s look.state look.is look.same gs)
+    ∙ ap (at_last most_held c.args.ended (at_place c.go.new.self.place c.in-Short.fault)) (same_state c.go.new.self c.look.new.self s look.state look.is look.shows.same gs)
     ∙ turned_at g.F.Format.stands c.args.ended c.args.self.now c.go.new.self c.look.new.self s _ st c.go.ensures (omega (arith, owing, c.if-self-gt0.false)) look
 
 pub returns-in-Bad-clause-value : goal.returns-in-Bad-clause-value
@@ -39,7 +39,7 @@ returns-in-Bad-clause-value g c =
     let look = c.in-Bad.ensures s gs in
     let place : c.self-in-Bad.inside.place ≡ c.go.new.self.place = place_is _ _ (c.self-in-Bad.view_is ∙ look.is) in
     let at : c.at_place-fault.result ≡ at_place c.go.new.self.place c.in-Bad.fault = c.at_place-fault.ensures ∙ ap (λ p. at_place p c.in-Bad.fault) place in
-    ap (Answers (Faulty c.at_place-fault.result)) (c.fail.ensures ∙ ap (failing c.at_place-fault.result) (same_state c.go.new.self c.look.new.self s look.state look.is look.same gs))
+    ap (Answers (Faulty c.at_place-fault.result)) (c.fail.ensures ∙ ap (failing c.at_place-fault.result) (same_state c.go.new.self c.look.new.self s look.state look.is look.shows.same gs))
     ∙ ap (λ f. Answers (Faulty f) (failing f c.go.new.self)) at
     ∙ turned_at g.F.Format.stands c.args.ended c.args.self.now c.go.new.self c.look.new.self s _ st c.go.ensures (omega (arith, owing, c.if-self-gt0.false)) look
 
@@ -60,7 +60,7 @@ returns-in-Holds-clause-value g c =
     let gs : c.go.new.self.stage ≡ At s = stage_is _ _ c.go.ensures ∙ st in
     let owing = owing_is _ _ c.self-2.view_is in
     let look = c.in-Holds.ensures s gs in
-    found_is c.in-Holds.moment c.in-Holds.from c.in-Holds.bytes _ _
+    found_is c.in-Holds.seen _ _
     (passed_over c.go.new.self c.look.new.self c.pass-in-Holds.new.self s look.state c.in-Holds.size look.is c.pass-in-Holds.ensures)
     ∙ turned_at g.F.Format.stands c.args.ended c.args.self.now c.go.new.self c.look.new.self s _ st c.go.ensures (omega (arith, owing, c.if-self-gt0.false)) look
 
@@ -71,4 +71,4 @@ returns-in-Holds-clause-held g c =
     let gs : c.go.new.self.stage ≡ At s = stage_is _ _ c.go.ensures ∙ st in
     let look = c.in-Holds.ensures s gs in
     let held = held_is _ _ (passed_over c.go.new.self c.look.new.self c.pass-in-Holds.new.self s look.state c.in-Holds.size look.is c.pass-in-Holds.ensures) in
-    record { there = omega (arith, held, look.held.whole, look.held.there); in_time = look.held.in_time; short = look.held.short }
+    record { there = omega (arith, held, look.shows.within.whole, look.shows.within.there); in_time = look.shows.within.in_time; short = look.shows.within.short }
