@@ -106,19 +106,53 @@ fn finished(alloc: Global, setup: Setup, tree: &Tree, tables: Tables) -> Result<
     })
 }
 
-/// The second and the third pass over the tables of a file.
+/// The second and the third pass over the tables of a file, by the setup of these. Answers the tree.
 #[tactic(auto, unfolding(crate::specs::Topologies::resolved))]
+fn passed(alloc: Global, setup: &Setup, tables: &Tables) -> Result<Tree, TopoFault>
+    requires ranges { AreInRange tables.now }
+    requires bare { setup.now ≡ bare tables.now }
+    ensures exact { GivesSeen (λ tree. topology_seen tree tables.now) result (resolved tables.now) }
+    ensures tree { IfOk result (λ tree. tree ≡ shape_of setup.now) }
+    ensures valid { OnOk result (IsValid setup.now) }
+    ensures named { IfOk result (λ tree. each_ok (port_table_ok tree) tables.now.ports 0 tables.now.ports ≡ Ok tt) }
+{
+    check_tree(alloc, setup)?;
+    let tree = Tree::new(alloc, setup)?;
+    match check_ports(alloc, &tree, tables) {
+        Ok(()) => Ok(tree),
+        Err(fault) => {
+            drop(tree);
+            Err(fault)
+        }
+    }
+}
+
+/// The second and the third pass over the tables of a file. What is owned goes by calls, since an early end is far longer to
+/// prove where it lets it go.
 fn resolved(alloc: Global, tables: Tables) -> Result<Topology, TopoFault>
     requires { AreInRange tables }
     ensures exact { GivesSeen topology_view result (resolved tables) }
     ensures valid { IfOk result (λ t. IsValid t.setup) }
 {
-    let setup = bare(alloc, &tables)?;
-    check_tree(alloc, &setup)?;
-    let tree = Tree::new(alloc, &setup)?;
-    check_ports(alloc, &tree, &tables)?;
-    let topology = finished(alloc, setup, &tree, tables)?;
-    Ok(topology)
+    let setup = match bare(alloc, &tables) {
+        Ok(setup) => setup,
+        Err(_) => {
+            drop(tables);
+            return Err(TopoFault::Memory);
+        }
+    };
+    match passed(alloc, &setup, &tables) {
+        Ok(tree) => {
+            let topology = finished(alloc, setup, &tree, tables);
+            drop(tree);
+            Ok(topology?)
+        }
+        Err(fault) => {
+            drop(setup);
+            drop(tables);
+            Err(fault)
+        }
+    }
 }
 
 /// The topology of a file, or its first fault. A file of more than 16,777,216 bytes is Large, and one that
