@@ -8,7 +8,7 @@ use Rattle.exb_outputs.proofs.OutputLemmas.{no_more}
 use Rattle.exb_writers.proofs.Lines.{cut_lines, more_lines}
 use Rattle.exb_outputs.proofs.Sizes.{same_none, same_then}
 use Rattle.exb_outputs.proofs.ShelvingLemmas.{writes_from, writes_none, writes_then}
-use Rattle.exb_writers.proofs.journal.write_events.Goals as goal
+use Rattle.exb_writers.proofs.journal.write_each.Goals as goal
 
 pub loop-event-init : goal.loop-event-init
 loop-event-init g c =
