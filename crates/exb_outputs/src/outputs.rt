@@ -24,6 +24,12 @@ use exb_text::laws::file_names_differ;
 use exb_text::{Output, file_name};
 use std::alloc::Global;
 
+/// How many bytes a piece first has room for, where it gets any.
+const FIRST: usize = 4_096;
+
+/// How many bytes a piece then has room for at once: those of a whole one, and of a frame that goes past its end.
+const WHOLE: usize = 67_584;
+
 /// An output while it is written.
 #[derive(Drop)]
 struct Unfinished {
@@ -154,6 +160,31 @@ fn flush<S: Shelf>(shelf: &mut S, file: &mut Unfinished) -> Result<(), ShelfFaul
     Ok(())
 }
 
+/// Makes room behind a piece, a little at first and then for a whole one, so that it isn't copied over and over as it grows.
+#[cold]
+#[inline(never)]
+fn make_room(piece: &mut Vec<u8>)
+    ensures { piece.new.items ≡ piece.old.items }
+{
+    let room = if piece.capacity() < FIRST {
+        FIRST
+    } else {
+        WHOLE
+    };
+    // Where there is no memory for it, the piece gets what it needs by itself.
+    let _ = piece.reserve(room.saturating_sub(piece.len()));
+}
+
+/// Makes room behind a piece where so many bytes have none.
+#[inline(always)]
+fn see_to_room(piece: &mut Vec<u8>, more: usize)
+    ensures { piece.new.items ≡ piece.old.items }
+{
+    if piece.capacity().wrapping_sub(piece.len()) < more {
+        make_room(piece);
+    }
+}
+
 /// Puts bytes behind a piece, and writes the piece where it is full.
 #[inline(always)]
 fn add<S: Shelf>(shelf: &mut S, file: &mut Unfinished, bytes: &[u8]) -> Result<(), ShelfFault>
@@ -170,6 +201,7 @@ fn add<S: Shelf>(shelf: &mut S, file: &mut Unfinished, bytes: &[u8]) -> Result<(
     ensures kept { (j : ℕ) → S.ids shelf.new j ≡ S.ids shelf.old j }
     ensures faults { CountsWrites result (S.faults shelf.old) (S.faults shelf.new) }
 {
+    see_to_room(&mut file.piece, bytes.len());
     if file.piece.extend_from_slice(bytes).is_err() {
         return Err(ShelfFault::Memory);
     }
@@ -200,6 +232,7 @@ fn add_record<S: Shelf>(
     ensures kept { (j : ℕ) → S.ids shelf.new j ≡ S.ids shelf.old j }
     ensures faults { CountsWrites result (S.faults shelf.old) (S.faults shelf.new) }
 {
+    see_to_room(&mut file.piece, head.len());
     if file.piece.extend_from_slice(head).is_err() {
         return Err(ShelfFault::Memory);
     }

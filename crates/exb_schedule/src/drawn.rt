@@ -314,6 +314,7 @@ fn play_drawn(
 /// Plays a segment of a seeded run: one draw after another says what comes next, of the segment, of the words on the links, or a beat;
 /// what is left after 64 draws for each command and each arrival and 64 more is given in order. Then all is settled and marked. A
 /// world in which memory runs out has failed.
+#[inline(never)]
 pub fn seeded(
     world: &mut World,
     rng: &mut Lcg64Xsh32,

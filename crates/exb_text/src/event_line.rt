@@ -1,9 +1,9 @@
 //! Lines of the journal.
-ghost use Rattle.std.specs.Prelude.{◌≡◌, ◌∷◌, ◌++◌, [], Some, IfOk, OnOk, OnErr, string_bytes};
+ghost use Rattle.std.specs.Prelude.{◌≡◌, ◌∷◌, ◌++◌, [], Some, flat_map, IfOk, IfSome, OnOk, OnErr, string_bytes};
 ghost use Rattle.exb_model.specs.Texts.{line_of, cause_text};
 
 use crate::PortName;
-use crate::quick_line::{ROOM, quick_line};
+use crate::quick_line::{ROOM, last_line, quick_lines};
 use exb_model::event::{Cause, Event};
 use exb_model::memory::NoMemory;
 use std::alloc::Global;
@@ -59,10 +59,10 @@ pub fn write_line(text: &mut String, event: &Event) -> Result<(), NoMemory>
     Ok(text.push_str(line.as_str())?)
 }
 
-/// Room for one line of the journal, which is kept from line to line.
+/// Room for lines of the journal, which is kept from line to line.
 #[derive(Drop)]
 pub struct LineRoom {
-    /// A line that comes with frames is written from its end.
+    /// Lines that come with frames are written from their end.
     quick: [u8; ROOM],
     /// Any other line is written by the formatter.
     text: String,
@@ -88,12 +88,25 @@ impl LineRoom {
         }
     }
 
-    /// The line of an event, with its newline.
+    /// The lines of events, each with its newline, where all are such as come with a frame and there is room for them.
     #[inline(always)]
+    pub fn lines(&mut self, events: &[Event]) -> Option<&[u8]>
+        ensures { IfSome result (λ lines. lines.now ≡ flat_map (λ e. line_of e ++ 10 ∷ []) events.now) }
+    {
+        match quick_lines(&mut self.quick, events) {
+            Some(start) => {
+                let room = &*self;
+                Some(&room.quick[start..])
+            }
+            None => None,
+        }
+    }
+
+    /// The line of an event, with its newline.
     pub fn line(&mut self, event: &Event) -> Result<&[u8], NoMemory>
         ensures { IfOk result (λ line. line.now ≡ line_of event.now ++ 10 ∷ []) }
     {
-        match quick_line(&mut self.quick, event) {
+        match last_line(&mut self.quick, event) {
             Some(start) => {
                 let room = &*self;
                 Ok(&room.quick[start..])

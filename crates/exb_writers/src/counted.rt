@@ -61,6 +61,7 @@ impl Counted {
     }
 
     /// Counts what has happened: events, whether each relayed frame among them passed, and how many frames left.
+    #[inline(always)]
     pub fn note(&mut self, events: &[Event], passed: &[bool], left: usize)
         requires { CanCount self.old events.now passed.now left }
         ensures tally { counts_of self.new.tally ≡ with_left left (fold (λ c e. counted e c) (counts_of self.old.tally) events.now) }

@@ -38,9 +38,9 @@ fn add_event<S: Shelf>(
     }
 }
 
-/// Puts the lines of events behind the journal.
-#[inline(always)]
-pub fn write_events<S: Shelf>(
+/// Puts the lines of events behind the journal, one after another.
+#[inline(never)]
+fn write_each<S: Shelf>(
     shelf: &mut S,
     manifest: &Manifest,
     outputs: &mut Outputs,
@@ -61,4 +61,29 @@ pub fn write_events<S: Shelf>(
         add_event(shelf, manifest, outputs, room, event)?;
     }
     Ok(())
+}
+
+/// Puts the lines of events behind the journal: those of a frame at once.
+#[inline(always)]
+pub fn write_events<S: Shelf>(
+    shelf: &mut S,
+    manifest: &Manifest,
+    outputs: &mut Outputs,
+    room: &mut LineRoom,
+    events: &[Event],
+) -> Result<(), ShelfFault>
+    requires ready { IsReady manifest.now (S.ids shelf.old) outputs.old }
+    ensures ready { IsReady manifest.now (S.ids shelf.new) outputs.new }
+    ensures texts { S.tells → OnOk result ((orig : Files) (text : Output → List ℕ) → HasTexts manifest.now (pieces_of outputs.old) orig (S.file shelf.old) text
+        → HasTexts manifest.now (pieces_of outputs.new) orig (S.file shelf.new) (with_more text output.Journal (lines_of events.now))) }
+    ensures cut { S.tells → OnErr result ((orig : Files) (text : Output → List ℕ) → HasTexts manifest.now (pieces_of outputs.old) orig (S.file shelf.old) text
+        → AreCut manifest.now orig (S.file shelf.new) (with_more text output.Journal (lines_of events.now))) }
+    ensures same { OnOk result (SameCaptures manifest.now outputs.old outputs.new) }
+    ensures only { OnlyWrites S.tells manifest.now (S.file shelf.old) (S.file shelf.new) (S.ids shelf.old) (S.ids shelf.new) }
+    ensures faults { CountsWrites result (S.faults shelf.old) (S.faults shelf.new) }
+{
+    match room.lines(events) {
+        Some(lines) => outputs.write(shelf, manifest, Output::Journal, lines),
+        None => write_each(shelf, manifest, outputs, room, events),
+    }
 }

@@ -71,6 +71,7 @@ fn add_left<S: Shelf>(
 }
 
 /// Puts frames that left behind the captures of their ports.
+#[inline(always)]
 pub fn write_left<S: Shelf>(
     shelf: &mut S,
     manifest: &Manifest,

@@ -6,7 +6,7 @@ use Rattle.exb_text.specs.declared.output.Output.{Output}
 use Rattle.exb_outputs.specs.Sent.{SameCaptures}
 use Rattle.exb_outputs.specs.Shelving.{OnlyWrites}
 use Rattle.exb_outputs.specs.Writing.{pieces_of, HasTexts, IsReady, with_more, lines_of}
-use Rattle.exb_writers.proofs.journal.write_events.Given as goal
+use Rattle.exb_writers.proofs.journal.write_each.Given as goal
 
 abbrev pub invariant-loop-event : goal.invariant-loop-event
 invariant-loop-event g l =
