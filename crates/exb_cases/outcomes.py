@@ -53,6 +53,20 @@ LEARNING = [
      "x1.1 100 60 FFFFFFFFFFFF0200000000010800;x1.2 109 60 0200000000010200000000020800;x1.2 110 60 0200000000010200000000020800",
      "up x1.1; up x1.2; up x1.3; settled; relay x1.1 1; settled; tick 9; relay x1.2 1; settled; tick 1; relay x1.2 2; settled; "
      "x1.1 109/60/08000000 110/60/08000000; x1.2 100/60/08000000; x1.3 100/60/08000000 110/60/08000000;"),
+    # The ageing time is 300 s where none is given.
+    ("bridge = {ports = 3}\n",
+     "b1 100 60 FFFFFFFFFFFF0200000000010800;b2 399 60 0200000000010200000000020800;b2 400 60 0200000000010200000000020800",
+     "settled; relay b1 1; settled; tick 299; relay b2 1; settled; tick 1; relay b2 2; settled; "
+     "b1 399/60/08000000 400/60/08000000; b2 100/60/08000000; b3 100/60/08000000 400/60/08000000;"),
+    # Another one, at a bridge of which all is given, beside an extender with another number than that of its port, over a link that loses.
+    ("links = {fate = 'LP'}\nextender = [{ports = 3, on = 'b2', number = 4}]\n"
+     "bridge = {ports = 10, channels = 9, groups = 8, ageing = 70, out = 'out-'}\n",
+     "b10 100 60 FFFFFFFFFFFF0200000000010800;x4.3 169 60 0200000000010200000000020800;x4.3 170 60 0200000000010200000000020800",
+     "up x4.1; up x4.2; up x4.3; settled; relay b10 1; settled; tick 69; relay x4.3 1; settled; tick 1; relay x4.3 2; settled; "
+     "b1 100/60/08000000 170/60/08000000; b3 100/60/08000000 170/60/08000000; b4 100/60/08000000 170/60/08000000; "
+     "b5 100/60/08000000 170/60/08000000; b6 100/60/08000000 170/60/08000000; b7 100/60/08000000 170/60/08000000; "
+     "b8 100/60/08000000 170/60/08000000; b9 100/60/08000000 170/60/08000000; b10 169/60/08000000 170/60/08000000; "
+     "x4.1 100/60/08000000 170/60/08000000; x4.2 100/60/08000000 170/60/08000000; x4.3 100/60/08000000;"),
     # The type of an E-TAG is a station's own matter; a control frame passes nowhere.
     (TWO,
      "x1.1 100 60 FFFFFFFFFFFF020000000001893F00001000;x1.1 100 60 0180C200000E0200000000010800",
