@@ -38,6 +38,13 @@ FRAMES = [
      "up x1.1; up x1.2; up x1.3; settled; relay x1.1 1; settled; x1.2 100/64/8100B00A; x1.3 100/60/08000000;"),
 ]
 
+# The last port of a bridge and of the last extender, and the first there. Files and lines are named after them.
+FRAMES.append(
+    ("bridge = {ports = 64}\nextender = [{number = 64, on = 'b1', ports = 64}]\nvlan = [{vid = 1, untagged = ['b64', 'x64.1', 'x64.64']}]\n",
+     "b64 100 60 FFFFFFFFFFFF0200000000010800;x64.64 101 60 FFFFFFFFFFFF0200000000020800",
+     "".join(f"up x64.{port}; " for port in range(1, 65)) + "settled; relay b64 1; settled; tick 1; relay x64.64 1; settled; "
+     "b64 101/60/08000000; x64.1 100/60/08000000 101/60/08000000; x64.64 100/60/08000000;"))
+
 # Where frames go once stations were heard.
 LEARNING = [
     # A frame to a station at its own port leaves nowhere.
