@@ -171,7 +171,55 @@ SUMMARY = [
      "arrivals 2 relayed 1 ignored 1 left 1 commits 1 refusals 0"),
 ]
 
-OUTCOMES = [*FRAMES, *LEARNING, *ISOLATION, *COMMANDS, *NUMBERS]
+# A bridge with the external ports b1, b3, b4, b5, and x2.1, x2.2 of an extender on b2.
+SITE = "bridge = {ports = 5}\nextender = [{number = 2, on = 'b2', ports = 2}]\n"
+PORTS = ["b1", "b3", "b4", "b5", "x2.1", "x2.2"]
+
+# Words for ports, and those that they mean.
+WORDS = [
+    ("['b1']", "b1"),
+    ("['x2.2']", "x2.2"),
+    ("['b3-5']", "b3 b4 b5"),
+    ("['b4-4']", "b4"),
+    ("['x2.1-2']", "x2.1 x2.2"),
+    ("['x2.2-2']", "x2.2"),
+    ("['x2.*']", "x2.1 x2.2"),
+    ("['*']", "b1 b3 b4 b5 x2.1 x2.2"),
+    ("[]", ""),
+    ("['x2.2', 'b5', 'b3-4', 'x2.2']", "b3 b4 b5 x2.2"),
+    ("['x2.*', 'b3-5', '*']", "b1 b3 b4 b5 x2.1 x2.2"),
+]
+
+# What a topology says of VLANs: a VLAN, and its members with a tag and without.
+VLANS = [
+    *((f"vlan = [{{vid = 7, tagged = {words}}}]\n", 7, ports, "") for words, ports in WORDS),
+    ("", 1, "", "b1 b3 b4 b5 x2.1 x2.2"),
+    ("vlan = []\n", 1, "", ""),
+    ("vlan = [{vid = 7}]\n", 7, "", ""),
+    *(("vlan = [{vid = 7, last = 9, untagged = ['b1']}]\n", vid, "", port) for vid, port in ((6, ""), (7, "b1"), (8, "b1"), (9, "b1"), (10, ""))),
+    ("vlan = [{vid = 7, tagged = ['b1'], untagged = ['b1', 'b3']}]\n", 7, "", "b1 b3"),
+    *(("vlan = [{vid = 9, tagged = ['b3']}, {vid = 2, untagged = ['b4']}]\n", vid, *ports) for vid, *ports in ((9, "b3", ""), (2, "", "b4"))),
+    ("command = [{at = 0, op = 'vlan', vid = 7}]\n", 7, "", ""),
+    ("command = [{at = 0, op = 'vlan', vid = 7, tagged = ['b1'], untagged = ['x2.*']}]\n", 7, "b1", "x2.1 x2.2"),
+    ("command = [{at = 0, op = 'member', vid = 7, port = 'b1', kind = 'tagged'}]\n", 7, "b1", ""),
+    ("command = [{at = 0, op = 'member', vid = 7, port = 'b1', kind = 'untagged'}]\n", 7, "", "b1"),
+    ("vlan = [{vid = 7, tagged = ['b1', 'b3']}]\ncommand = [{at = 0, op = 'unmember', vid = 7, port = 'b1'}]\n", 7, "b3", ""),
+]
+
+
+def heard(tables, vid, tagged, untagged):
+    """The row of two broadcasts with a tag, at b1 and at x2.2: each leaves at all members but where it came, with a tag or without."""
+    head = f"FFFFFFFFFFFF02000000000181000{vid:03X}0800"
+    left = ""
+    for port in PORTS:
+        form = f"64/81000{vid:03X}" if port in tagged.split() else "60/08000000" if port in untagged.split() else ""
+        sent = [f"{second}/{form}" for at, second in (("b1", 100), ("x2.2", 101)) if at != port and form]
+        left += f" {port} {' '.join(sent)};" if sent else ""
+    commit = "commit 1; settled; " if "command" in tables else ""
+    return SITE + tables, f"b1 100 64 {head};x2.2 101 64 {head}", f"up x2.1; up x2.2; settled; {commit}relay b1 1; settled; tick 1; relay x2.2 1; settled;{left}"
+
+
+OUTCOMES = [*FRAMES, *LEARNING, *ISOLATION, *COMMANDS, *NUMBERS, *(heard(*it) for it in VLANS)]
 
 
 def records_of(frames):
