@@ -38,6 +38,13 @@ FRAMES = [
      "up x1.1; up x1.2; up x1.3; settled; relay x1.1 1; settled; x1.2 100/64/8100B00A; x1.3 100/60/08000000;"),
 ]
 
+# The last port of a bridge and of the last extender, and the first there. Files and lines are named after them.
+FRAMES.append(
+    ("bridge = {ports = 64}\nextender = [{number = 64, on = 'b1', ports = 64}]\nvlan = [{vid = 1, untagged = ['b64', 'x64.1', 'x64.64']}]\n",
+     "b64 100 60 FFFFFFFFFFFF0200000000010800;x64.64 101 60 FFFFFFFFFFFF0200000000020800",
+     "".join(f"up x64.{port}; " for port in range(1, 65)) + "settled; relay b64 1; settled; tick 1; relay x64.64 1; settled; "
+     "b64 101/60/08000000; x64.1 100/60/08000000 101/60/08000000; x64.64 100/60/08000000;"))
+
 # Where frames go once stations were heard.
 LEARNING = [
     # A frame to a station at its own port leaves nowhere.
@@ -53,6 +60,20 @@ LEARNING = [
      "x1.1 100 60 FFFFFFFFFFFF0200000000010800;x1.2 109 60 0200000000010200000000020800;x1.2 110 60 0200000000010200000000020800",
      "up x1.1; up x1.2; up x1.3; settled; relay x1.1 1; settled; tick 9; relay x1.2 1; settled; tick 1; relay x1.2 2; settled; "
      "x1.1 109/60/08000000 110/60/08000000; x1.2 100/60/08000000; x1.3 100/60/08000000 110/60/08000000;"),
+    # The ageing time is 300 s where none is given.
+    ("bridge = {ports = 3}\n",
+     "b1 100 60 FFFFFFFFFFFF0200000000010800;b2 399 60 0200000000010200000000020800;b2 400 60 0200000000010200000000020800",
+     "settled; relay b1 1; settled; tick 299; relay b2 1; settled; tick 1; relay b2 2; settled; "
+     "b1 399/60/08000000 400/60/08000000; b2 100/60/08000000; b3 100/60/08000000 400/60/08000000;"),
+    # Another one, at a bridge of which all is given, beside an extender with another number than that of its port, over a link that loses.
+    ("links = {fate = 'LP'}\nextender = [{ports = 3, on = 'b2', number = 4}]\n"
+     "bridge = {ports = 10, channels = 9, groups = 8, ageing = 70, out = 'out-'}\n",
+     "b10 100 60 FFFFFFFFFFFF0200000000010800;x4.3 169 60 0200000000010200000000020800;x4.3 170 60 0200000000010200000000020800",
+     "up x4.1; up x4.2; up x4.3; settled; relay b10 1; settled; tick 69; relay x4.3 1; settled; tick 1; relay x4.3 2; settled; "
+     "b1 100/60/08000000 170/60/08000000; b3 100/60/08000000 170/60/08000000; b4 100/60/08000000 170/60/08000000; "
+     "b5 100/60/08000000 170/60/08000000; b6 100/60/08000000 170/60/08000000; b7 100/60/08000000 170/60/08000000; "
+     "b8 100/60/08000000 170/60/08000000; b9 100/60/08000000 170/60/08000000; b10 169/60/08000000 170/60/08000000; "
+     "x4.1 100/60/08000000 170/60/08000000; x4.2 100/60/08000000 170/60/08000000; x4.3 100/60/08000000;"),
     # The type of an E-TAG is a station's own matter; a control frame passes nowhere.
     (TWO,
      "x1.1 100 60 FFFFFFFFFFFF020000000001893F00001000;x1.1 100 60 0180C200000E0200000000010800",
@@ -150,7 +171,55 @@ SUMMARY = [
      "arrivals 2 relayed 1 ignored 1 left 1 commits 1 refusals 0"),
 ]
 
-OUTCOMES = [*FRAMES, *LEARNING, *ISOLATION, *COMMANDS, *NUMBERS]
+# A bridge with the external ports b1, b3, b4, b5, and x2.1, x2.2 of an extender on b2.
+SITE = "bridge = {ports = 5}\nextender = [{number = 2, on = 'b2', ports = 2}]\n"
+PORTS = ["b1", "b3", "b4", "b5", "x2.1", "x2.2"]
+
+# Words for ports, and those that they mean.
+WORDS = [
+    ("['b1']", "b1"),
+    ("['x2.2']", "x2.2"),
+    ("['b3-5']", "b3 b4 b5"),
+    ("['b4-4']", "b4"),
+    ("['x2.1-2']", "x2.1 x2.2"),
+    ("['x2.2-2']", "x2.2"),
+    ("['x2.*']", "x2.1 x2.2"),
+    ("['*']", "b1 b3 b4 b5 x2.1 x2.2"),
+    ("[]", ""),
+    ("['x2.2', 'b5', 'b3-4', 'x2.2']", "b3 b4 b5 x2.2"),
+    ("['x2.*', 'b3-5', '*']", "b1 b3 b4 b5 x2.1 x2.2"),
+]
+
+# What a topology says of VLANs: a VLAN, and its members with a tag and without.
+VLANS = [
+    *((f"vlan = [{{vid = 7, tagged = {words}}}]\n", 7, ports, "") for words, ports in WORDS),
+    ("", 1, "", "b1 b3 b4 b5 x2.1 x2.2"),
+    ("vlan = []\n", 1, "", ""),
+    ("vlan = [{vid = 7}]\n", 7, "", ""),
+    *(("vlan = [{vid = 7, last = 9, untagged = ['b1']}]\n", vid, "", port) for vid, port in ((6, ""), (7, "b1"), (8, "b1"), (9, "b1"), (10, ""))),
+    ("vlan = [{vid = 7, tagged = ['b1'], untagged = ['b1', 'b3']}]\n", 7, "", "b1 b3"),
+    *(("vlan = [{vid = 9, tagged = ['b3']}, {vid = 2, untagged = ['b4']}]\n", vid, *ports) for vid, *ports in ((9, "b3", ""), (2, "", "b4"))),
+    ("command = [{at = 0, op = 'vlan', vid = 7}]\n", 7, "", ""),
+    ("command = [{at = 0, op = 'vlan', vid = 7, tagged = ['b1'], untagged = ['x2.*']}]\n", 7, "b1", "x2.1 x2.2"),
+    ("command = [{at = 0, op = 'member', vid = 7, port = 'b1', kind = 'tagged'}]\n", 7, "b1", ""),
+    ("command = [{at = 0, op = 'member', vid = 7, port = 'b1', kind = 'untagged'}]\n", 7, "", "b1"),
+    ("vlan = [{vid = 7, tagged = ['b1', 'b3']}]\ncommand = [{at = 0, op = 'unmember', vid = 7, port = 'b1'}]\n", 7, "b3", ""),
+]
+
+
+def heard(tables, vid, tagged, untagged):
+    """The row of two broadcasts with a tag, at b1 and at x2.2: each leaves at all members but where it came, with a tag or without."""
+    head = f"FFFFFFFFFFFF02000000000181000{vid:03X}0800"
+    left = ""
+    for port in PORTS:
+        form = f"64/81000{vid:03X}" if port in tagged.split() else "60/08000000" if port in untagged.split() else ""
+        sent = [f"{second}/{form}" for at, second in (("b1", 100), ("x2.2", 101)) if at != port and form]
+        left += f" {port} {' '.join(sent)};" if sent else ""
+    commit = "commit 1; settled; " if "command" in tables else ""
+    return SITE + tables, f"b1 100 64 {head};x2.2 101 64 {head}", f"up x2.1; up x2.2; settled; {commit}relay b1 1; settled; tick 1; relay x2.2 1; settled;{left}"
+
+
+OUTCOMES = [*FRAMES, *LEARNING, *ISOLATION, *COMMANDS, *NUMBERS, *(heard(*it) for it in VLANS)]
 
 
 def records_of(frames):

@@ -1,4 +1,3 @@
-//! Captures and words that are cut, have a bit turned, go on, or stand at a limit: what is read of each, or its first fault.
+//! Captures that are cut, have a bit turned, go on, or stand at a limit: what is read of each, or its first fault.
 mod captures;
 mod cases;
-mod words;

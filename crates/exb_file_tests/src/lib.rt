@@ -1,4 +1,4 @@
-//! Tests of files: captures, whole and in pieces, texts, topologies, words and shelves. The topologies are texts behind a driver;
+//! Tests of files: captures, whole and in pieces, texts, topologies and shelves. The topologies are texts behind a driver;
 //! files that are cut or broken are tables of their own. Nothing stands on this crate.
 #![tactic(auto)]
 

@@ -1,11 +1,9 @@
-//! What is written of events, ports and files.
-use crate::compare::{holds, same};
+//! What is written of events.
+use crate::compare::same;
 use exb_model::bytes::Bytes;
 use exb_model::event::{Cause, Event};
 use exb_model::port::PortId;
-use exb_text::{
-    PortName, Tally, capture_file_name, counters_file_name, journal_file_name, write_line,
-};
+use exb_text::write_line;
 use std::alloc::Global;
 use std::process::Abort;
 
@@ -74,46 +72,4 @@ fn each_event_has_its_line(rt: HostRuntime) {
     put_commands(&rt, &mut journal);
     put_ports(&rt, &mut journal);
     same(&rt, journal.as_str(), LINES, "a journal");
-}
-
-#[test]
-fn the_summary_of_one_relayed_frame(rt: HostRuntime) {
-    let mut tally = Tally::new();
-    tally.count(&relay(&rt, rt.alloc()));
-    tally.add_left(7);
-    let line = tally.line(rt.alloc()).expect(&rt, "memory");
-    let wanted = "arrivals 1 relayed 1 ignored 0 left 7 commits 0 refusals 0\n";
-    same(&rt, line.as_str(), wanted, "a summary");
-}
-
-/// The first and the last port of the bridge and of the extenders, and the names of their files.
-const NAMES: [(u16, &str); 4] = [
-    (0, "out-b1.pcap"),
-    (63, "out-b64.pcap"),
-    (64, "out-x1.1.pcap"),
-    (4159, "out-x64.64.pcap"),
-];
-
-// Asserts the name of a port and of its file.
-fn judge_name(rt: &impl Abort, alloc: Global, number: u16, wanted: &str) {
-    let port = port(rt, number);
-    let file = capture_file_name(alloc, "out-", port).expect(rt, "memory");
-    same(rt, file.as_str(), wanted, "a capture");
-    let name = PortName(port).to_string(alloc).expect(rt, "memory");
-    holds(rt, wanted.contains(name.as_str()), wanted);
-}
-
-#[test]
-fn ports_are_counted_from_one_and_files_named_after_them(rt: HostRuntime) {
-    for (number, wanted) in &NAMES {
-        judge_name(&rt, rt.alloc(), *number, wanted);
-    }
-}
-
-#[test]
-fn the_journal_and_the_counters_have_names(rt: HostRuntime) {
-    let journal = journal_file_name(rt.alloc(), "out-").expect(&rt, "memory");
-    same(&rt, journal.as_str(), "out-journal.txt", "a journal");
-    let counters = counters_file_name(rt.alloc(), "out-").expect(&rt, "memory");
-    same(&rt, counters.as_str(), "out-counters.txt", "counters");
 }

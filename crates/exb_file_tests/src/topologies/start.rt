@@ -1,5 +1,4 @@
-//! What a good file says: defaults, words for ports, addresses, and the order of the start.
-use super::told::setup_text;
+//! What a good file says of the start and of commands: words for ports, addresses, and their order.
 use super::*;
 
 const WORDS: [(&str, &str); 11] = [
@@ -122,28 +121,6 @@ const COMMANDS: [(&str, &str); 12] = [
         "at 2 down b1 [Pass, Lose, Twice, Later]; at 4294967295 up b1 []; ",
     ),
 ];
-
-const SETUPS: [(&str, &str); 2] = [
-    ("bridge.ports = 1\n", "1 4094 12288 300 out- [];"),
-    (
-        "[captures]\nb10 = 'b.pcap'\nb9 = 'a.pcap'\n[[extender]]\nports = 3\non = 'b2'\nnumber = 4\n[links]\nfate = 'LP'\n[bridge]\nports = 10\nchannels = 9\ngroups = 8\nageing = 70\nout = 'r/'\n",
-        "10 9 8 70 r/ [Lose, Pass]; ExtenderSetup { number: 4, ports: 3, on: Bridge { port: 2 } }; b10 b.pcap; b9 a.pcap;",
-    ),
-];
-
-// Asserts what a file says but for start and commands.
-fn judge_setup(rt: &impl Abort, alloc: Global, file: &str, wanted: &str) {
-    let topology = topology_of(rt, alloc, file);
-    let text = setup_text(rt, alloc, &topology);
-    same(rt, text.as_str(), wanted, file);
-}
-
-#[test]
-fn what_a_file_leaves_out_has_its_default(rt: HostRuntime) {
-    for (file, wanted) in &SETUPS {
-        judge_setup(&rt, rt.alloc(), file, wanted);
-    }
-}
 
 // Asserts what files say that have this behind what is there of the site.
 fn tell_of_site(rt: &impl Abort, alloc: Global, head: &str, tail: &str, cases: &[(&str, &str)]) {

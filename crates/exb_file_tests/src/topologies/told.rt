@@ -141,41 +141,6 @@ impl Told {
         let fate = format!(in self.alloc; " {fate:?}; ").expect(rt, "memory");
         self.put(rt, fate.as_str());
     }
-
-    // Puts how many there are of what a bridge has, and the front of its outputs.
-    fn put_bridge(&mut self, rt: &impl Abort, topology: &Topology) {
-        let setup = &topology.setup;
-        let numbers = format!(in self.alloc;
-            "{} {} {} {}",
-            setup.ports, setup.channels, setup.groups, setup.ageing
-        );
-        self.put(rt, numbers.expect(rt, "memory").as_str());
-        self.put(rt, " ");
-        self.put(rt, topology.prefix.as_str());
-    }
-
-    // Puts the fate of the links.
-    fn put_links(&mut self, rt: &impl Abort, topology: &Topology) {
-        let fate = topology.fate.as_slice();
-        let fate = format!(in self.alloc; " {fate:?};").expect(rt, "memory");
-        self.put(rt, fate.as_str());
-    }
-
-    fn put_extenders(&mut self, rt: &impl Abort, topology: &Topology) {
-        for extender in topology.setup.extenders.as_slice() {
-            let one = format!(in self.alloc; " {extender:?};").expect(rt, "memory");
-            self.put(rt, one.as_str());
-        }
-    }
-
-    fn put_captures(&mut self, rt: &impl Abort, topology: &Topology) {
-        for capture in topology.captures.as_slice() {
-            self.put_port(rt, &capture.port);
-            self.put(rt, " ");
-            self.put(rt, capture.name.as_str());
-            self.put(rt, ";");
-        }
-    }
 }
 
 /// What the start sets, and then the commands with their seconds and fates: each with a semicolon behind it.
@@ -188,15 +153,5 @@ pub(super) fn commands_text(rt: &impl Abort, alloc: Global, topology: &Topology)
     for timed in topology.commands.as_slice() {
         told.put_timed(rt, timed);
     }
-    told.text
-}
-
-/// All but start and commands.
-pub(super) fn setup_text(rt: &impl Abort, alloc: Global, topology: &Topology) -> String {
-    let mut told = Told::new(alloc);
-    told.put_bridge(rt, topology);
-    told.put_links(rt, topology);
-    told.put_extenders(rt, topology);
-    told.put_captures(rt, topology);
     told.text
 }
