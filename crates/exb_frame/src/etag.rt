@@ -47,6 +47,7 @@ impl ETag {
     }
 
     /// Its eight bytes, with reserved bits and extension bytes 0.
+    #[inline(always)]
     pub fn write(&self) -> [u8; 8]
         requires { TagFits (tag_of self.now) }
         ensures { result ≡ etag_bytes (tag_of self.now) }
@@ -60,7 +61,8 @@ impl ETag {
     }
 }
 
-/// A frame with an E-TAG put in at byte 12, in place of what was in `into`.
+/// A frame with an E-TAG put in at byte 12, in place of what was in `into`. It is put into the place of its call, where most of an E-TAG is known.
+#[inline(always)]
 pub fn tag_into(frame: &[u8], tag: &ETag, into: &mut Vec<u8>) -> Result<(), NoMemory>
     requires long { 12 ≤ length frame.now }
     requires fits { TagFits (tag_of tag.now) }
