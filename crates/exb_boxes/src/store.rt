@@ -56,7 +56,10 @@ impl Store {
     #[inline(always)]
     pub fn keep(&mut self, bytes: Bytes) {
         if self.kept.len() < MOST {
-            let _ = self.kept.push(bytes.into_vec());
+            match self.kept.reserve(1) {
+                Ok(()) => self.kept.push_reserved(bytes.into_vec()),
+                Err(_) => {}
+            }
         }
     }
 }

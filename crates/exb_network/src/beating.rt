@@ -132,7 +132,7 @@ fn beat_all_far(site: &Site, room: &mut Room, core: &mut Core) -> Result<(), NoM
 
 /// A beat: the bridge's ends by extender, then the control, then the extenders.
 #[tactic(auto, unfolding(exb_machine::specs::Stepping::beats_all, exb_machine::specs::Worlds::next_beat))]
-#[inline(never)]
+#[inline(always)]
 pub(crate) fn beat(site: &Site, room: &mut Room, core: &mut Core) -> Result<(), NoMemory>
     requires at { IsAt site.now core.old }
     requires asks { AsksWell site.now.tree (limits_in site.now) (world_in core.old).control }

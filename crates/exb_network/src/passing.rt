@@ -15,7 +15,7 @@ use exb_link::Word;
 use exb_model::memory::NoMemory;
 
 /// A word goes on to a side in another form than that in which it came; its buffer is kept.
-#[inline(never)]
+#[inline(always)]
 fn change(
     site: &Site,
     number: u8,

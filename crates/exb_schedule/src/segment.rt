@@ -45,6 +45,7 @@ fn set_mark(motion: &mut Motion) -> Result<(), WorldFault>
 }
 
 /// Settles and marks.
+#[inline(always)]
 pub(crate) fn end(world: &mut World) -> Result<(), WorldFault>
     requires few { left world.old.fate < 2 ^ 57 }
     ensures ok { OnOk result (HasEnded (network_of world.old) (network_of world.new)) }
@@ -172,6 +173,7 @@ fn play_in_order(
 }
 
 /// Plays a segment of the eager run: it is given in order, all is settled and marked. A world in which memory runs out has failed.
+#[inline(always)]
 pub fn eager(
     world: &mut World,
     seconds: u32,

@@ -231,6 +231,7 @@ impl World {
     }
 
     /// Forgets what happened, and changes nothing else.
+    #[inline(always)]
     pub fn clear(&mut self)
         requires { ⊤ }
         ensures world { world_of (network_of self.new) ≡ world_of (network_of self.old) }
