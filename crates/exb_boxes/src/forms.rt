@@ -5,7 +5,7 @@ ghost use Rattle.exb_extender.specs.Forwarding.{channel_tag};
 ghost use Rattle.exb_extender.specs.Sending.{CanBeGiven, bytes_in};
 
 use exb_extender::Form;
-use exb_frame::etag::{ETag, strip_into};
+use exb_frame::etag::{ETag, strip_into, tag_into};
 use exb_model::memory::NoMemory;
 
 /// A frame as it is, in place of what was in `into`.
@@ -31,21 +31,6 @@ pub fn channel_tag(channel: u16) -> ETag
     }
 }
 
-/// A frame with the E-TAG of a channel put in at byte 12, in place of what was in `into`. It is put into the place of its call, where
-/// all of that E-TAG but the channel is known.
-#[inline(always)]
-fn put_channel(frame: &[u8], channel: u16, into: &mut Vec<u8>) -> Result<(), NoMemory>
-    requires { CanBeGiven frame.now (Form.Tagged channel) }
-    ensures { OnOk result (into.new.items ≡ bytes_in frame.now (Form.Tagged channel)) }
-{
-    into.clear();
-    into.reserve(frame.len().saturating_add(8))?;
-    into.extend_from_slice(&frame[..12])?;
-    into.extend_from_slice(&channel_tag(channel).write())?;
-    into.extend_from_slice(&frame[12..])?;
-    Ok(())
-}
-
 /// A frame in the form in which it is sent, in place of what was in `into`.
 #[inline(always)]
 pub fn put_form(frame: &[u8], form: &Form, into: &mut Vec<u8>) -> Result<(), NoMemory>
@@ -55,6 +40,6 @@ pub fn put_form(frame: &[u8], form: &Form, into: &mut Vec<u8>) -> Result<(), NoM
     match form {
         Form::AsIs => put_whole(frame, into),
         Form::Stripped => strip_into(frame, into),
-        Form::Tagged { channel } => put_channel(frame, *channel, into),
+        Form::Tagged { channel } => tag_into(frame, &channel_tag(*channel), into),
     }
 }
