@@ -86,7 +86,8 @@ fn turn_here(order: &[u8], links: &Direction, place: u8) -> Option<Turn>
     }
 }
 
-/// The first of these links, from a place on, that has a word. Where many have one it is mostly that at the place itself.
+/// The first of these links, from a place on, that has a word. Mostly none has one, and where many have one it is that at the
+/// place itself.
 #[inline(always)]
 fn first_busy(
     order: &[u8],
@@ -100,6 +101,7 @@ fn first_busy(
     ensures found { IfSome result (IsFirst order.now links.now from) }
     ensures none { IfNone result ((k n : ℕ) → from ≤ k → slice_get order.now k ≡ Some n → words_of links.now n ≡ []) }
 {
+    links.next_busy(0)?;
     match turn_here(order, links, from) {
         Some(turn) => Some(turn),
         None => first_among(order, places, links, from),
