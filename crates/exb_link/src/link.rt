@@ -58,23 +58,28 @@ fn push_frame(frames: &mut VecDeque<Sent>, word: Word) -> Result<(), PushBack>
     ensures err { OnErr result (frames.new.items ≡ frames.old.items) }
     ensures back { IfErr result (λ e. e.word ≡ word) }
 {
-    match frames.push_back(Sent { word, behind: 0 }) {
-        Ok(()) => Ok(()),
-        Err(e) => Err(PushBack { word: e.value.word }),
+    match frames.reserve(1) {
+        Ok(()) => {
+            frames.push_back_reserved(Sent { word, behind: 0 });
+            Ok(())
+        }
+        Err(_) => Err(PushBack { word }),
     }
 }
 
-#[cold]
-#[inline(never)]
+#[inline(always)]
 fn push_control(control: &mut VecDeque<Word>, word: Word) -> Result<(), PushBack>
     ensures ok { OnOk result (control.new.items ≡ control.old.items ++ word ∷ []) }
     ensures room { OnOk result (length control.old.items + 1 < 2 ^ 64) }
     ensures err { OnErr result (control.new.items ≡ control.old.items) }
     ensures back { IfErr result (λ e. e.word ≡ word) }
 {
-    match control.push_back(word) {
-        Ok(()) => Ok(()),
-        Err(e) => Err(PushBack { word: e.value }),
+    match control.reserve(1) {
+        Ok(()) => {
+            control.push_back_reserved(word);
+            Ok(())
+        }
+        Err(_) => Err(PushBack { word }),
     }
 }
 
