@@ -91,6 +91,21 @@ class AsItMustBe(Launched):
         self.says(["tools/dist", "refresh"], 0, "as it was")
         self.assertEqual(it.read("dist/record"), first)
 
+    def test_refresh_takes_what_the_gate_left(self):
+        it = self.it
+        self.says(["tools/dist", "refresh", "--from", it.top], 1, "has no crates/exbr/out/exbr")
+        self.says([".ci/run"], 1, "dist: FAILED")
+        before = it.calls()
+        self.says(["tools/dist", "refresh", "--from", it.top], 0, "kit kit one")
+        self.says(["tools/dist", "refresh", "--from", it.top], 1, "no rt in the path", has_rt=False)
+        self.assertEqual(it.calls(), before)
+        self.says(["tools/dist", "check"], 0, "dist/exbr is the program of these sources, by kit one")
+        other = Scratch()
+        self.addCleanup(other.close)
+        other.write("crates/exb_low/src/lib.rt", "other\n")
+        other.run(".ci/run")
+        self.says(["tools/dist", "refresh", "--from", other.top], 1, "has other sources than these")
+
     def test_build_in_any_case(self):
         it = self.refreshed()
         before = it.calls()
