@@ -1,4 +1,4 @@
-"""A minute of the soak with a fixed seed, on the program that EXBR_PROGRAM names."""
+"""Half a minute of the soak with a fixed seed, on the program that EXBR_PROGRAM names."""
 import os
 import subprocess
 import sys
@@ -15,8 +15,8 @@ def soak(*words):
 class Soak(unittest.TestCase):
     @unittest.skipUnless(PROGRAM, "no program is named")
     @unittest.skipIf(sys.version_info < (3, 11), "the models in Python need Python 3.11")
-    def test_a_minute(self):
-        ran = soak("--program", PROGRAM, "--seconds", "60", "--seed", "48", "--quiet")
+    def test_half_a_minute(self):
+        ran = soak("--program", PROGRAM, "--seconds", "30", "--seed", "48", "--quiet")
         self.assertEqual(ran.returncode, 0, ran.stdout + ran.stderr)
         self.assertRegex(ran.stdout.splitlines()[-1], r"^soak: [1-9]\d* runs of [1-9]\d* inputs, 0 unexplained$")
 
