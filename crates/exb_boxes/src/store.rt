@@ -31,18 +31,8 @@ impl Store {
         }
     }
 
-    /// Gives a buffer without room one that was kept, where there is one.
-    #[inline(always)]
-    pub fn lend(&mut self, buffer: &mut Vec<u8>) {
-        if buffer.capacity() > 0 {
-            return;
-        }
-        if let Some(kept) = self.kept.pop() {
-            *buffer = kept;
-        }
-    }
-
     /// A copy of bytes, in a buffer that was kept where there is one.
+    #[inline(always)]
     pub fn copy(&mut self, alloc: Global, bytes: &[u8]) -> Result<Bytes, NoMemory>
         ensures { IfOk result (λ made. made ≡ bytes.now) }
     {

@@ -1,10 +1,9 @@
 -- What a call leaves in the outbox, and what it changes.
-use Rattle.std.specs.Prelude.{◌≡◌, ℕ, if◌then◌else◌, List, [], ◌∷◌, Option, Some, None}
+use Rattle.std.specs.Prelude.{◌≡◌, ℕ, if◌then◌else◌, Bool, List, [], ◌∷◌, Option, Some, None}
 use Rattle.exb_model.specs.declared.event.Event.TheVariants as event
 use Rattle.exb_model.specs.Configuration.{Bridge}
 use Rattle.exb_model.specs.Learning.{passes}
-use Rattle.exb_model.specs.Input.{Arrival}
-use Rattle.exb_model.specs.EagerHistory.{is_relayed, arrival_event}
+use Rattle.exb_model.specs.EagerHistory.{is_relayed}
 use Rattle.exb_learn.specs.Calls.{Table, Tick, after_call}
 use Rattle.exb_learn.specs.Entries.{Entries, table_of, look_of}
 use Rattle.exb_learn.specs.Histories.{relay_call, after_any}
@@ -43,26 +42,28 @@ pub record IsStill (old new : Parts) (out : Outbox) : Type 0 where
   pub quiet : IsQuiet out
 
 -- ---- frames
--- what a frame that comes to a bridge teaches
-abbrev pub taught : Bridge → Arrival → Table → Table
-taught b a t = if is_relayed b a.port a.bytes then after_any (relay_call a.port a.bytes (passes b a.port a.bytes)) t else t
+-- what a frame that comes to a port of a bridge teaches
+abbrev pub taught : Bridge → ℕ → List ℕ → Table → Table
+taught b p f t = if is_relayed b p f then after_any (relay_call p f (passes b p f)) t else t
 
 -- what is sent for it, with what is learned before it
-abbrev pub sends_for : ActiveConfig → Entries → Arrival → List SendTo
-sends_for v learned a =
-    if is_relayed (bridge_in v) a.port a.bytes then sends_of v.shape (bridge_in v) (look_of learned) (numbers_of v.spaces) a.port a.bytes
+abbrev pub sends_for : ActiveConfig → Entries → ℕ → List ℕ → List SendTo
+sends_for v learned p f =
+    if is_relayed (bridge_in v) p f then sends_of v.shape (bridge_in v) (look_of learned) (numbers_of v.spaces) p f
     else []
 
-abbrev pub ingress_for : Bridge → Arrival → Ingress
-ingress_for b a = if is_relayed b a.port a.bytes then ingress_of b a.port a.bytes else ingress.Dropped
+abbrev pub ingress_for : Bridge → ℕ → List ℕ → Ingress
+ingress_for b p f = if is_relayed b p f then ingress_of b p f else ingress.Dropped
 
--- A frame came: it is relayed or ignored, and what it teaches is learned. Nothing else has changed.
-pub record HasCome (a : Arrival) (old new : Parts) (out : Outbox) : Type 0 where
-  pub events : out.events ≡ arrival_event (bridge_in old.active) a ∷ []
+-- Frame f came to port p: whether it is relayed is the answer, and what it teaches is learned. Nothing is told or asked, and
+-- nothing else has changed.
+pub record HasCome (p : ℕ) (f : List ℕ) (answer : Bool) (old new : Parts) (out : Outbox) : Type 0 where
+  pub relayed : answer ≡ is_relayed (bridge_in old.active) p f
+  pub events : out.events ≡ []
   pub asks : out.asks ≡ []
-  pub sends : out.sends.items ≡ sends_for old.active old.learned a
-  pub ingress : out.ingress ≡ ingress_for (bridge_in old.active) a
-  pub table : table_of new.learned ≡ taught (bridge_in old.active) a (table_of old.learned)
+  pub sends : out.sends.items ≡ sends_for old.active old.learned p f
+  pub ingress : out.ingress ≡ ingress_for (bridge_in old.active) p f
+  pub table : table_of new.learned ≡ taught (bridge_in old.active) p f (table_of old.learned)
   pub rest : new ≡ record old { learned = new.learned }
 
 -- the VLAN in which a frame passes

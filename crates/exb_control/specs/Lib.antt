@@ -7,4 +7,3 @@ pub mod Steps
 pub mod Spelled
 pub mod Soundness
 pub mod Insides
-pub mod Arrivals

@@ -9,7 +9,7 @@ ghost use Rattle.exb_learn.specs.Entries.{table_of};
 
 use crate::active_config::ActiveConfig;
 use crate::announcements::Heard;
-use crate::frames::{Arrived, arrive};
+use crate::frames::arrive;
 use crate::jobs::first_jobs;
 use crate::numbers::{channel_of, port_of};
 use crate::outbox::Outbox;
@@ -44,7 +44,6 @@ pub enum ControlFault {
 /// had; each later call that can answer so then says that it has failed, and changes nothing.
 #[derive(Drop)]
 pub struct Control {
-    alloc: Global,
     core: Core,
     queue: Queue<Job>,
     heard: Heard,
@@ -97,7 +96,6 @@ impl Control {
             learned: Learned::new(alloc, setup.ageing),
         };
         Ok(Control {
-            alloc,
             core,
             queue,
             heard: Heard::new(setup),
@@ -219,18 +217,16 @@ impl Control {
         }
     }
 
-    /// A frame comes to the bridge: record `index` (from 1) of an external port, at `moment` nanoseconds. It is ignored, or
-    /// relayed by what is learned before it, and then learned from.
+    /// A frame comes to an external port of the bridge. The answer is whether it is relayed, by what is learned before it, and then
+    /// learned from, or else ignored.
     pub fn frame(
         &mut self,
         port: PortId,
-        index: u64,
-        moment: u64,
         frame: &[u8],
         out: &mut Outbox,
-    ) -> Result<(), ControlFault>
+    ) -> Result<bool, ControlFault>
         requires { is_external self.old.active.shape port ≡ true }
-        ensures ok { OnOk result (HasCome (record { port = port; index = index; moment = moment; bytes = frame.now }) self.old self.new out.new) }
+        ensures ok { IfOk result (λ relayed. HasCome port frame.now relayed self.old self.new out.new) }
         ensures failed { (result ≡ Err ControlFault.Failed) ↔ (self.old.failed ≡ true) }
         ensures memory { OnErr result (self.new.failed ≡ true) }
         ensures still { self.old.failed ≡ true → IsStill self.old self.new out.new }
@@ -241,24 +237,14 @@ impl Control {
         if self.failed {
             return Err(ControlFault::Failed);
         }
-        let arrived = Arrived {
-            port,
-            index,
-            moment,
-            bytes: frame,
-        };
-        let done = arrive(
-            self.alloc,
-            &self.core.active,
-            &mut self.core.learned,
-            &arrived,
-            out,
-        );
-        if done.is_err() {
-            self.failed = true;
-            return Err(ControlFault::Memory);
+        let core = &mut self.core;
+        match arrive(&core.active, &mut core.learned, port, frame, out) {
+            Ok(relayed) => Ok(relayed),
+            Err(_) => {
+                self.failed = true;
+                Err(ControlFault::Memory)
+            }
         }
-        Ok(())
     }
 
     /// The clock goes on.

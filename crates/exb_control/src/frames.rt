@@ -1,11 +1,10 @@
 //! Frames that come to the bridge: they are ignored, or relayed and then learned from.
-ghost use Rattle.std.specs.Prelude.{◌≡◌, ◌≤◌, ◌∷◌, [], true, length, IfOk, OnOk};
-ghost use Rattle.exb_model.specs.EagerHistory.{is_relayed, arrival_event};
+ghost use Rattle.std.specs.Prelude.{◌≡◌, ◌≤◌, [], true, length, IfOk, OnOk};
+ghost use Rattle.exb_model.specs.EagerHistory.{is_relayed};
 ghost use Rattle.exb_config.specs.Tables.{bridge_of};
 ghost use Rattle.exb_learn.specs.Entries.{table_of};
 ghost use Rattle.exb_learn.specs.Histories.{relay_call, after_any};
 ghost use Rattle.exb_control.specs.ActiveConfigs.{bridge_in};
-ghost use Rattle.exb_control.specs.Arrivals.{arrival_of};
 ghost use Rattle.exb_control.specs.Boxes.{taught, sends_for, ingress_for, vid_in};
 
 use crate::active_config::ActiveConfig;
@@ -13,22 +12,9 @@ use crate::outbox::Outbox;
 use exb_config::Config;
 use exb_frame::{is_relayed_kind, source};
 use exb_learn::Learned;
-use exb_model::bytes::Bytes;
-use exb_model::event::Event;
 use exb_model::memory::NoMemory;
 use exb_model::port::PortId;
 use exb_relay::{Ingress, relay};
-use std::alloc::Global;
-use std::mem;
-
-/// A frame that came: record `index` of its port, at `moment` nanoseconds.
-#[derive(Clone, Copy)]
-pub(crate) struct Arrived<'a> {
-    pub(crate) port: PortId,
-    pub(crate) index: u64,
-    pub(crate) moment: u64,
-    pub(crate) bytes: &'a [u8],
-}
 
 /// Whether a frame that comes to a port is relayed: the port is present, and the frame isn't short, long or
 /// reserved.
@@ -54,57 +40,37 @@ fn learn(learned: &mut Learned, port: PortId, frame: &[u8], ingress: &Ingress)
     }
 }
 
-/// The event of a frame that is relayed, with its bytes in memory that was kept for them.
-fn relayed(alloc: Global, arrived: &Arrived, spare: &mut Vec<u8>) -> Result<Event, NoMemory>
-    ensures { IfOk result (λ event. event ≡ Event.Relay arrived.now.port arrived.now.index arrived.now.moment arrived.now.bytes.now) }
-{
-    let mut bytes = mem::replace(spare, Vec::new(alloc));
-    bytes.clear();
-    bytes.extend_from_slice(arrived.bytes)?;
-    Ok(Event::Relay {
-        port: arrived.port,
-        index: arrived.index,
-        moment: arrived.moment,
-        bytes: Bytes::from_vec(bytes),
-    })
-}
-
-/// A frame comes into an empty outbox. It is looked up before it is learned from.
+/// A frame comes, into an empty outbox; the answer is whether it is relayed. It is looked up before it is learned from.
 pub(crate) fn arrive(
-    alloc: Global,
     active: &ActiveConfig,
     learned: &mut Learned,
-    arrived: &Arrived,
+    port: PortId,
+    frame: &[u8],
     out: &mut Outbox,
-) -> Result<(), NoMemory>
-    requires events { out.old.events ≡ [] }
+) -> Result<bool, NoMemory>
     requires sends { out.old.sends.items ≡ [] }
     requires ingress { out.old.ingress ≡ Ingress.Dropped }
-    ensures events { OnOk result (out.new.events ≡ arrival_event (bridge_in active.now) (arrival_of arrived.now) ∷ []) }
+    ensures relayed { IfOk result (λ relayed. relayed ≡ is_relayed (bridge_in active.now) port frame.now) }
+    ensures events { out.new.events ≡ out.old.events }
     ensures asks { out.new.asks ≡ out.old.asks }
-    ensures sends { OnOk result (out.new.sends.items ≡ sends_for active.now learned.old (arrival_of arrived.now)) }
-    ensures ingress { OnOk result (out.new.ingress ≡ ingress_for (bridge_in active.now) (arrival_of arrived.now)) }
-    ensures table { OnOk result (table_of learned.new ≡ taught (bridge_in active.now) (arrival_of arrived.now) (table_of learned.old)) }
+    ensures sends { OnOk result (out.new.sends.items ≡ sends_for active.now learned.old port frame.now) }
+    ensures ingress { OnOk result (out.new.ingress ≡ ingress_for (bridge_in active.now) port frame.now) }
+    ensures table { OnOk result (table_of learned.new ≡ taught (bridge_in active.now) port frame.now (table_of learned.old)) }
 {
-    if !is_relayed(active.config(), arrived.port, arrived.bytes) {
-        return out.events.push(Event::Ignored {
-            port: arrived.port,
-            index: arrived.index,
-        });
+    if !is_relayed(active.config(), port, frame) {
+        return Ok(false);
     }
     learned.reserve()?;
-    let event = relayed(alloc, arrived, &mut out.spare)?;
-    out.events.push(event)?;
     active.is_active_config();
     out.ingress = relay(
         active.tree(),
         active.config(),
         learned,
         active.spaces(),
-        arrived.port,
-        arrived.bytes,
+        port,
+        frame,
         &mut out.sends,
     );
-    learn(learned, arrived.port, arrived.bytes, &out.ingress);
-    Ok(())
+    learn(learned, port, frame, &out.ingress);
+    Ok(true)
 }

@@ -10,7 +10,7 @@ use exb_relay::{Ingress, SendTo};
 use std::alloc::Global;
 
 /// What happened in a call, the messages that go out to extenders, and what is sent for a frame. Each call fills it
-/// anew.
+/// anew. Of a frame nothing is told here: whoever calls has its bytes, and tells what the call answers.
 #[derive(Drop)]
 pub struct Outbox {
     pub events: List<Event>,
@@ -18,8 +18,6 @@ pub struct Outbox {
     pub sends: ArrayVec<SendTo, 256>,
     /// What became of the frame at its port.
     pub ingress: Ingress,
-    /// Memory for the bytes of the next event of a frame, which whoever calls may put here. What it holds has no meaning.
-    pub spare: Vec<u8>,
 }
 
 impl Outbox {
@@ -34,7 +32,6 @@ impl Outbox {
             asks: List::new(alloc),
             sends: ArrayVec::new(),
             ingress: Ingress::Dropped,
-            spare: Vec::new(alloc),
         }
     }
 

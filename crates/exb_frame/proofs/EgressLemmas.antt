@@ -80,11 +80,15 @@ pub tagged_is : (f : List ℕ) (prio v : ℕ) →
 unfolding egress_with
 tagged_is f prio v = ap (λ xs. xs ++ body_after f (kind_of f)) (sym (append_assoc (take 12 f) (two_bytes 0x8100) (two_bytes (prio * 4096 + v))))
 
-pub untagged_is : (f : List ℕ) (prio v : ℕ) → (take 12 f ++ []) ++ body_after f (kind_of f) ≡ egress_with prio f Untagged v
+pub untagged_is : (f : List ℕ) (prio v : ℕ) → take 12 f ++ body_after f (kind_of f) ≡ egress_with prio f Untagged v
 unfolding egress_with
-untagged_is f prio v = ap (λ xs. xs ++ body_after f (kind_of f)) (append-nil (take 12 f))
+untagged_is f prio v = refl
 
 -- with the frame's own priority
+-- one without a VLAN tag leaves untagged as it is
+pub whole_is : (f body : List ℕ) → body ≡ drop 12 f → f ≡ take 12 f ++ body
+whole_is f body is = sym (take-append-drop 12 f) ∙ ap (λ xs. take 12 f ++ xs) (sym is)
+
 pub own_is : (f : List ℕ) (kind : Kind) (prio v : ℕ) → prio ≡ priority_of (kind_of f) → egress_with prio f kind v ≡ egress f kind v
 unfolding egress_with egress
 own_is f Untagged prio v e = refl
@@ -99,6 +103,9 @@ body_short f seen.Short = omega (arith, length-drop 12 f)
 body_short f seen.Long = omega (arith, length-drop 12 f)
 body_short f seen.Reserved = omega (arith, length-drop 12 f)
 body_short f seen.BadTag = omega (arith, length-drop 12 f)
+
+pub untagged_short : (f : List ℕ) → can_leave (kind_of f) ≡ true → length (take 12 f ++ body_after f (kind_of f)) ≤ 9220
+untagged_short f leaves = omega (arith, leaves_fit f leaves, leaves_long f leaves, length-append (take 12 f) (body_after f (kind_of f)), length-take 12 f, body_short f (kind_of f))
 
 pub parts_short : (f between tag : List ℕ) → can_leave (kind_of f) ≡ true → length tag ≤ 4 → length (take 12 f ++ between ++ tag ++ body_after f (kind_of f)) ≤ 9220 + length between
 parts_short f between tag leaves few =

@@ -72,6 +72,19 @@ fn put_parts(frame: &[u8], between: &[u8], tag: &[u8], into: &mut Vec<u8>) -> Re
     put(body_after(frame), into)
 }
 
+/// A frame without its VLAN tag: as it is where it has none.
+#[inline(always)]
+fn put_untagged(frame: &[u8], into: &mut Vec<u8>) -> Result<(), NoMemory>
+    requires { can_leave (kind_of frame.now) ≡ true }
+    ensures { OnOk result (into.new.items ≡ take 12 frame.now ++ body_after frame.now (kind_of frame.now)) }
+{
+    if has_tag(frame) {
+        return put_parts(frame, &[], &[], into);
+    }
+    begin(frame.len(), into)?;
+    put(frame, into)
+}
+
 /// The bytes with which a frame leaves, with bytes put in behind its addresses.
 #[inline(always)]
 fn put_egress(
@@ -107,7 +120,10 @@ pub fn egress_into(
     ensures own { OnOk result (priority tag.now.pcp tag.now.dei ≡ priority_of (kind_of frame.now) → into.new.items ≡ egress frame.now kind tag.now.vid) }
     ensures short { OnOk result (length into.new.items ≤ 9220) }
 {
-    put_egress(frame, kind, tag, &[], into)
+    match kind {
+        Kind::Tagged => put_egress(frame, kind, tag, &[], into),
+        Kind::Untagged => put_untagged(frame, into),
+    }
 }
 
 /// The same bytes with an E-TAG put in at byte 12.

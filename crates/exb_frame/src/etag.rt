@@ -85,15 +85,13 @@ pub fn strip_into(frame: &[u8], into: &mut Vec<u8>) -> Result<(), NoMemory>
     put(&frame[20..], into)
 }
 
-/// Takes the eight bytes at byte 12 out where they stand: the addresses are moved, and the frame without them is what stands
-/// from byte 8 on.
+/// Takes the eight bytes at byte 12 out where they stand: what follows them is moved into their place.
 #[inline(always)]
 pub fn strip_in_place(bytes: &mut Vec<u8>)
     requires { 20 ≤ length bytes.old.items }
-    ensures stripped { drop 8 bytes.new.items ≡ stripped bytes.old.items }
-    ensures len { length bytes.new.items ≡ length bytes.old.items }
+    ensures { bytes.new.items ≡ stripped bytes.old.items }
 {
-    let mut addresses = [0u8; 12];
-    addresses.copy_from_slice(&bytes[..12]);
-    bytes[8..20].copy_from_slice(&addresses);
+    let len = bytes.len();
+    bytes.copy_within(20.., 12);
+    bytes.truncate(len - 8);
 }

@@ -1,8 +1,9 @@
 //! A word that an extender sends on to one side alone.
-ghost use Rattle.std.specs.Prelude.{OnOk};
+ghost use Rattle.std.specs.Prelude.{◌≤◌, length, OnOk};
+ghost use Rattle.exb_model.specs.ETags.{stripped};
 ghost use Rattle.exb_extender.specs.Sending.{out_sent};
-ghost use Rattle.exb_machine.specs.Extending.{sends};
-ghost use Rattle.exb_boxes.specs.Forms.{CanGo};
+ghost use Rattle.exb_machine.specs.Extending.{sends, sent_to};
+ghost use Rattle.exb_boxes.specs.Forms.{CanGo, IsSide};
 ghost use Rattle.exb_boxes.specs.Numbers.{IsNumber};
 ghost use Rattle.exb_network.specs.Worlds.{world_in, IsAt, Does};
 
@@ -10,8 +11,10 @@ use crate::arrivals::Came;
 use crate::sending::{send_frame, send_to};
 use crate::site::{Core, Site};
 use exb_boxes::Post;
-use exb_extender::{Form, Out};
+use exb_extender::{Form, Out, Side};
+use exb_frame::etag::strip_in_place;
 use exb_link::Word;
+use exb_model::bytes::Bytes;
 use exb_model::memory::NoMemory;
 
 /// A word goes on to a side in another form than that in which it came; its buffer is kept.
@@ -38,7 +41,30 @@ fn change(
     Ok(())
 }
 
-/// A word goes on to a side, in a form; as it is it isn't copied.
+/// A word goes on to a side without its E-TAG, which is taken out where it stands.
+#[inline(always)]
+fn strip(
+    site: &Site,
+    number: u8,
+    word: Word,
+    to: Side,
+    core: &mut Core,
+    post: &mut Post,
+) -> Result<(), NoMemory>
+    requires at { IsAt site.now core.old }
+    requires number { IsNumber number }
+    requires side { IsSide to }
+    requires long { 20 ≤ length word.bytes }
+    ensures { OnOk result (Does (sent_to site.now.tree number word.stamp to (stripped word.bytes) (world_in core.old)) site.now core.new post.old.log post.new.log) }
+{
+    let Word { bytes, stamp } = word;
+    let mut buffer = bytes.into_vec();
+    strip_in_place(&mut buffer);
+    let bytes = Bytes::from_vec(buffer);
+    send_to(site, number, to, Word { bytes, stamp }, core, post)
+}
+
+/// A word goes on to a side, in a form; as it is, or without its E-TAG, it isn't copied.
 #[inline(always)]
 pub(crate) fn pass_on(
     site: &Site,
@@ -55,6 +81,7 @@ pub(crate) fn pass_on(
 {
     match out.form {
         Form::AsIs => send_to(site, number, out.to, word, core, post),
-        _ => change(site, number, word, out, core, post),
+        Form::Stripped => strip(site, number, word, out.to, core, post),
+        Form::Tagged { .. } => change(site, number, word, out, core, post),
     }
 }

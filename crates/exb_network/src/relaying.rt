@@ -1,6 +1,7 @@
 //! What the bridge does with words that come up to it, and with frames: it hears the one, and relays the other.
-ghost use Rattle.std.specs.Prelude.{◌≡◌, ◌-◌, ◌≤◌, ◌++◌, ◌∷◌, [], true, if◌then◌else◌, OnOk, Some};
+ghost use Rattle.std.specs.Prelude.{◌≡◌, ◌-◌, ◌≤◌, ◌++◌, ◌∷◌, [], true, IfOk, OnOk, Some};
 ghost use Rattle.std.specs.List.{All};
+ghost use Rattle.exb_model.specs.EagerHistory.{is_relayed};
 ghost use Rattle.exb_model.specs.ETags.{read_etag, stripped};
 ghost use Rattle.exb_model.specs.Traces.{Out};
 ghost use Rattle.exb_model.specs.Tree.{HangsOn, is_cascade, is_external};
@@ -8,10 +9,11 @@ ghost use Rattle.exb_control.specs.Boxes.{ingress_for};
 ghost use Rattle.exb_extender.specs.Forwarding.{has_etag_type};
 ghost use Rattle.exb_machine.specs.Effects.{each};
 ghost use Rattle.exb_machine.specs.Extending.{hung_on};
-ghost use Rattle.exb_machine.specs.Relaying.{bridge_takes, comes, comes_from, holder_by, puts_word, sends_for, sends_in, takes_control};
+ghost use Rattle.exb_machine.specs.Relaying.{arrival_by, bridge_takes, comes, comes_from, holder_by, puts_word, sends_for, sends_in, takes_control};
 ghost use Rattle.exb_network.specs.Arrivals.{arrival_of};
 ghost use Rattle.exb_machine.specs.Runs.Asks.{AsksWell};
-ghost use Rattle.exb_network.specs.Sends.{CanSend, HasPassed, is_passed, is_relay_first, passed_in, told_by};
+ghost use Rattle.exb_boxes.specs.declared.log.Log.{Log};
+ghost use Rattle.exb_network.specs.Sends.{CanSend, HasPassed, is_passed, learns, sent_for};
 ghost use Rattle.exb_network.specs.Sites.{limits_in};
 ghost use Rattle.exb_network.specs.Worlds.{world_in, IsAt, Does, HasLeft, KeepsTrace};
 
@@ -19,15 +21,15 @@ use crate::arrivals::Arrived;
 use crate::hearing::hear;
 use crate::sending::hung_on;
 use crate::site::{Core, Room, Site};
-use exb_boxes::log::{add_events, note_out};
-use exb_boxes::{Left, Post, Row};
+use crate::taking::ignore;
+use exb_boxes::log::note_out;
+use exb_boxes::{Left, Log, Post, Row};
 use exb_control::{Ingress, Outbox, SendTo};
 use exb_frame::egress::{VlanTag, egress_into, tagged_egress_into};
 use exb_frame::etag::{E_TAG_TYPE, ETag, strip_in_place, strip_into};
 use exb_link::{Stamp, Word};
 use exb_model::bytes::{Bytes, are_bytes, number_at};
 use exb_model::event::Event;
-use exb_model::list::List;
 use exb_model::memory::NoMemory;
 use exb_model::port::PortId;
 use exb_relay::laws::spaces_number;
@@ -90,6 +92,7 @@ fn put_word(
 }
 
 /// One send of the bridge for a frame that passed with this VLAN tag: it leaves there, or goes down there with an E-TAG.
+#[inline(always)]
 fn send(
     site: &Site,
     arrived: &Arrived,
@@ -121,6 +124,7 @@ fn send(
 }
 
 /// All sends of the bridge for a frame that passed, in order.
+#[inline(never)]
 fn send_all(
     site: &Site,
     arrived: &Arrived,
@@ -140,12 +144,26 @@ fn send_all(
     Ok(())
 }
 
-/// Whether the first of these events is one of a frame that was relayed.
+/// All sends of the bridge for a frame that passed, in order. Mostly there is one.
 #[inline(always)]
-fn is_relay(events: &[Event]) -> bool
-    ensures { result ≡ is_relay_first events.now }
+fn send_each(
+    site: &Site,
+    arrived: &Arrived,
+    tag: &VlanTag,
+    sends: &[SendTo],
+    core: &mut Core,
+    post: &mut Post,
+) -> Result<(), NoMemory>
+    requires at { IsAt site.now core.old }
+    requires passed { HasPassed arrived.now.bytes.now tag.now }
+    requires sends { All CanSend sends.now }
+    ensures { OnOk result (Does (each (sends_in site.now.tree (arrival_of arrived.now) tag.now.vid) sends.now (world_in core.old)) site.now core.new post.old.log post.new.log) }
 {
-    matches!(events.first(), Some(Event::Relay { .. }))
+    if sends.len() == 1 {
+        send(site, arrived, tag, &sends[0], core, post)
+    } else {
+        send_all(site, arrived, tag, sends, core, post)
+    }
 }
 
 /// Whether a frame passed at its port.
@@ -156,56 +174,76 @@ fn has_passed(ingress: &Ingress) -> bool
     matches!(ingress, Ingress::Passed { .. })
 }
 
-/// Tells whether a relayed frame passed.
+/// A frame comes to the bridge's control; the answer is whether it is relayed, and then it is learned from. What is sent for it is
+/// in the outbox.
 #[inline(always)]
-fn put_passed(relayed: bool, passed: bool, to: &mut List<bool>) -> Result<(), NoMemory>
-    ensures { OnOk result (to.new ≡ to.old ++ (if relayed then passed ∷ [] else [])) }
-{
-    if relayed { to.push(passed) } else { Ok(()) }
-}
-
-/// Tells what happened to a frame.
-#[inline(always)]
-fn tell(events: &mut List<Event>, ingress: &Ingress, post: &mut Post) -> Result<(), NoMemory>
-    ensures events { OnOk result (post.new.log.events ≡ post.old.log.events ++ events.old) }
-    ensures passed { OnOk result (post.new.log.passed ≡ post.old.log.passed ++ passed_in events.old ingress.now) }
-    ensures left { post.new.log.left ≡ post.old.log.left }
-    ensures trace { KeepsTrace post.old.log post.new.log }
-{
-    let relayed = is_relay(events.as_slice());
-    put_passed(relayed, has_passed(ingress), &mut post.log.passed)?;
-    add_events(post.alloc, events, &mut post.log.events)
-}
-
-/// A frame comes to the bridge's control: it is ignored, or relayed and then learned from. What is sent for it is in the
-/// outbox.
 fn relay(
     site: &Site,
     arrived: &Arrived,
     outbox: &mut Outbox,
     core: &mut Core,
-    post: &mut Post,
-) -> Result<(), NoMemory>
+) -> Result<bool, NoMemory>
     requires at { IsAt site.now core.old }
     requires external { is_external site.now.tree arrived.now.port ≡ true }
-    ensures does { OnOk result (Does (told_by (arrival_of arrived.now) (world_in core.old)) site.now core.new post.old.log post.new.log) }
+    ensures relayed { IfOk result (λ relayed. relayed ≡ is_relayed (world_in core.old).control.bridge arrived.now.port arrived.now.bytes.now) }
+    ensures does { OnOk result ((log : Log) → Does (learns (arrival_of arrived.now) (world_in core.old)) site.now core.new log log) }
     ensures sends { OnOk result (outbox.new.sends.items ≡ sends_for site.now.tree (world_in core.old) (arrival_of arrived.now)) }
     ensures can { OnOk result (All CanSend outbox.new.sends.items) }
-    ensures ingress { OnOk result (outbox.new.ingress ≡ ingress_for (world_in core.old).control.bridge (arrival_of arrived.now)) }
+    ensures ingress { OnOk result (outbox.new.ingress ≡ ingress_for (world_in core.old).control.bridge arrived.now.port arrived.now.bytes.now) }
 {
     core.control.is_active_config();
     spaces_number();
     let _ = site;
-    let frame = arrived.bytes;
-    are_bytes(frame);
-    post.store.lend(&mut outbox.spare);
-    match core
-        .control
-        .frame(arrived.port, arrived.index, arrived.moment, frame, outbox)
-    {
-        Ok(()) => tell(&mut outbox.events, &outbox.ingress, post),
+    are_bytes(arrived.bytes);
+    match core.control.frame(arrived.port, arrived.bytes, outbox) {
+        Ok(relayed) => Ok(relayed),
         Err(_) => Err(NoMemory),
     }
+}
+
+/// A frame comes to the bridge; the answer is whether it is relayed. It is learned from, and all that is sent for it goes out.
+#[inline(always)]
+fn relay_on(
+    site: &Site,
+    arrived: &Arrived,
+    room: &mut Room,
+    core: &mut Core,
+) -> Result<bool, NoMemory>
+    requires at { IsAt site.now core.old }
+    requires external { is_external site.now.tree arrived.now.port ≡ true }
+    ensures relayed { IfOk result (λ relayed. relayed ≡ is_relayed (world_in core.old).control.bridge arrived.now.port arrived.now.bytes.now) }
+    ensures does { OnOk result (Does (sent_for site.now.tree (arrival_of arrived.now) (world_in core.old)) site.now core.new room.old.post.log room.new.post.log) }
+    ensures ingress { OnOk result (room.new.outbox.ingress ≡ ingress_for (world_in core.old).control.bridge arrived.now.port arrived.now.bytes.now) }
+{
+    are_bytes(arrived.bytes);
+    let relayed = relay(site, arrived, &mut room.outbox, core)?;
+    if let Ingress::Passed { vid, pcp, dei } = &room.outbox.ingress {
+        let tag = VlanTag {
+            pcp: *pcp,
+            dei: *dei,
+            vid: *vid,
+        };
+        let sends = room.outbox.sends.as_slice();
+        send_each(site, arrived, &tag, sends, core, &mut room.post)?;
+    }
+    Ok(relayed)
+}
+
+/// Tells that a frame was relayed, and whether it passed. Its bytes go into what is told.
+#[inline(always)]
+fn tell(stamp: &Stamp, bytes: Bytes, passed: bool, log: &mut Log) -> Result<(), NoMemory>
+    ensures events { OnOk result (log.new.events ≡ log.old.events ++ Event.Relay stamp.now.port stamp.now.index stamp.now.moment bytes ∷ []) }
+    ensures passed { OnOk result (log.new.passed ≡ log.old.passed ++ passed ∷ []) }
+    ensures left { log.new.left ≡ log.old.left }
+    ensures trace { KeepsTrace log.old log.new }
+{
+    log.passed.push(passed)?;
+    log.events.push(Event::Relay {
+        port: stamp.port,
+        index: stamp.index,
+        moment: stamp.moment,
+        bytes,
+    })
 }
 
 /// A frame comes to the bridge: it is ignored, or relayed and then learned from.
@@ -219,20 +257,38 @@ pub(crate) fn come(
     requires external { is_external site.now.tree arrived.now.port ≡ true }
     ensures { OnOk result (Does (comes site.now.tree (arrival_of arrived.now) (world_in core.old)) site.now core.new room.old.post.log room.new.post.log) }
 {
-    are_bytes(arrived.bytes);
-    relay(site, arrived, &mut room.outbox, core, &mut room.post)?;
-    match &room.outbox.ingress {
-        Ingress::Dropped => Ok(()),
-        Ingress::Passed { vid, pcp, dei } => {
-            let tag = VlanTag {
-                pcp: *pcp,
-                dei: *dei,
-                vid: *vid,
-            };
-            let sends = room.outbox.sends.as_slice();
-            send_all(site, arrived, &tag, sends, core, &mut room.post)
-        }
+    if !relay_on(site, arrived, room, core)? {
+        return ignore(arrived, &mut room.post.log);
     }
+    let passed = has_passed(&room.outbox.ingress);
+    let bytes = room.post.store.copy(room.post.alloc, arrived.bytes)?;
+    tell(&arrived.stamp(), bytes, passed, &mut room.post.log)
+}
+
+/// The frame of a word comes to the bridge, as `come`: its bytes are not copied.
+#[inline(always)]
+fn come_in(
+    site: &Site,
+    stamp: &Stamp,
+    bytes: Bytes,
+    room: &mut Room,
+    core: &mut Core,
+) -> Result<(), NoMemory>
+    requires at { IsAt site.now core.old }
+    requires external { is_external site.now.tree stamp.now.port ≡ true }
+    ensures { OnOk result (Does (comes site.now.tree (arrival_by stamp.now.port stamp.now bytes) (world_in core.old)) site.now core.new room.old.post.log room.new.post.log) }
+{
+    let arrived = Arrived {
+        port: stamp.port,
+        index: stamp.index,
+        moment: stamp.moment,
+        bytes: bytes.as_slice(),
+    };
+    if !relay_on(site, &arrived, room, core)? {
+        return ignore(&arrived, &mut room.post.log);
+    }
+    let passed = has_passed(&room.outbox.ingress);
+    tell(stamp, bytes, passed, &mut room.post.log)
 }
 
 /// The port whose channel the E-TAG of a frame names, at a cascade port of the bridge.
@@ -323,16 +379,8 @@ fn take_data(
     }
     let mut buffer = bytes.into_vec();
     strip_in_place(&mut buffer);
-    let (_, frame) = buffer.as_slice().split_at(8);
-    let arrived = Arrived {
-        port,
-        index: stamp.index,
-        moment: stamp.moment,
-        bytes: frame,
-    };
-    come(site, &arrived, room, core)?;
-    room.post.store.keep(Bytes::from_vec(buffer));
-    Ok(())
+    let stamp = Stamp { port, ..stamp };
+    come_in(site, &stamp, Bytes::from_vec(buffer), room, core)
 }
 
 /// The bridge takes a word at its port on which an extender hangs.

@@ -72,22 +72,6 @@ fn take(
     }
 }
 
-/// The first data word of a direction is taken off its link.
-#[inline(always)]
-fn pull_data(site: &Site, number: u8, way: Way, core: &mut Core) -> Option<Word>
-    requires at { IsAt site.now core.old }
-    requires known { IsNumber number }
-    ensures word { result ≡ first_data (words_on number (way_of way) (world_in core.old)) }
-    ensures rest { world_in core.new ≡ with_words number (way_of way) (without_data (words_on number (way_of way) (world_in core.old))) (world_in core.old) }
-    ensures at { IsAt site.now core.new }
-{
-    let _ = site;
-    match way {
-        Way::Up => core.up.take_data(number),
-        Way::Down => core.down.take_data(number),
-    }
-}
-
 /// The control word at a position is taken off its link.
 #[cold]
 #[inline(never)]
@@ -141,6 +125,35 @@ fn copy_control(
     }
 }
 
+/// The first data word that comes up from an extender is taken.
+#[inline(always)]
+fn carry_up(site: &Site, number: u8, room: &mut Room, core: &mut Core) -> Result<(), NoMemory>
+    requires at { IsAt site.now core.old }
+    requires there { is_extender site.now.tree number ≡ true }
+    requires asks { AsksWell site.now.tree (limits_in site.now) (world_in core.old).control }
+    ensures { OnOk result (Does (done_by site.now.tree (limits_in site.now) (Carry number Up) (world_in core.old)) site.now core.new room.old.post.log room.new.post.log) }
+{
+    site.has_low_number(number);
+    match core.up.take_data(number) {
+        None => Ok(()),
+        Some(word) => take_up(site, number, word, room, core),
+    }
+}
+
+/// The first data word that goes down to an extender is taken.
+#[inline(always)]
+fn carry_down(site: &Site, number: u8, room: &mut Room, core: &mut Core) -> Result<(), NoMemory>
+    requires at { IsAt site.now core.old }
+    requires there { is_extender site.now.tree number ≡ true }
+    ensures { OnOk result (Does (done_by site.now.tree (limits_in site.now) (Carry number Down) (world_in core.old)) site.now core.new room.old.post.log room.new.post.log) }
+{
+    site.has_low_number(number);
+    match core.down.take_data(number) {
+        None => Ok(()),
+        Some(word) => take_from_above(site, number, word, room, core),
+    }
+}
+
 /// The first data word of a direction is taken.
 #[inline(never)]
 pub(crate) fn carry(
@@ -155,10 +168,9 @@ pub(crate) fn carry(
     requires asks { AsksWell site.now.tree (limits_in site.now) (world_in core.old).control }
     ensures { OnOk result (Does (done_by site.now.tree (limits_in site.now) (Carry number (way_of way)) (world_in core.old)) site.now core.new room.old.post.log room.new.post.log) }
 {
-    site.has_low_number(number);
-    match pull_data(site, number, way, core) {
-        None => Ok(()),
-        Some(word) => take(site, number, way, word, room, core),
+    match way {
+        Way::Up => carry_up(site, number, room, core),
+        Way::Down => carry_down(site, number, room, core),
     }
 }
 

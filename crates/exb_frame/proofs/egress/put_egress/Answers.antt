@@ -1,4 +1,5 @@
 use Rattle.std.proofs.Common.{◌≡◌, ◌≤◌, ◌+◌, ◌++◌, ℕ, List, [], length, take, ap, sym, subst, arith, ◌∙◌}
+use Rattle.std.proofs.lemmas.List.{append-nil}
 use Rattle.std.proofs.lemmas.Result.{on_ok_weaker}
 use Rattle.exb_model.specs.Frames.{body_after, kind_of}
 use Rattle.exb_frame.specs.Egress.{priority, put_in}
@@ -33,7 +34,7 @@ returns-in-Untagged-clause-bytes c =
     let tag = c.args.tag.now in
     on_ok_weaker c.put_parts-in-Untagged.result (λ done.
     rw c.in-Untagged.is (done ∙ parts_are f between [] (body_after f (kind_of f)) (omega (arith, leaves_long f c.requires.frame))
-    ∙ ap (put_in between) (untagged_is f (priority tag.pcp tag.dei) tag.vid))) c.put_parts-in-Untagged.ensures
+    ∙ ap (put_in between) (ap (λ (xs : List ℕ). xs ++ body_after f (kind_of f)) (append-nil (take 12 f)) ∙ untagged_is f (priority tag.pcp tag.dei) tag.vid))) c.put_parts-in-Untagged.ensures
 
 pub returns-in-Tagged-clause-short : goal.returns-in-Tagged-clause-short
 returns-in-Tagged-clause-short c =
