@@ -81,7 +81,7 @@ fn put_untagged(frame: &[u8], into: &mut Vec<u8>) -> Result<(), NoMemory>
     if has_tag(frame) {
         return put_parts(frame, &[], &[], into);
     }
-    begin(frame.len(), into)?;
+    into.clear();
     put(frame, into)
 }
 

@@ -92,7 +92,6 @@ fn put_word(
 }
 
 /// One send of the bridge for a frame that passed with this VLAN tag: it leaves there, or goes down there with an E-TAG.
-#[inline(always)]
 fn send(
     site: &Site,
     arrived: &Arrived,
@@ -124,7 +123,6 @@ fn send(
 }
 
 /// All sends of the bridge for a frame that passed, in order.
-#[inline(never)]
 fn send_all(
     site: &Site,
     arrived: &Arrived,
@@ -142,28 +140,6 @@ fn send_all(
         send(site, arrived, tag, one, core, post)?;
     }
     Ok(())
-}
-
-/// All sends of the bridge for a frame that passed, in order. Mostly there is one.
-#[inline(always)]
-fn send_each(
-    site: &Site,
-    arrived: &Arrived,
-    tag: &VlanTag,
-    sends: &[SendTo],
-    core: &mut Core,
-    post: &mut Post,
-) -> Result<(), NoMemory>
-    requires at { IsAt site.now core.old }
-    requires passed { HasPassed arrived.now.bytes.now tag.now }
-    requires sends { All CanSend sends.now }
-    ensures { OnOk result (Does (each (sends_in site.now.tree (arrival_of arrived.now) tag.now.vid) sends.now (world_in core.old)) site.now core.new post.old.log post.new.log) }
-{
-    if sends.len() == 1 {
-        send(site, arrived, tag, &sends[0], core, post)
-    } else {
-        send_all(site, arrived, tag, sends, core, post)
-    }
 }
 
 /// Whether a frame passed at its port.
@@ -202,7 +178,7 @@ fn relay(
 }
 
 /// A frame comes to the bridge; the answer is whether it is relayed. It is learned from, and all that is sent for it goes out.
-#[inline(always)]
+#[inline(never)]
 fn relay_on(
     site: &Site,
     arrived: &Arrived,
@@ -224,7 +200,7 @@ fn relay_on(
             vid: *vid,
         };
         let sends = room.outbox.sends.as_slice();
-        send_each(site, arrived, &tag, sends, core, &mut room.post)?;
+        send_all(site, arrived, &tag, sends, core, &mut room.post)?;
     }
     Ok(relayed)
 }

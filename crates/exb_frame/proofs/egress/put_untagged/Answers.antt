@@ -16,4 +16,4 @@ returns-then-has_tag c =
 pub returns : goal.returns
 returns c =
     let f = c.args.frame.now in
-    on_ok_weaker c.put.result (λ done. done ∙ ap (λ (xs : List ℕ). xs ++ f) c.begin.ensures ∙ whole_is f (body_after f (kind_of f)) (c.has_tag.ensures.plain c.if-has_tag.false)) c.put.ensures
+    on_ok_weaker c.put.result (λ done. done ∙ ap (λ (xs : List ℕ). xs ++ f) c.clear.ensures.items ∙ whole_is f (body_after f (kind_of f)) (c.has_tag.ensures.plain c.if-has_tag.false)) c.put.ensures
