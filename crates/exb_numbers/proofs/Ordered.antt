@@ -9,10 +9,10 @@ use Rattle.exb_model.specs.declared.port_set.PortSet.{PortSet}
 use Rattle.exb_model.specs.Ports.{ports_of}
 use Rattle.exb_model.specs.Refusals.{is_empty_set}
 use Rattle.exb_numbers.specs.Groups.{Groups, set_of, sets_of, is_used, lowest_group}
-use Rattle.exb_numbers.specs.Order.{words_of, words_at, is_held, weight, put_at, StandsAt, IsEntered, IsLeft, AreOrdered}
+use Rattle.exb_numbers.specs.Order.{rank_of, ranks_of, ranks_at, is_held, weight, put_at, StandsAt, IsEntered, IsLeft, AreOrdered}
 use Rattle.exb_numbers.proofs.Lowest.{lowest_is, lowest_none}
 use Rattle.exb_numbers.proofs.Rising.{one_index, insert_rising, remove_rising, stands_in_insert, stands_new, stands_in_remove, insert_holds, remove_holds}
-use Rattle.exb_numbers.proofs.Places.{ports_opt, ports_at, get_put, get_put_other, get_set, get_set_other, put_within, put_past, held_set, held_by, same_held, words_is, place_in, get_at, distinct, value}
+use Rattle.exb_numbers.proofs.Places.{ports_opt, ports_at, get_put, get_put_other, get_set, get_set_other, put_within, put_past, held_set, held_by, same_held, ranks_is, place_in, get_at, distinct, value}
 
 -- ---- the lowest free one
 used_place : (v : Groups) (g : ℕ) → 4096 ≤ g → is_used v g ≡ is_held v.sets (g - 4096)
@@ -131,7 +131,7 @@ apart sets n m free held e = false≢true (sym free ∙ ap (is_held sets) (sym e
 
 -- ---- a claim
 pub claimed : (limit : ℕ) (sets : List PortSet) (order : List ℕ) (free : ℕ) (s : PortSet) (new : List ℕ) (next : ℕ) → AreOrdered limit sets order free → free < limit →
-    is_empty_set (ports_of s) ≡ false → IsEntered (words_at sets) order s.words free new → IsNext (put_at sets free s) free next → AreOrdered limit (put_at sets free s) new next
+    is_empty_set (ports_of s) ≡ false → IsEntered (ranks_at sets) order (rank_of s) free new → IsNext (put_at sets free s) free next → AreOrdered limit (put_at sets free s) new next
 claimed limit sets order free s new next k h some e n =
     let after = put_at sets free s in
     let i = e.index in
@@ -143,7 +143,7 @@ claimed limit sets order free s new next k h some e n =
     subst P (sym e.is) (record {
       few = length_put sets free limit s k.high h k.few;
       short = k.short;
-      rising = insert_rising (words_at sets) (words_at after) order s.words i free k.rising e.splits (words_is after free s here) (λ j l. ap words_of (others (get_or order j 0) (kept j l)));
+      rising = insert_rising (ranks_at sets) (ranks_at after) order (rank_of s) i free k.rising e.splits (ranks_is after free s here) (λ j l. ap ranks_of (others (get_or order j 0) (kept j l)));
       there = λ m held. elim (cases_eq m free) [
         | inl is ↦ subst (λ (x : ℕ). StandsAt (insert order i free) x) (sym is) (stands_new order i free within)
         | inr other ↦ stands_in_insert order i free m within (k.there m (sym (same_held sets after m (others m other)) ∙ held))
@@ -161,24 +161,24 @@ claimed limit sets order free s new next k h some e n =
 
 -- ---- a release
 pub released : (limit : ℕ) (sets : List PortSet) (order : List ℕ) (free n : ℕ) (s none : PortSet) (new : List ℕ) (next : ℕ) → AreOrdered limit sets order free →
-    is_held (sets_of sets) n ≡ true → slice_get sets n ≡ Some s → ports_of none ≡ [] → IsLeft (words_at sets) order s.words new →
+    is_held (sets_of sets) n ≡ true → slice_get sets n ≡ Some s → ports_of none ≡ [] → IsLeft (ranks_at sets) order (rank_of s) new →
     ((n < free) × (next ≡ n)) ⊎ ((free ≤ n) × (next ≡ free)) → AreOrdered limit (set sets n none) new next
 released limit sets order free n s none new next k held at empty e x =
     let after = set sets n none in
     let i = e.index in
     let within = e.at.within in
     let n_in : n < length sets = place_in sets n s at in
-    let is_n : get_or order i 0 ≡ n = distinct limit sets order free k (get_or order i 0) n (k.held i within) held (e.at.same ∙ sym (words_is sets n s at)) in
+    let is_n : get_or order i 0 ≡ n = distinct limit sets order free k (get_or order i 0) n (k.held i within) held (e.at.same ∙ sym (ranks_is sets n s at)) in
     let here : slice_get after n ≡ Some none = get_set sets n none n_in in
     let gone : is_held (sets_of after) n ≡ false = rw (ports_at after n, here, empty) refl in
     let others : (m : ℕ) → (m ≡ n → ⊥) → slice_get after m ≡ slice_get sets m = λ m other. get_set_other sets n m none other in
     let kept : (j : ℕ) → j < length order → (j ≡ i → ⊥) → get_or order j 0 ≡ n → ⊥ =
-    λ j l other is. other (one_index (words_at sets) order k.rising j i l within (ap (words_at sets) (is ∙ sym is_n))) in
+    λ j l other is. other (one_index (ranks_at sets) order k.rising j i l within (ap (ranks_at sets) (is ∙ sym is_n))) in
     let P : List ℕ → Type 0 = λ o. AreOrdered limit after o next in
     subst P (sym e.is) (record {
       few = rw (length-set sets n none) (k.few);
       short = k.short;
-      rising = remove_rising (words_at sets) (words_at after) order i k.rising within (λ j l other. ap words_of (others (get_or order j 0) (kept j l other)));
+      rising = remove_rising (ranks_at sets) (ranks_at after) order i k.rising within (λ j l other. ap ranks_of (others (get_or order j 0) (kept j l other)));
       there = λ m held_m.
           let other : m ≡ n → ⊥ = apart (sets_of after) n m gone held_m in
           stands_in_remove order i m within (λ is. other (sym is ∙ is_n)) (k.there m (sym (same_held sets after m (others m other)) ∙ held_m));

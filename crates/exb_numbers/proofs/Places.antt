@@ -15,7 +15,7 @@ use Rattle.exb_model.proofs.Words.{same_word}
 use Rattle.exb_model.proofs.PortLemmas.{same_filter_below, filter_below-none}
 use Rattle.std.proofs.lemmas.Nat.Bits.{bit_at-zero}
 use Rattle.exb_numbers.specs.Groups.{Groups, set_of, sets_of, group_of}
-use Rattle.exb_numbers.specs.Order.{words_of, words_at, is_held, put_at, SplitsAt, IsAt, AreOrdered}
+use Rattle.exb_numbers.specs.Order.{key_of, rank_of, ranks_of, ranks_at, is_held, put_at, SplitsAt, IsAt, AreOrdered}
 use Rattle.exb_numbers.proofs.Lowest.{find_first, find_none}
 use Rattle.exb_numbers.proofs.Rising.{one_index, split_absent}
 
@@ -29,6 +29,16 @@ unfolding ports_of
 same_words_by_ports s t e =
     same_number_lists s.words t.words (s.sized ∙ sym t.sized)
     (λ k h. same_word s.words t.words 65 k (let z = s.sized in omega arith) (s.fits k) (t.fits k) (λ q low. same_filter_below (port_in s) (port_in t) 4160 q (omega arith) e))
+
+same_rank : (s t : PortSet) → s.words ≡ t.words → rank_of s ≡ rank_of t
+same_rank s t e = ap (λ (ws : List ℕ). key_of ws ∷ ws) e
+
+rank_words : (s t : PortSet) → rank_of s ≡ rank_of t → s.words ≡ t.words
+rank_words s t e = ap rest e
+  where
+    rest : List ℕ → List ℕ
+    rest [] = []
+    rest (x ∷ xs) = xs
 
 pub no_ports : (s : PortSet) → ((q : ℕ) → port_in s q ≡ false) → ports_of s ≡ []
 unfolding ports_of
@@ -119,8 +129,8 @@ held_by sets n s at some = rw (ports_at sets n, at, some) refl
 pub same_held : (old new : List PortSet) (k : ℕ) → slice_get new k ≡ slice_get old k → is_held (sets_of new) k ≡ is_held (sets_of old) k
 same_held old new k e = rw (ports_at new k, ports_at old k, e) refl
 
-pub words_is : (sets : List PortSet) (n : ℕ) (s : PortSet) → slice_get sets n ≡ Some s → words_at sets n ≡ s.words
-words_is sets n s at = ap words_of at
+pub ranks_is : (sets : List PortSet) (n : ℕ) (s : PortSet) → slice_get sets n ≡ Some s → ranks_at sets n ≡ rank_of s
+ranks_is sets n s at = ap ranks_of at
 
 pub place_in : (sets : List PortSet) (n : ℕ) (s : PortSet) → slice_get sets n ≡ Some s → n < length sets
 place_in [] n s at = absurd (let z : None ≡ Some s = at in cc)
@@ -136,7 +146,7 @@ get_at (x ∷ xs) (suc n) s h e = get_at xs n s (omega arith) e
 port_past : (s : PortSet) (q : ℕ) → 4160 ≤ q → port_in s q ≡ false
 port_past s q high = none_past s.words q (get_or_past s.words (q / 64) 0 (let z = s.sized in omega arith))
 
-any_port : (s : PortSet) → is_empty_set (ports_of s) ≡ true → (q : ℕ) → port_in s q ≡ false
+pub any_port : (s : PortSet) → is_empty_set (ports_of s) ≡ true → (q : ℕ) → port_in s q ≡ false
 any_port s h q =
     elim (cases_lt q 4160) [
       | inl low ↦ by_ports (ports_of s) refl h low
@@ -172,16 +182,16 @@ value limit sets = record { limit = limit; sets = sets_of sets }
 
 module _ (limit : ℕ) (sets : List PortSet) (order : List ℕ) (free : ℕ) (k : AreOrdered limit sets order free) where
   -- a place that is held stands in the order, and its words tell it
-  pub distinct : (n m : ℕ) → is_held (sets_of sets) n ≡ true → is_held (sets_of sets) m ≡ true → words_at sets n ≡ words_at sets m → n ≡ m
+  pub distinct : (n m : ℕ) → is_held (sets_of sets) n ≡ true → is_held (sets_of sets) m ≡ true → ranks_at sets n ≡ ranks_at sets m → n ≡ m
   distinct n m held_n held_m same =
       let a = k.there n held_n in
       let b = k.there m held_m in
-      sym a.is ∙ ap (λ (i : ℕ). get_or order i 0) (one_index (words_at sets) order k.rising a.index b.index a.within b.within (ap (words_at sets) a.is ∙ same ∙ ap (words_at sets) (sym b.is))) ∙ b.is
+      sym a.is ∙ ap (λ (i : ℕ). get_or order i 0) (one_index (ranks_at sets) order k.rising a.index b.index a.within b.within (ap (ranks_at sets) a.is ∙ same ∙ ap (ranks_at sets) (sym b.is))) ∙ b.is
 
   -- what a number whose set it is says
   record Hit (s : PortSet) (g : ℕ) : Type 0 where
     held : is_held (sets_of sets) (g - 4096) ≡ true
-    same : words_at sets (g - 4096) ≡ s.words
+    same : ranks_at sets (g - 4096) ≡ rank_of s
 
   hit : (s : PortSet) (g : ℕ) → is_empty_set (ports_of s) ≡ false → 4096 ≤ g → bytes_eq (ports_of s) (set_of (value limit sets) g) ≡ true → Hit s g
   hit s g some low equal =
@@ -190,16 +200,16 @@ module _ (limit : ℕ) (sets : List PortSet) (order : List ℕ) (free : ℕ) (k 
       let h = held_set sets (g - 4096) held in
       record {
         held = held;
-        same = words_is sets (g - 4096) h.set h.at ∙ same_words_by_ports h.set s (sym (at ∙ ports_at sets (g - 4096) ∙ ap ports_opt h.at));
+        same = ranks_is sets (g - 4096) h.set h.at ∙ same_rank h.set s (same_words_by_ports h.set s (sym (at ∙ ports_at sets (g - 4096) ∙ ap ports_opt h.at)));
       }
 
-  pub group_at : (s : PortSet) (i : ℕ) → IsAt (words_at sets) order s.words i → group_of (value limit sets) (ports_of s) ≡ Some (4096 + get_or order i 0)
+  pub group_at : (s : PortSet) (i : ℕ) → IsAt (ranks_at sets) order (rank_of s) i → group_of (value limit sets) (ports_of s) ≡ Some (4096 + get_or order i 0)
   unfolding group_of
   group_at s i at =
       let n = get_or order i 0 in
       let held = k.held i at.within in
       let h = held_set sets n held in
-      let ports : ports_of h.set ≡ ports_of s = same_ports h.set s (sym (words_is sets n h.set h.at) ∙ at.same) in
+      let ports : ports_of h.set ≡ ports_of s = same_ports h.set s (rank_words h.set s (sym (ranks_is sets n h.set h.at) ∙ at.same)) in
       let some : is_empty_set (ports_of s) ≡ false = sym (ap is_empty_set ports) ∙ h.some in
       let n_in : n < length sets = place_in sets n h.set h.at in
       let few = k.few in
@@ -218,7 +228,7 @@ module _ (limit : ℕ) (sets : List PortSet) (order : List ℕ) (free : ℕ) (k 
       by_empty true e h = absurd (false≢true (sym e))
       by_empty false e h = h
 
-  pub group_absent : (s : PortSet) (i : ℕ) → SplitsAt (words_at sets) order s.words i → group_of (value limit sets) (ports_of s) ≡ None
+  pub group_absent : (s : PortSet) (i : ℕ) → SplitsAt (ranks_at sets) order (rank_of s) i → group_of (value limit sets) (ports_of s) ≡ None
   unfolding group_of
   group_absent s i splits = by_empty (is_empty_set (ports_of s)) refl
     where
@@ -230,6 +240,6 @@ module _ (limit : ℕ) (sets : List PortSet) (order : List ℕ) (free : ℕ) (k 
             | inl yes' ↦
                 let x = hit s g e low yes' in
                 let a = k.there (g - 4096) x.held in
-                absurd (split_absent (words_at sets) order s.words i a.index splits a.within (ap (words_at sets) a.is ∙ x.same))
+                absurd (split_absent (ranks_at sets) order (rank_of s) i a.index splits a.within (ap (ranks_at sets) a.is ∙ x.same))
             | inr no' ↦ no'
           ])

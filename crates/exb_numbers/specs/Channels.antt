@@ -1,5 +1,5 @@
 -- The channels of a space, as the list of the port of each, from channel 0 on, which is of none.
-use Rattle.std.specs.Prelude.{◌≡◌, ℕ, ◌-◌, ◌<◌, ◌≤◌, ◌==◌, Bool, true, false, List, Option, Some, None, is_some, find, length, slice_index_or}
+use Rattle.std.specs.Prelude.{◌≡◌, ℕ, ◌-◌, ◌<◌, ◌≤◌, Bool, true, false, List, Option, Some, None, is_some, find, length, slice_index_or}
 use Rattle.std.specs.List.{range_with_len}
 use Rattle.exb_model.specs.Numbering.{lowest_free, is_port}
 

@@ -1,5 +1,5 @@
--- The groups in use, in the order of their sets, by which a set is found.
-use Rattle.std.specs.Prelude.{◌≡◌, ℕ, ◌<◌, ◌≤◌, Bool, true, false, not, List, [], Option, Some, None, length, slice_get, slice_index, slice_index_or, sum_by, slice_set, nat_lt, ◌++◌, ◌∷◌, insert, remove, if◌then◌else◌}
+-- The groups in use, in the order of their sets' keys and words, by which a set is found.
+use Rattle.std.specs.Prelude.{◌≡◌, ℕ, ◌+◌, ◌*◌, ◌/◌, ◌%◌, ◌^◌, ◌<◌, ◌≤◌, fold, map, Bool, true, false, not, List, [], Option, Some, None, length, slice_get, slice_index, slice_index_or, sum_by, slice_set, nat_lt, ◌++◌, ◌∷◌, insert, remove, if◌then◌else◌}
 use Rattle.std.specs.Ordering.{nat_cmp}
 use Rattle.std.specs.declared.cmp.Ordering.{Ordering}
 use Rattle.std.specs.declared.cmp.Ordering.TheVariants.{Less, Greater}
@@ -8,13 +8,31 @@ use Rattle.exb_model.specs.declared.port_set.PortSet.{PortSet}
 use Rattle.exb_model.specs.Refusals.{is_empty_set}
 use Rattle.exb_numbers.specs.Groups.{sets_of}
 
-abbrev pub words_of : Option PortSet → List ℕ
-words_of None = []
-words_of (Some s) = s.words
+-- ---- keys
+-- the key with a word more
+unfoldable pub mixed : ℕ → ℕ → ℕ
+mixed key word = ((key + key / 2 ^ 32) % 2 ^ 64 + word) % 2 ^ 64 * 11400714819323198485 % 2 ^ 64
 
--- the words of the set at a place
-abbrev pub words_at : List PortSet → ℕ → List ℕ
-words_at sets n = words_of (slice_get sets n)
+-- a number of a set's words, by which most sets are told apart; that of no port is 0
+unfoldable pub key_of : List ℕ → ℕ
+key_of words = fold mixed 0 words
+
+-- the keys are those of the sets
+abbrev pub HaveKeys : List PortSet → List ℕ → Type 0
+HaveKeys sets keys = keys ≡ map (λ (s : PortSet). key_of s.words) sets
+
+-- ---- the order
+-- the words of a set behind their key, which decides first
+abbrev pub rank_of : PortSet → List ℕ
+rank_of s = key_of s.words ∷ s.words
+
+abbrev pub ranks_of : Option PortSet → List ℕ
+ranks_of None = []
+ranks_of (Some s) = rank_of s
+
+-- those of the set at a place
+abbrev pub ranks_at : List PortSet → ℕ → List ℕ
+ranks_at sets n = ranks_of (slice_get sets n)
 
 abbrev pub compared : List ℕ → List ℕ → Ordering
 compared a b = slice_cmp nat_cmp a b
@@ -51,7 +69,7 @@ weight set = if is_empty_set set then 0 else 1
 pub record AreOrdered (limit : ℕ) (sets : List PortSet) (order : List ℕ) (free : ℕ) : Type 0 where
   pub few : length sets ≤ limit
   pub short : limit ≤ 12288
-  pub rising : IsRising (words_at sets) order
+  pub rising : IsRising (ranks_at sets) order
   pub there : (n : ℕ) → is_held (sets_of sets) n ≡ true → StandsAt order n
   pub held : (i : ℕ) → i < length order → is_held (sets_of sets) (slice_index order i) ≡ true
   pub counted : length order ≡ sum_by weight (sets_of sets)
@@ -62,6 +80,9 @@ pub record AreOrdered (limit : ℕ) (sets : List PortSet) (order : List ℕ) (fr
 -- the list with a new member at a place, or at its end
 abbrev pub put_at : List PortSet → ℕ → PortSet → List PortSet
 put_at sets n s = if nat_lt n (length sets) then slice_set sets n s else sets ++ s ∷ []
+
+abbrev pub put_key_at : List ℕ → ℕ → ℕ → List ℕ
+put_key_at keys n key = if nat_lt n (length keys) then slice_set keys n key else keys ++ key ∷ []
 
 -- a place was put in where the words w belong
 pub record IsEntered (words : ℕ → List ℕ) (old w : List ℕ) (n : ℕ) (new : List ℕ) : Type 0 where

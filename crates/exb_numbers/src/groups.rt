@@ -3,7 +3,7 @@ ghost use Rattle.std.specs.Prelude.{◌≡◌, ◌≢◌, ℕ, ◌+◌, ◌==◌
 ghost use Rattle.exb_model.specs.Ports.{ports_of};
 ghost use Rattle.exb_model.specs.Refusals.{is_empty_set};
 ghost use Rattle.exb_numbers.specs.Groups.{set_of, sets_of, is_used, group_of, lowest_group};
-ghost use Rattle.exb_numbers.specs.Order.{compared, words_at, is_held, put_at, IsRising, IsAt, SplitsAt, IsEntered, IsLeft};
+ghost use Rattle.exb_numbers.specs.Order.{compared, ranks_at, rank_of, mixed, key_of, is_held, put_at, put_key_at, IsRising, IsAt, SplitsAt, IsEntered, IsLeft, HaveKeys};
 
 use exb_model::memory::NoMemory;
 use exb_model::port_set::PortSet;
@@ -13,6 +13,9 @@ use std::marker::Model;
 
 /// The lowest number of a group.
 const FIRST: u16 = 4096;
+
+/// An odd number whose bits are spread, by which those of a key are.
+const FACTOR: u64 = 11400714819323198485;
 
 /// All groups are in use.
 #[derive(Clone, Copy, Debug, PartialEq, Eq)]
@@ -26,7 +29,9 @@ pub struct Groups {
     /// The set of each group, from the lowest number on as far as one was ever claimed; empty where it is
     /// free.
     sets: Vec<PortSet>,
-    /// The places of the groups in use, in the order of their sets.
+    /// The key of each of these sets, 0 where the group is free, so that a search looks at few sets.
+    keys: Vec<u64>,
+    /// The places of the groups in use, in the order of the keys of their sets, and then of their words.
     order: Vec<u16>,
     /// The place of the lowest free group.
     free: u16,
@@ -39,11 +44,12 @@ impl Model for Groups {
     ghost Value = { Groups };
 
     ghost use Rattle.exb_numbers.specs.Groups.{sets_of};
-    ghost use Rattle.exb_numbers.specs.Order.{AreOrdered};
+    ghost use Rattle.exb_numbers.specs.Order.{AreOrdered, HaveKeys};
 
     ghost view = { λ g. record { limit = g.limit; sets = sets_of g.sets.items } };
 
-    ghost invariant = { λ g. AreOrdered g.limit g.sets.items g.order.items g.free × (g.limit ≤ vec_capacity g.sets) × (g.limit ≤ vec_capacity g.order) };
+    ghost invariant = { λ g. AreOrdered g.limit g.sets.items g.order.items g.free × (g.limit ≤ vec_capacity g.sets) × (g.limit ≤ vec_capacity g.order)
+        × (g.limit ≤ vec_capacity g.keys) × HaveKeys g.sets.items g.keys.items };
 }
 
 /// Whether a set has a port, as a set that claims a group must.
@@ -53,61 +59,110 @@ pub fn has_ports(set: &PortSet) -> bool
     !set.is_same(&PortSet::empty())
 }
 
-// How the set of a place compares with a set, by their words.
-fn against(sets: &[PortSet], place: u16, set: &PortSet) -> Ordering
-    ensures { result ≡ compared (words_at sets.now place) set.now.words }
+// The key with a word more.
+#[tactic(auto, unfolding(crate::specs::Order::mixed))]
+fn mixed(key: u64, word: u64) -> u64
+    ensures { result ≡ mixed key word }
 {
-    match sets.get(place as usize) {
-        Some(other) => other.words.cmp(&set.words),
+    key.wrapping_add(key >> 32)
+        .wrapping_add(word)
+        .wrapping_mul(FACTOR)
+}
+
+// The key of a set, by which most sets are told apart.
+#[tactic(auto, unfolding(crate::specs::Order::key_of))]
+fn key_of(set: &PortSet) -> u64
+    ensures { result ≡ key_of set.now.words }
+{
+    let mut key = 0;
+    for word in &set.words {
+        key = mixed(key, *word);
+    }
+    key
+}
+
+// How the set of a place compares with a set of this key.
+fn against(keys: &[u64], sets: &[PortSet], place: u16, key: u64, set: &PortSet) -> Ordering
+    requires keys { HaveKeys sets.now keys.now }
+    requires key { key ≡ key_of set.now.words }
+    ensures { result ≡ compared (ranks_at sets.now place) (rank_of set.now) }
+{
+    match keys.get(place as usize) {
+        Some(other) => match other.cmp(&key) {
+            Ordering::Equal => sets[place as usize].words.cmp(&set.words),
+            order => order,
+        },
         None => Ordering::Less,
     }
 }
 
 // Where a set stands among the places, or where it would.
-fn search(sets: &[PortSet], order: &[u16], set: &PortSet) -> Result<usize, usize>
-    requires { IsRising (words_at sets.now) order.now }
-    ensures { MatchResult result (IsAt (words_at sets.now) order.now set.now.words)
-        (SplitsAt (words_at sets.now) order.now set.now.words) }
+fn search(
+    keys: &[u64],
+    sets: &[PortSet],
+    order: &[u16],
+    key: u64,
+    set: &PortSet,
+) -> Result<usize, usize>
+    requires rising { IsRising (ranks_at sets.now) order.now }
+    requires keys { HaveKeys sets.now keys.now }
+    requires key { key ≡ key_of set.now.words }
+    ensures { MatchResult result (IsAt (ranks_at sets.now) order.now (rank_of set.now))
+        (SplitsAt (ranks_at sets.now) order.now (rank_of set.now)) }
 {
-    order.binary_search_by(|place: &u16| against(sets, *place, set))
+    order.binary_search_by(|place: &u16| against(keys, sets, *place, key, set))
 }
 
 // Puts a place into the order, at which no set is yet that compares as equal.
-fn enter(sets: &[PortSet], order: &mut Vec<u16>, place: u16, set: &PortSet)
-    requires rising { IsRising (words_at sets.now) order.old.items }
-    requires absent { (k : ℕ) → k < length order.old.items → words_at sets.now (slice_index order.old.items k) ≢ set.now.words }
+fn enter(keys: &[u64], sets: &[PortSet], order: &mut Vec<u16>, place: u16, key: u64, set: &PortSet)
+    requires rising { IsRising (ranks_at sets.now) order.old.items }
+    requires keys { HaveKeys sets.now keys.now }
+    requires key { key ≡ key_of set.now.words }
+    requires absent { (k : ℕ) → k < length order.old.items → ranks_at sets.now (slice_index order.old.items k) ≢ rank_of set.now }
     requires room { length order.old.items < vec_capacity order.old }
-    ensures order { IsEntered (words_at sets.now) order.old.items set.now.words place order.new.items }
+    ensures order { IsEntered (ranks_at sets.now) order.old.items (rank_of set.now) place order.new.items }
     ensures room { vec_capacity order.old ≤ vec_capacity order.new }
 {
-    if let Err(index) = search(sets, order.as_slice(), set) {
+    if let Err(index) = search(keys, sets, order.as_slice(), key, set) {
         order.insert(index, place).unwrap();
     }
 }
 
 // Takes the place of a set out of the order.
-fn leave(sets: &[PortSet], order: &mut Vec<u16>, set: &PortSet)
-    requires rising { IsRising (words_at sets.now) order.old.items }
-    requires there { (k : ℕ) × (k < length order.old.items) × (words_at sets.now (slice_index order.old.items k) ≡ set.now.words) }
-    ensures order { IsLeft (words_at sets.now) order.old.items set.now.words order.new.items }
+fn leave(keys: &[u64], sets: &[PortSet], order: &mut Vec<u16>, key: u64, set: &PortSet)
+    requires rising { IsRising (ranks_at sets.now) order.old.items }
+    requires keys { HaveKeys sets.now keys.now }
+    requires key { key ≡ key_of set.now.words }
+    requires there { (k : ℕ) × (k < length order.old.items) × (ranks_at sets.now (slice_index order.old.items k) ≡ rank_of set.now) }
+    ensures order { IsLeft (ranks_at sets.now) order.old.items (rank_of set.now) order.new.items }
     ensures room { vec_capacity order.old ≤ vec_capacity order.new }
 {
-    if let Ok(index) = search(sets, order.as_slice(), set) {
+    if let Ok(index) = search(keys, sets, order.as_slice(), key, set) {
         order.remove(index);
     }
 }
 
+// Whether a place holds a set. The key of one without ports is 0, so most are told by their keys.
+fn is_held(keys: &[u64], sets: &[PortSet], place: u16) -> bool
+    requires keys { HaveKeys sets.now keys.now }
+    requires within { place < length sets.now }
+    ensures { result ≡ is_held (sets_of sets.now) place }
+{
+    keys[place as usize] != 0 || has_ports(&sets[place as usize])
+}
+
 // The first place from `from` on that holds no set.
-fn next_free(sets: &[PortSet], from: u16) -> u16
+fn next_free(keys: &[u64], sets: &[PortSet], from: u16) -> u16
     requires start { from ≤ length sets.now }
     requires short { length sets.now ≤ 12288 }
+    requires keys { HaveKeys sets.now keys.now }
     ensures low { from ≤ result }
     ensures high { result ≤ length sets.now }
     ensures passed { (n : ℕ) → from ≤ n → n < result → is_held (sets_of sets.now) n ≡ true }
     ensures free { is_held (sets_of sets.now) result ≡ false }
 {
     let mut place = from;
-    while (place as usize) < sets.len() && has_ports(&sets[place as usize]) {
+    while (place as usize) < sets.len() && is_held(keys, sets, place) {
         place += 1;
     }
     place
@@ -127,6 +182,20 @@ fn put_set(sets: &mut Vec<PortSet>, place: u16, set: PortSet)
     }
 }
 
+// Puts a key at a place, or at the next one past the last.
+fn put_key(keys: &mut Vec<u64>, place: u16, key: u64)
+    requires next { place ≤ length keys.old.items }
+    requires room { place < vec_capacity keys.old }
+    ensures items { keys.new.items ≡ put_key_at keys.old.items place key }
+    ensures room { vec_capacity keys.old ≤ vec_capacity keys.new }
+{
+    if (place as usize) < keys.len() {
+        keys[place as usize] = key;
+    } else {
+        keys.push(key).unwrap();
+    }
+}
+
 impl Groups {
     /// Groups 4096 to 4095 + `limit`, all free, with the room for every later claim. The limit is at most
     /// 12,288.
@@ -138,6 +207,7 @@ impl Groups {
         Ok(Groups {
             limit,
             sets: Vec::with_capacity(alloc, limit as usize)?,
+            keys: Vec::with_capacity(alloc, limit as usize)?,
             order: Vec::with_capacity(alloc, limit as usize)?,
             free: 0,
         })
@@ -150,11 +220,14 @@ impl Groups {
         let alloc = *self.sets.allocator();
         let mut sets = Vec::with_capacity(alloc, self.limit as usize)?;
         sets.extend_from_slice(self.sets.as_slice())?;
+        let mut keys = Vec::with_capacity(alloc, self.limit as usize)?;
+        keys.extend_from_slice(self.keys.as_slice())?;
         let mut order = Vec::with_capacity(alloc, self.limit as usize)?;
         order.extend_from_slice(self.order.as_slice())?;
         Ok(Groups {
             limit: self.limit,
             sets,
+            keys,
             order,
             free: self.free,
         })
@@ -183,7 +256,9 @@ impl Groups {
         ensures value { result ≡ group_of self.now (ports_of set.now) }
         ensures range { IfSome result (λ g. (4096 ≤ g) × (g < 16384)) }
     {
-        match search(self.sets.as_slice(), self.order.as_slice(), set) {
+        let key = key_of(set);
+        let keys = self.keys.as_slice();
+        match search(keys, self.sets.as_slice(), self.order.as_slice(), key, set) {
             Ok(index) => Some(FIRST + self.order[index]),
             Err(_) => None,
         }
@@ -203,9 +278,12 @@ impl Groups {
         if place >= self.limit {
             return Err(NoGroup);
         }
-        enter(self.sets.as_slice(), &mut self.order, place, set);
+        let key = key_of(set);
+        let keys = self.keys.as_slice();
+        enter(keys, self.sets.as_slice(), &mut self.order, place, key, set);
         put_set(&mut self.sets, place, *set);
-        self.free = next_free(self.sets.as_slice(), place);
+        put_key(&mut self.keys, place, key);
+        self.free = next_free(self.keys.as_slice(), self.sets.as_slice(), place);
         Ok(FIRST + place)
     }
 
@@ -217,8 +295,11 @@ impl Groups {
     {
         let place = group - FIRST;
         let set = self.sets[place as usize];
-        leave(self.sets.as_slice(), &mut self.order, &set);
+        let key = self.keys[place as usize];
+        let keys = self.keys.as_slice();
+        leave(keys, self.sets.as_slice(), &mut self.order, key, &set);
         self.sets[place as usize] = PortSet::empty();
+        self.keys[place as usize] = 0;
         if place < self.free {
             self.free = place;
         }

@@ -2,13 +2,11 @@ use Rattle.std.proofs.Common.{◌≡◌, ◌∙◌, true, ap, sym, inl, inr, ari
 use Rattle.std.proofs.lemmas.Bool.{cases_eq}
 use Rattle.exb_numbers.specs.Groups.{sets_of}
 use Rattle.exb_numbers.specs.Order.{is_held}
-use Rattle.exb_numbers.proofs.Places.{held_at}
 use Rattle.exb_numbers.proofs.groups.next_free.Goals as goal
 
 pub loop-place-preserved : goal.loop-place-preserved
 loop-place-preserved c =
-    let here : is_held (sets_of c.args.sets.now) c.loop-place.place ≡ true =
-    held_at c.args.sets.now c.loop-place.place c.index-sets-place.result c.loop-place-test.true c.index-sets-place.is ∙ sym c.has_ports.ensures ∙ c.if-has_ports.true in
+    let here : is_held (sets_of c.args.sets.now) c.loop-place.place ≡ true = sym c.is_held.ensures ∙ c.if-is_held.true in
     let i = c.loop-place.invariant in
     record {
       low = omega arith;
@@ -19,6 +17,5 @@ loop-place-preserved c =
       ];
     }
 
-pub returns-else-has_ports-clause-free : goal.returns-else-has_ports-clause-free
-returns-else-has_ports-clause-free c =
-    held_at c.args.sets.now c.loop-place.place c.index-sets-place.result c.loop-place-test.true c.index-sets-place.is ∙ sym c.has_ports.ensures ∙ c.if-has_ports.false
+pub returns-else-is_held-clause-free : goal.returns-else-is_held-clause-free
+returns-else-is_held-clause-free c = sym c.is_held.ensures ∙ c.if-is_held.false

@@ -3,9 +3,10 @@ use Rattle.std.specs.Prelude.{Some, slice_get}
 use Rattle.exb_model.specs.declared.port_set.PortSet.{PortSet}
 use Rattle.exb_model.specs.Ports.{ports_of}
 use Rattle.exb_numbers.specs.Groups.{Groups, sets_of, set_of}
-use Rattle.exb_numbers.specs.Order.{words_at, is_held, StandsAt, IsLeft}
-use Rattle.exb_numbers.proofs.Places.{ports_at, ports_opt, get_set, get_set_other, words_is, place_in, no_ports}
+use Rattle.exb_numbers.specs.Order.{rank_of, ranks_at, is_held, StandsAt, IsLeft}
+use Rattle.exb_numbers.proofs.Places.{ports_at, ports_opt, get_set, get_set_other, ranks_is, place_in, no_ports}
 use Rattle.exb_numbers.proofs.Ordered.{used_means, read_set, released, set_changed}
+use Rattle.exb_numbers.proofs.Keys.{none_key, set_keys}
 use Rattle.exb_numbers.proofs.groups.Groups.release.Goals as goal
 
 pub leave-requires-clause-there : goal.leave-requires-clause-there
@@ -15,7 +16,7 @@ leave-requires-clause-there c =
     let held : is_held (sets_of inside.sets.items) (c.args.group - 4096) ≡ true = ap (λ (v : Groups). is_held v.sets (c.args.group - 4096)) c.self.view_is ∙ used.1 in
     let at = read_set inside.sets.items (c.args.group - 4096) c.index.result.now held c.index.ensures in
     let s : StandsAt inside.order.items (c.args.group - 4096) = c.self.invariant.0.there (c.args.group - 4096) held in
-    (s.index, s.within, rw c.as_slice.ensures.value (ap (words_at inside.sets.items) s.is ∙ words_is inside.sets.items (c.args.group - 4096) c.index.result.now at))
+    (s.index, s.within, rw c.as_slice.ensures.value (ap (ranks_at inside.sets.items) s.is ∙ ranks_is inside.sets.items (c.args.group - 4096) c.index.result.now at))
 
 pub invariant_of-self : goal.invariant_of-self
 invariant_of-self c =
@@ -23,7 +24,7 @@ invariant_of-self c =
     let used = used_means c.args.self.now c.args.group c.requires in
     let held : is_held (sets_of inside.sets.items) (c.args.group - 4096) ≡ true = ap (λ (v : Groups). is_held v.sets (c.args.group - 4096)) c.self.view_is ∙ used.1 in
     let at = read_set inside.sets.items (c.args.group - 4096) c.index.result.now held c.index.ensures in
-    let left : IsLeft (words_at inside.sets.items) inside.order.items c.index.result.now.words c.leave.new.order.items = rw (← c.as_slice.ensures.value) c.leave.ensures.order in
+    let left : IsLeft (ranks_at inside.sets.items) inside.order.items (rank_of c.index.result.now) c.leave.new.order.items = rw (← c.as_slice.ensures.value) c.leave.ensures.order in
     let cap = c.self.invariant.1 in
     let order_cap = c.self.invariant.2 in
     let order_room = c.leave.ensures.room in (
@@ -31,6 +32,8 @@ invariant_of-self c =
           (no_ports c.empty.result c.empty.ensures) left (inl (c.if-place-self.true, refl)),
       cap,
       omega (arith, order_cap, order_room),
+      c.self.invariant.3,
+      set_keys inside.sets.items inside.keys.items (c.args.group - 4096) c.empty.result 0 c.self.invariant.4 (none_key c.empty.result c.empty.ensures),
     )
 
 pub invariant_of-self-else-place-self : goal.invariant_of-self-else-place-self
@@ -39,7 +42,7 @@ invariant_of-self-else-place-self c =
     let used = used_means c.args.self.now c.args.group c.requires in
     let held : is_held (sets_of inside.sets.items) (c.args.group - 4096) ≡ true = ap (λ (v : Groups). is_held v.sets (c.args.group - 4096)) c.self.view_is ∙ used.1 in
     let at = read_set inside.sets.items (c.args.group - 4096) c.index.result.now held c.index.ensures in
-    let left : IsLeft (words_at inside.sets.items) inside.order.items c.index.result.now.words c.leave.new.order.items = rw (← c.as_slice.ensures.value) c.leave.ensures.order in
+    let left : IsLeft (ranks_at inside.sets.items) inside.order.items (rank_of c.index.result.now) c.leave.new.order.items = rw (← c.as_slice.ensures.value) c.leave.ensures.order in
     let cap = c.self.invariant.1 in
     let order_cap = c.self.invariant.2 in
     let order_room = c.leave.ensures.room in (
@@ -47,6 +50,8 @@ invariant_of-self-else-place-self c =
           (no_ports c.empty.result c.empty.ensures) left (inr (c.if-place-self.false, refl)),
       cap,
       omega (arith, order_cap, order_room),
+      c.self.invariant.3,
+      set_keys inside.sets.items inside.keys.items (c.args.group - 4096) c.empty.result 0 c.self.invariant.4 (none_key c.empty.result c.empty.ensures),
     )
 
 -- the sets with an empty one at the group's place
