@@ -1,8 +1,8 @@
 -- A frame comes to the bridge: what its control makes of it, as an effect.
-use Rattle.std.proofs.Common.{◌≡◌, ℕ, ◌<◌, ◌++◌, if◌then◌else◌, Bool, true, false, List, [], ◌∷◌, Option, Some, None, refl, sym, ap, subst, ◌∙◌}
+use Rattle.std.proofs.Common.{◌≡◌, ℕ, ◌-◌, ◌<◌, ◌++◌, if◌then◌else◌, Bool, true, false, List, [], ◌∷◌, Option, Some, None, refl, sym, ap, subst, ◌∙◌}
 use Rattle.std.specs.List.{All}
 use Rattle.std.specs.Prelude.{Result, Ok, Err, OnOk}
-use Rattle.std.proofs.lemmas.Bool.{true≢false}
+use Rattle.std.proofs.lemmas.Bool.{true≢false, false≢true}
 use Rattle.std.proofs.lemmas.List.{append-nil}
 use Rattle.std.proofs.lemmas.List.Elements.{All-nil}
 use Rattle.exb_model.specs.declared.event.Event.TheVariants as event
@@ -11,12 +11,15 @@ use Rattle.exb_model.specs.declared.frame_kind.Seen.{Seen}
 use Rattle.exb_model.specs.declared.frame_kind.Seen.TheVariants as seen
 use Rattle.exb_model.specs.Configuration.{Bridge}
 use Rattle.exb_model.specs.EagerHistory.{is_relayed, arrival_event}
-use Rattle.exb_model.specs.Frames.{kind_of, priority_of, IsBytes}
+use Rattle.exb_model.specs.ETags.{tagged}
+use Rattle.exb_model.specs.Frames.{egress, kind_of, priority_of, IsBytes}
 use Rattle.exb_model.specs.Input.{Arrival}
 use Rattle.exb_model.specs.Learning.{passes, passes_as}
 use Rattle.exb_model.specs.Tree.{Shape, IsTree}
 use Rattle.exb_frame.specs.declared.egress.VlanTag.{VlanTag}
+use Rattle.exb_frame.specs.declared.etag.ETag.{ETag}
 use Rattle.exb_frame.specs.Egress.{can_leave, priority}
+use Rattle.exb_frame.specs.TagValues.{tag_of}
 use Rattle.exb_learn.specs.Entries.{table_of, look_of}
 use Rattle.exb_learn.specs.Calls.{Table}
 use Rattle.exb_relay.specs.declared.send.Ingress.{Ingress}
@@ -30,12 +33,15 @@ use Rattle.exb_control.specs.ActiveConfigs.{bridge_in}
 use Rattle.exb_control.specs.declared.outbox.Outbox.{Outbox}
 use Rattle.exb_control.specs.Boxes.{HasCome, ingress_for}
 use Rattle.exb_control.specs.Controls.{Parts, state_of}
+use Rattle.exb_link.specs.declared.word.Word.{Word}
+use Rattle.exb_machine.specs.Controls.{taught}
 use Rattle.exb_machine.specs.Worlds.{World, with_table}
-use Rattle.exb_machine.specs.Effects.{only, each}
-use Rattle.exb_machine.specs.Relaying.{passed_by, sends_all, sends_for, sends_in}
+use Rattle.exb_machine.specs.Effects.{Effect, only, joined, each}
+use Rattle.exb_machine.specs.Extending.{hung_on, stamp_of}
+use Rattle.exb_machine.specs.Relaying.{comes, passed_by, puts_word, sent_by, sends_all, sends_for, sends_in}
 use Rattle.exb_boxes.specs.declared.log.Log.{Log}
 use Rattle.exb_network.specs.declared.site.Core.{Core}
-use Rattle.exb_network.specs.Sends.{CanSend, HasPassed, is_passed, is_relay_first, passed_in, told_by}
+use Rattle.exb_network.specs.Sends.{CanSend, HasPassed, HasTold, is_passed, learns, sent_for}
 use Rattle.exb_network.specs.Sites.{Site}
 use Rattle.exb_network.specs.Worlds.{world_in, all_left, IsAt, Does, KeepsTrace}
 use Rattle.exb_network.proofs.BridgeSends.{can_all, sends_as}
@@ -96,7 +102,7 @@ relayed_of true i v pcp dei is = is
 relayed_of false i v pcp dei is = is_not v pcp dei is
 
 -- a frame that passed may leave, with its own priority
-pub has_passed : (b : Bridge) (a : Arrival) (x : VlanTag) → IsBytes a.bytes → ingress_for b a ≡ ingress.Passed x.vid x.pcp x.dei → HasPassed a.bytes x
+pub has_passed : (b : Bridge) (a : Arrival) (x : VlanTag) → IsBytes a.bytes → ingress_for b a.port a.bytes ≡ ingress.Passed x.vid x.pcp x.dei → HasPassed a.bytes x
 has_passed b a x bytes is = record { kind = leaves; pcp = subst (λ n. n < 8) (sym pcp) (pcp_small a.bytes bytes); own = own }
   where
     ours : ingress_of b a.port a.bytes ≡ ingress.Passed x.vid x.pcp x.dei
@@ -112,19 +118,94 @@ has_passed b a x bytes is = record { kind = leaves; pcp = subst (λ n. n < 8) (s
     own = ap (λ n. priority n x.dei) pcp ∙ ap (priority (pcp_of (kind_of a.bytes))) (dei_by b a.port x.vid x.pcp x.dei (kind_of a.bytes) (passes b a.port a.bytes) ours) ∙ own_of (kind_of a.bytes)
 
 -- ---- what is told of it
-first_told : (e : Bool) (a : Arrival) → is_relay_first ((if e then event.Relay a.port a.index a.moment a.bytes else event.Ignored a.port a.index) ∷ []) ≡ e
-first_told true a = refl
-first_told false a = refl
+event_told : (e : Bool) (a : Arrival) → e ≡ true → (if e then event.Relay a.port a.index a.moment a.bytes else event.Ignored a.port a.index) ≡ event.Relay a.port a.index a.moment a.bytes
+event_told e a is = rw is refl
 
-passed_told : (e : Bool) (s : Seen) (o : Option ℕ) → (if e then is_passed (if e then ingress_by s o else ingress.Dropped) ∷ [] else []) ≡ passed_by e o
-passed_told true s None = refl
-passed_told true s (Some v) = refl
-passed_told false s o = refl
+event_ignored : (e : Bool) (a : Arrival) → e ≡ false → (if e then event.Relay a.port a.index a.moment a.bytes else event.Ignored a.port a.index) ≡ event.Ignored a.port a.index
+event_ignored e a is = rw is refl
 
-pub told_passed : (b : Bridge) (a : Arrival) → passed_in (arrival_event b a ∷ []) (ingress_for b a) ≡ passed_by (is_relayed b a.port a.bytes) (passes b a.port a.bytes)
-told_passed b a =
-    ap (λ (e : Bool). if e then is_passed (ingress_for b a) ∷ [] else []) (first_told (is_relayed b a.port a.bytes) a)
-    ∙ passed_told (is_relayed b a.port a.bytes) (kind_of a.bytes) (passes b a.port a.bytes)
+passed_told : (e : Bool) (s : Seen) (o : Option ℕ) → e ≡ true → is_passed (if e then ingress_by s o else ingress.Dropped) ∷ [] ≡ passed_by e o
+passed_told true s None is = refl
+passed_told true s (Some v) is = refl
+passed_told false s o is = absurd (false≢true is)
+
+-- of a frame that was relayed, with its bytes
+pub told_relayed : (b : Bridge) (a : Arrival) (passed : Bool) (old new : Log) → is_relayed b a.port a.bytes ≡ true → passed ≡ is_passed (ingress_for b a.port a.bytes) →
+    new.events ≡ old.events ++ event.Relay a.port a.index a.moment a.bytes ∷ [] → new.passed ≡ old.passed ++ passed ∷ [] → new.left ≡ old.left → KeepsTrace old new → HasTold b a old new
+told_relayed b a passed old new relayed is events told left trace =
+    record {
+      events = events ∙ ap (λ (e : Event). old.events ++ e ∷ []) (sym (event_told (is_relayed b a.port a.bytes) a relayed));
+      passed =
+          told ∙ ap (λ (bs : List Bool). old.passed ++ bs) (ap (λ (x : Bool). x ∷ []) is ∙ passed_told (is_relayed b a.port a.bytes) (kind_of a.bytes) (passes b a.port a.bytes) relayed);
+      left = left;
+      trace = trace;
+    }
+
+-- of one that was ignored
+pub told_ignored : (b : Bridge) (a : Arrival) (old new : Log) → is_relayed b a.port a.bytes ≡ false → new.events ≡ old.events ++ event.Ignored a.port a.index ∷ [] → new.passed ≡ old.passed →
+    new.left ≡ old.left → KeepsTrace old new → HasTold b a old new
+told_ignored b a old new relayed events told left trace =
+    record {
+      events = events ∙ ap (λ (e : Event). old.events ++ e ∷ []) (sym (event_ignored (is_relayed b a.port a.bytes) a relayed));
+      passed = told ∙ sym (ap (λ (e : Bool). old.passed ++ passed_by e (passes b a.port a.bytes)) relayed ∙ append-nil old.passed);
+      left = left;
+      trace = trace;
+    }
+
+-- ---- nothing is told of what is sent
+record IsSilent (e : Effect) : Type 0 where
+  pub events : e.events ≡ []
+  pub passed : e.passed ≡ []
+
+module _ (t : Shape) (a : Arrival) where
+  puts_silent : (k : ℕ) (o : Option ℕ) (x : Word) (w : World) → IsSilent (puts_word k o x w)
+  puts_silent k None x w = record { events = refl; passed = refl }
+  puts_silent k (Some m) x w = record { events = refl; passed = refl }
+
+  sent_silent : (bytes : List ℕ) (k : ℕ) (o : Option ETag) (w : World) → IsSilent (sent_by t a bytes k o w)
+  sent_silent bytes k None w = record { events = refl; passed = refl }
+  sent_silent bytes k (Some tag) w = puts_silent k (hung_on t (k - 1)) (record { bytes = tagged bytes (tag_of tag); stamp = Some (stamp_of a) }) w
+
+  each_silent : (v : ℕ) (xs : List SendTo) (w : World) → IsSilent (each (sends_in t a v) xs w)
+  each_silent v [] w = record { events = refl; passed = refl }
+  each_silent v (x ∷ xs) w =
+      both (sends_in t a v x w) (each (sends_in t a v) xs (sends_in t a v x w).world) (sent_silent (egress a.bytes x.kind v) x.bridge_port x.tag w) (each_silent v xs (sends_in t a v x w).world)
+    where
+      both : (e f : Effect) → IsSilent e → IsSilent f → IsSilent (joined e f)
+      both e f first second =
+          record {
+            events = ap (λ (es : List Event). es ++ f.events) first.events ∙ second.events;
+            passed = ap (λ (bs : List Bool). bs ++ f.passed) first.passed ∙ second.passed;
+          }
+
+  all_silent : (xs : List SendTo) (o : Option ℕ) (w : World) → IsSilent (sends_all t a xs o w)
+  all_silent xs None w = record { events = refl; passed = refl }
+  all_silent xs (Some v) w = each_silent v xs w
+
+-- a frame that was learned from, and for which all is sent, has come once it is told
+pub comes_told : (s : Site) (a : Arrival) (w : World) (c : Core) (old mid new : Log) → Does (sent_for s.tree a w) s c old mid → HasTold w.control.bridge a mid new → Does (comes s.tree a w) s c old new
+comes_told s a w c old mid new sent told =
+    record {
+      world = sent.world;
+      events = told.events ∙ ap (λ (es : List Event). es ++ arrival_event w.control.bridge a ∷ []) (sent.events ∙ ap (λ es. old.events ++ es) silent.events ∙ append-nil old.events)
+          ∙ ap (λ (es : List Event). old.events ++ arrival_event w.control.bridge a ∷ es) (sym silent.events);
+      passed = told.passed ∙ ap (λ (bs : List Bool). bs ++ passed_by e o) (sent.passed ∙ ap (λ bs. old.passed ++ bs) silent.passed ∙ append-nil old.passed)
+          ∙ ap (λ (bs : List Bool). old.passed ++ bs) (sym (append-nil (passed_by e o)) ∙ ap (λ (bs : List Bool). passed_by e o ++ bs) (sym silent.passed));
+      left = ap all_left told.left ∙ sent.left;
+      outs = told.trace.outs ∙ sent.outs;
+      lines = told.trace.lines ∙ sent.lines;
+      tracing = told.trace.tracing ∙ sent.tracing;
+      at = sent.at;
+    }
+  where
+    e : Bool
+    e = is_relayed w.control.bridge a.port a.bytes
+
+    o : Option ℕ
+    o = passes w.control.bridge a.port a.bytes
+
+    silent : IsSilent (sends_all s.tree a (sends_for s.tree w a) o (with_table (taught w.control.bridge a w.table) w))
+    silent = all_silent s.tree a (sends_for s.tree w a) o (with_table (taught w.control.bridge a w.table) w)
 
 -- ---- the control
 -- nothing of it but what is learned has changed
@@ -145,26 +226,23 @@ module _ (s : Site) (c : Core) (p : Parts) (rest : p ≡ record c.control { lear
         ports = at.ports;
       }
 
-module _ (s : Site) (c : Core) (p : Parts) (a : Arrival) (out : Outbox) (came : HasCome a c.control p out) where
-  pub came_does : (old new : Log) → IsAt s c → new.events ≡ old.events ++ out.events → new.passed ≡ old.passed ++ passed_in out.events out.ingress → new.left ≡ old.left →
-      KeepsTrace old new → Does (told_by a (world_in c)) s (record c { control = p }) old new
-  came_does old new at events passed left trace =
-      record {
-        world = learned_world s c p came.rest _ came.table;
-        events = events ∙ ap (λ es. old.events ++ es) came.events;
-        passed =
-            passed
-            ∙ ap (λ bs. old.passed ++ bs)
-            (ap (λ (es : List Event). passed_in es out.ingress) came.events ∙ ap (passed_in (arrival_event (bridge_in c.control.active) a ∷ [])) came.ingress ∙ told_passed (bridge_in c.control.active) a);
-        left = ap all_left left ∙ sym (append-nil (all_left old.left));
-        outs = trace.outs ∙ sym (append-nil old.outs.items);
-        lines = trace.lines;
-        tracing = trace.tracing;
-        at = learned_at s c p came.rest at;
-      }
+-- it is learned from, and nothing is told yet
+pub came_learns : (s : Site) (c : Core) (p : Parts) (a : Arrival) (relayed : Bool) (out : Outbox) → HasCome a.port a.bytes relayed c.control p out → (log : Log) → IsAt s c →
+    Does (learns a (world_in c)) s (record c { control = p }) log log
+came_learns s c p a relayed out came log at =
+    record {
+      world = learned_world s c p came.rest _ came.table;
+      events = sym (append-nil log.events);
+      passed = sym (append-nil log.passed);
+      left = sym (append-nil (all_left log.left));
+      outs = sym (append-nil log.outs.items);
+      lines = refl;
+      tracing = refl;
+      at = learned_at s c p came.rest at;
+    }
 
 -- ---- what is sent
-module _ (s : Site) (c : Core) (p : Parts) (a : Arrival) (out : Outbox) (at : IsAt s c) (came : HasCome a c.control p out) (tree : IsTree c.control.active.shape) where
+module _ (s : Site) (c : Core) (p : Parts) (a : Arrival) (relayed : Bool) (out : Outbox) (at : IsAt s c) (came : HasCome a.port a.bytes relayed c.control p out) (tree : IsTree c.control.active.shape) where
   pub came_sends : out.sends.items ≡ sends_for s.tree (world_in c) a
   came_sends =
       came.sends
@@ -196,11 +274,11 @@ some_sent t a w true xs s None v pcp dei is = is_not v pcp dei is
 some_sent t a w true xs s (Some u) v pcp dei is = ap (λ (i : Ingress). each (sends_in t a (vid_in i)) xs w) is
 some_sent t a w false xs s o v pcp dei is = is_not v pcp dei is
 
-pub sends_none : (t : Shape) (a : Arrival) (w v : World) → ingress_for w.control.bridge a ≡ ingress.Dropped →
+pub sends_none : (t : Shape) (a : Arrival) (w v : World) → ingress_for w.control.bridge a.port a.bytes ≡ ingress.Dropped →
     sends_all t a (sends_for t w a) (passes w.control.bridge a.port a.bytes) v ≡ only v
 sends_none t a w v is = none_sent t a v (is_relayed w.control.bridge a.port a.bytes) _ (kind_of a.bytes) (passes w.control.bridge a.port a.bytes) (sym is)
 
-pub sends_some : (t : Shape) (a : Arrival) (w v : World) (vid pcp : ℕ) (dei : Bool) → ingress_for w.control.bridge a ≡ ingress.Passed vid pcp dei →
+pub sends_some : (t : Shape) (a : Arrival) (w v : World) (vid pcp : ℕ) (dei : Bool) → ingress_for w.control.bridge a.port a.bytes ≡ ingress.Passed vid pcp dei →
     sends_all t a (sends_for t w a) (passes w.control.bridge a.port a.bytes) v ≡ each (sends_in t a vid) (sends_for t w a) v
 sends_some t a w v vid pcp dei is = some_sent t a v (is_relayed w.control.bridge a.port a.bytes) _ (kind_of a.bytes) (passes w.control.bridge a.port a.bytes) vid pcp dei is
 

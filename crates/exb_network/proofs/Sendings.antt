@@ -1,10 +1,11 @@
 -- What an extender sends of its own, and all that it sends.
 use Rattle.std.proofs.Common.{◌≡◌, ℕ, List, [], ◌∷◌, ◌++◌, map, refl, ap, sym, subst}
 use Rattle.std.specs.Prelude.{Option}
+use Rattle.exb_model.specs.ETags.{stripped}
 use Rattle.exb_model.specs.Tree.{Shape}
 use Rattle.exb_link.specs.declared.word.Stamp.{Stamp}
 use Rattle.exb_extender.specs.declared.sends.Sends.{Sends}
-use Rattle.exb_extender.specs.declared.sends.Form.TheVariants.{AsIs}
+use Rattle.exb_extender.specs.declared.sends.Form.TheVariants.{AsIs, Stripped}
 use Rattle.exb_extender.specs.declared.sends.Out.{Out}
 use Rattle.exb_extender.specs.declared.sends.Side.TheVariants.{Up}
 use Rattle.exb_extender.specs.Forwarding.{up}
@@ -38,6 +39,11 @@ pub all_sent : (t : Shape) (n : ℕ) (stamp : Option Stamp) (f : List ℕ) (x : 
 all_sent t n stamp f x s b c d e old told more new frames first second =
     does_parts (sends t n stamp) (map (out_sent f) x.frames.items) (own_sent x.first.items ++ own_sent x.second.items) (world_in b) s c e old told new frames
     (does_parts (sends t n stamp) (own_sent x.first.items) (own_sent x.second.items) (world_in c) s d e told more new first second)
+
+-- a frame that goes on without its E-TAG
+pub without_tag : (t : Shape) (n : ℕ) (stamp : Option Stamp) (f : List ℕ) (out : Out) (s : Site) (c d : Core) (old new : Log) → out.form ≡ Stripped →
+    Does (sent_to t n stamp out.to (stripped f) (world_in c)) s d old new → Does (sends t n stamp (out_sent f out) (world_in c)) s d old new
+without_tag t n stamp f out s c d old new is done = subst (λ (bytes : List ℕ). Does (sent_to t n stamp out.to bytes (world_in c)) s d old new) (sym (ap (bytes_in f) is)) done
 
 -- a frame that goes on as it is
 pub as_it_is : (t : Shape) (n : ℕ) (stamp : Option Stamp) (f : List ℕ) (out : Out) (s : Site) (c d : Core) (old new : Log) → out.form ≡ AsIs →

@@ -87,6 +87,14 @@ pub words_same : (n : ℕ) (way : Way) (w : World) → with_words n way (words_o
 words_same n Up w = ap (λ (u : ℕ → List Word). record w { up = u }) (at_same n w.up)
 words_same n Down w = ap (λ (u : ℕ → List Word). record w { down = u }) (at_same n w.down)
 
+-- ---- a direction has other words
+module _ (s : Site) (c : Core) (ws : List (List Word)) (at : IsAt s c) where
+  pub at_up : IsAt s (record c { up = ws })
+  at_up = record { shape = at.shape; limits = at.limits; awake = at.awake; there = at.there; only = at.only; ports = at.ports }
+
+  pub at_down : IsAt s (record c { down = ws })
+  at_down = record { shape = at.shape; limits = at.limits; awake = at.awake; there = at.there; only = at.only; ports = at.ports }
+
 -- ---- a word that may be there
 module _ (s : Site) (l : Limits) (c d : Core) (n : ℕ) (way : Way) (rest : List Word) (world : world_in d ≡ with_words n way rest (world_in c)) where
   nobody : (o : Option Word) (log : Log) → o ≡ None → rest ≡ words_on n way (world_in c) → IsAt s d → Does (takes_any s.tree l n way o rest (world_in c)) s d log log

@@ -193,16 +193,19 @@ fn relay_on(
 {
     are_bytes(arrived.bytes);
     let relayed = relay(site, arrived, &mut room.outbox, core)?;
-    if let Ingress::Passed { vid, pcp, dei } = &room.outbox.ingress {
-        let tag = VlanTag {
-            pcp: *pcp,
-            dei: *dei,
-            vid: *vid,
-        };
-        let sends = room.outbox.sends.as_slice();
-        send_all(site, arrived, &tag, sends, core, &mut room.post)?;
+    match &room.outbox.ingress {
+        Ingress::Dropped => Ok(relayed),
+        Ingress::Passed { vid, pcp, dei } => {
+            let tag = VlanTag {
+                pcp: *pcp,
+                dei: *dei,
+                vid: *vid,
+            };
+            let sends = room.outbox.sends.as_slice();
+            send_all(site, arrived, &tag, sends, core, &mut room.post)?;
+            Ok(relayed)
+        }
     }
-    Ok(relayed)
 }
 
 /// Tells that a frame was relayed, and whether it passed. Its bytes go into what is told.
@@ -233,7 +236,8 @@ pub(crate) fn come(
     requires external { is_external site.now.tree arrived.now.port ≡ true }
     ensures { OnOk result (Does (comes site.now.tree (arrival_of arrived.now) (world_in core.old)) site.now core.new room.old.post.log room.new.post.log) }
 {
-    if !relay_on(site, arrived, room, core)? {
+    let relayed = relay_on(site, arrived, room, core)?;
+    if !relayed {
         return ignore(arrived, &mut room.post.log);
     }
     let passed = has_passed(&room.outbox.ingress);
@@ -260,7 +264,8 @@ fn come_in(
         moment: stamp.moment,
         bytes: bytes.as_slice(),
     };
-    if !relay_on(site, &arrived, room, core)? {
+    let relayed = relay_on(site, &arrived, room, core)?;
+    if !relayed {
         return ignore(&arrived, &mut room.post.log);
     }
     let passed = has_passed(&room.outbox.ingress);

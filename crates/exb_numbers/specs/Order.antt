@@ -1,5 +1,5 @@
 -- The groups in use, in the order of their sets' keys and words, by which a set is found.
-use Rattle.std.specs.Prelude.{◌≡◌, ℕ, ◌+◌, ◌*◌, ◌/◌, ◌%◌, ◌^◌, ◌<◌, ◌≤◌, fold, map, Bool, true, false, not, List, [], Option, Some, None, length, slice_get, slice_index, slice_index_or, sum_by, slice_set, nat_lt, ◌++◌, ◌∷◌, insert, remove, if◌then◌else◌}
+use Rattle.std.specs.Prelude.{◌≡◌, ℕ, ◌+◌, ◌*◌, ◌%◌, ◌^◌, ◌<◌, ◌≤◌, fold, map, Bool, true, false, not, List, [], Option, Some, None, length, slice_get, slice_index, slice_index_or, sum_by, slice_set, nat_lt, ◌++◌, ◌∷◌, insert, remove, if◌then◌else◌}
 use Rattle.std.specs.Ordering.{nat_cmp}
 use Rattle.std.specs.declared.cmp.Ordering.{Ordering}
 use Rattle.std.specs.declared.cmp.Ordering.TheVariants.{Less, Greater}
@@ -11,7 +11,7 @@ use Rattle.exb_numbers.specs.Groups.{sets_of}
 -- ---- keys
 -- the key with a word more
 unfoldable pub mixed : ℕ → ℕ → ℕ
-mixed key word = ((key + key / 2 ^ 32) % 2 ^ 64 + word) % 2 ^ 64 * 11400714819323198485 % 2 ^ 64
+mixed key word = (key * 11400714819323198485 % 2 ^ 64 + word) % 2 ^ 64
 
 -- a number of a set's words, by which most sets are told apart; that of no port is 0
 unfoldable pub key_of : List ℕ → ℕ

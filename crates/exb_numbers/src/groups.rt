@@ -14,7 +14,7 @@ use std::marker::Model;
 /// The lowest number of a group.
 const FIRST: u16 = 4096;
 
-/// An odd number whose bits are spread, by which those of a key are.
+/// An odd number whose bits are spread: a key is the words of a set as digits to this base.
 const FACTOR: u64 = 11400714819323198485;
 
 /// All groups are in use.
@@ -61,12 +61,11 @@ pub fn has_ports(set: &PortSet) -> bool
 
 // The key with a word more.
 #[tactic(auto, unfolding(crate::specs::Order::mixed))]
+#[inline(always)]
 fn mixed(key: u64, word: u64) -> u64
     ensures { result ≡ mixed key word }
 {
-    key.wrapping_add(key >> 32)
-        .wrapping_add(word)
-        .wrapping_mul(FACTOR)
+    key.wrapping_mul(FACTOR).wrapping_add(word)
 }
 
 // The key of a set, by which most sets are told apart.

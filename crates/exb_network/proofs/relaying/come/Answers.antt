@@ -1,44 +1,36 @@
-use Rattle.std.proofs.Common.{List, sym, subst, ◌∙◌}
+use Rattle.std.proofs.Common.{List, ℕ, ◌++◌, ◌∷◌, [], sym, ap, ◌∙◌}
 use Rattle.std.proofs.lemmas.Result.{on_ok_weaker}
-use Rattle.exb_model.specs.Learning.{passes}
-use Rattle.exb_relay.specs.declared.send.SendTo.{SendTo}
-use Rattle.exb_machine.specs.Effects.{each, only}
-use Rattle.exb_machine.specs.Relaying.{sends_all, sends_for, sends_in}
+use Rattle.exb_model.specs.declared.event.Event.TheVariants.{Relay}
+use Rattle.exb_link.specs.declared.word.Stamp.{Stamp}
 use Rattle.exb_network.specs.Arrivals.{arrival_of}
-use Rattle.exb_network.specs.Sends.{told_by}
-use Rattle.exb_network.specs.Worlds.{world_in, Does}
-use Rattle.exb_network.proofs.Coming.{has_passed, sends_none, sends_some}
-use Rattle.exb_network.proofs.Doing.{does_then}
-use Rattle.exb_network.proofs.Cores.{does_nothing}
-use Rattle.exb_network.proofs.Relayed.{does_as}
+use Rattle.exb_network.specs.Sends.{is_passed}
+use Rattle.exb_network.specs.Worlds.{world_in}
+use Rattle.exb_network.proofs.Coming.{comes_told, on_ok_two, told_ignored, told_relayed}
 use Rattle.exb_network.proofs.relaying.come.Goals as goal
 
-pub returns-in-Dropped : goal.returns-in-Dropped
-returns-in-Dropped c =
-    let s = c.args.site.now in
+pub returns-then-not-relayed : goal.returns-then-not-relayed
+returns-then-not-relayed c =
     let w = world_in c.args.core.now in
     let a = arrival_of c.args.arrived.now in
-    let d = c.relay.new.core in
-    let told = c.relay.new.post.log in
-    let done = c.in_ok-relay.ensures in
-    does_then (told_by a w) (sends_all s.tree a (sends_for s.tree w a) (passes w.control.bridge a.port a.bytes)) s d d c.args.room.now.post.log told told done.does
-    (does_as _ (only (world_in d)) s d told told (sends_none s.tree a w (world_in d) (sym done.ingress ∙ c.in-Dropped.is)) (does_nothing s d told done.does.at))
+    let sent = c.in_ok-relayed.ensures in
+    let mid = c.relay_on.new.room.post.log in
+    on_ok_weaker c.ignore.result
+    (λ events.
+    comes_told c.args.site.now a w c.relay_on.new.core c.args.room.now.post.log mid c.ignore.new.log sent.does
+    (told_ignored w.control.bridge a mid c.ignore.new.log (sym sent.relayed ∙ c.if-not-relayed.true) events c.ignore.ensures.passed c.ignore.ensures.left c.ignore.ensures.trace))
+    c.ignore.ensures.events
 
-pub send_all-requires-clause-passed : goal.send_all-requires-clause-passed
-send_all-requires-clause-passed c =
-    has_passed (world_in c.args.core.now).control.bridge (arrival_of c.args.arrived.now) _ c.are_bytes.ensures (sym c.in_ok-relay.ensures.ingress ∙ c.in-Passed.is)
-
-pub returns-in-Passed : goal.returns-in-Passed
-returns-in-Passed c =
-    let s = c.args.site.now in
+pub returns : goal.returns
+returns c =
     let w = world_in c.args.core.now in
     let a = arrival_of c.args.arrived.now in
-    let d = c.relay.new.core in
-    let told = c.relay.new.post.log in
-    let done = c.in_ok-relay.ensures in
-    on_ok_weaker c.send_all.result (λ sent.
-    does_then (told_by a w) (sends_all s.tree a (sends_for s.tree w a) (passes w.control.bridge a.port a.bytes)) s d c.send_all.new.core c.args.room.now.post.log told c.send_all.new.post.log done.does
-    (does_as _ (each (sends_in s.tree a c.in-Passed.vid) (sends_for s.tree w a) (world_in d)) s c.send_all.new.core told c.send_all.new.post.log
-    (sends_some s.tree a w (world_in d) c.in-Passed.vid c.in-Passed.pcp c.in-Passed.dei (sym done.ingress ∙ c.in-Passed.is))
-    (subst (λ (xs : List SendTo). Does (each (sends_in s.tree a c.in-Passed.vid) xs (world_in d)) s c.send_all.new.core told c.send_all.new.post.log) (c.as_slice-sends.ensures.value ∙ done.sends) sent)))
-    c.send_all.ensures
+    let sent = c.in_ok-relayed.ensures in
+    let mid = c.relay_on.new.room.post.log in
+    on_ok_two c.tell.result
+    (λ events passed.
+    comes_told c.args.site.now a w c.relay_on.new.core c.args.room.now.post.log mid c.tell.new.log sent.does
+    (told_relayed w.control.bridge a c.has_passed-passed.result mid c.tell.new.log (sym sent.relayed ∙ c.if-not-relayed.false) (c.has_passed-passed.ensures ∙ ap is_passed sent.ingress)
+    (events ∙ ap (λ (t : Stamp). mid.events ++ Relay t.port t.index t.moment c.in_ok-bytes.bytes ∷ []) c.stamp.ensures
+    ∙ ap (λ (f : List ℕ). mid.events ++ Relay a.port a.index a.moment f ∷ []) c.in_ok-bytes.ensures)
+    passed c.tell.ensures.left c.tell.ensures.trace))
+    c.tell.ensures.events c.tell.ensures.passed

@@ -1,4 +1,5 @@
-use Rattle.std.proofs.Common.{ℕ, ◌-◌, List, drop, ap, sym, ◌∙◌}
+use Rattle.std.proofs.Common.{ℕ, ◌-◌, List, ap, sym, ◌∙◌}
+use Rattle.std.proofs.lemmas.Result.{on_ok_weaker}
 use Rattle.exb_model.specs.ETags.{read_etag, stripped}
 use Rattle.exb_model.specs.Tree.{Shape, is_external}
 use Rattle.exb_machine.specs.Relaying.{holder_by}
@@ -14,6 +15,8 @@ returns c =
     let bytes = c.args.word.bytes in
     let some = sym c.in-Some.is ∙ c.holder.ensures ∙ ap (λ (f : List ℕ). holder_by w k (read_etag f)) c.as_slice.ensures in
     let external = ap (λ (t : Shape). is_external t c.in-Some.port) (sym c.tree.ensures) ∙ sym c.is_external.ensures ∙ c.if-not-is_external.false in
-    let same = c.split_at.ensures.back ∙ ap (λ (f : List ℕ). drop 8 f) c.as_slice-2.ensures.value ∙ c.strip_in_place.ensures.stripped ∙ ap (λ (f : List ℕ). stripped f) c.into_vec-buffer.ensures in
-    from_port s c.args.core.now c.come.new.core (holder_by w k (read_etag bytes)) c.in-Some.port c.args.word.stamp c.in-Some-stamp.stamp (stripped bytes) c.split_at.result.1.now c.args.room.now.post.log c.come.new.room.post.log some
-    c.in-Some-stamp.is external same c.in_ok-come.ensures
+    let same = c.from_vec.ensures ∙ c.strip_in_place.ensures ∙ ap (λ (f : List ℕ). stripped f) c.into_vec-buffer.ensures in
+    on_ok_weaker c.come_in.result (λ done.
+    from_port s c.args.core.now c.come_in.new.core (holder_by w k (read_etag bytes)) c.in-Some.port c.args.word.stamp c.in-Some-stamp.stamp (stripped bytes) c.from_vec.result c.args.room.now.post.log c.come_in.new.room.post.log some
+    c.in-Some-stamp.is external same done)
+    c.come_in.ensures

@@ -1,0 +1,31 @@
+use Rattle.std.proofs.Common.{List, sym, subst, ◌∙◌}
+use Rattle.exb_model.specs.Learning.{passes}
+use Rattle.exb_relay.specs.declared.send.SendTo.{SendTo}
+use Rattle.exb_machine.specs.Effects.{each, only}
+use Rattle.exb_machine.specs.Relaying.{sends_all, sends_for, sends_in}
+use Rattle.exb_network.specs.Arrivals.{arrival_of}
+use Rattle.exb_network.specs.Sends.{learns}
+use Rattle.exb_network.specs.Worlds.{world_in, Does}
+use Rattle.exb_network.proofs.Coming.{has_passed, sends_none, sends_some}
+use Rattle.exb_network.proofs.Doing.{does_then}
+use Rattle.exb_network.proofs.Cores.{does_nothing}
+use Rattle.exb_network.proofs.Relayed.{does_as}
+use Rattle.exb_network.proofs.relaying.relay_on.Goals as goal
+
+pub send_all-requires-clause-at : goal.send_all-requires-clause-at
+send_all-requires-clause-at c = (c.in_ok-relayed.ensures.does c.args.room.now.post.log).at
+
+pub send_all-requires-clause-passed : goal.send_all-requires-clause-passed
+send_all-requires-clause-passed c =
+    has_passed (world_in c.args.core.now).control.bridge (arrival_of c.args.arrived.now) _ c.are_bytes.ensures (sym c.in_ok-relayed.ensures.ingress ∙ c.in-Passed.is)
+
+pub returns-in-Dropped-clause-does : goal.returns-in-Dropped-clause-does
+returns-in-Dropped-clause-does c =
+    let s = c.args.site.now in
+    let w = world_in c.args.core.now in
+    let a = arrival_of c.args.arrived.now in
+    let d = c.relay.new.core in
+    let log = c.args.room.now.post.log in
+    let done = c.in_ok-relayed.ensures in
+    does_then (learns a w) (sends_all s.tree a (sends_for s.tree w a) (passes w.control.bridge a.port a.bytes)) s d d log log log (done.does log)
+    (does_as _ (only (world_in d)) s d log log (sends_none s.tree a w (world_in d) (sym done.ingress ∙ c.in-Dropped.is)) (does_nothing s d log (done.does log).at))
