@@ -228,6 +228,13 @@ module _ (limit : ℕ) (sets : List PortSet) (order : List ℕ) (free : ℕ) (k 
       by_empty true e h = absurd (false≢true (sym e))
       by_empty false e h = h
 
+  -- a set with the words of one that is held has its group
+  pub group_known : (s own : PortSet) (n : ℕ) → is_held (sets_of sets) n ≡ true → slice_get sets n ≡ Some own → own.words ≡ s.words → group_of (value limit sets) (ports_of s) ≡ Some (4096 + n)
+  group_known s own n held at same =
+      let x = k.there n held in
+      group_at s x.index (record { within = x.within; same = ap (ranks_at sets) x.is ∙ ranks_is sets n own at ∙ same_rank own s same })
+      ∙ ap (λ (j : ℕ). Some (4096 + j)) x.is
+
   pub group_absent : (s : PortSet) (i : ℕ) → SplitsAt (ranks_at sets) order (rank_of s) i → group_of (value limit sets) (ports_of s) ≡ None
   unfolding group_of
   group_absent s i splits = by_empty (is_empty_set (ports_of s)) refl

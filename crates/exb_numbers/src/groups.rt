@@ -59,6 +59,18 @@ pub fn has_ports(set: &PortSet) -> bool
     !set.is_same(&PortSet::empty())
 }
 
+// Whether two sets have the same words.
+fn are_same(one: &PortSet, other: &PortSet) -> bool
+    ensures { result ≡ true → one.now.words ≡ other.now.words }
+{
+    for device in 0..65usize {
+        if one.words[device] != other.words[device] {
+            return false;
+        }
+    }
+    true
+}
+
 // The key with a word more.
 #[tactic(auto, unfolding(crate::specs::Order::mixed))]
 #[inline(always)]
@@ -261,6 +273,32 @@ impl Groups {
             Ok(index) => Some(FIRST + self.order[index]),
             Err(_) => None,
         }
+    }
+
+    /// The group of a set, as `find` tells it; soon where it is the group that is guessed.
+    pub fn find_near(&self, set: &PortSet, guess: u16) -> Option<u16>
+        ensures value { result ≡ group_of self.now (ports_of set.now) }
+        ensures range { IfSome result (λ g. (4096 ≤ g) × (g < 16384)) }
+    {
+        if self.is_of(guess, set) {
+            return Some(guess);
+        }
+        self.find(set)
+    }
+
+    // Whether a group is known to be that of a set.
+    fn is_of(&self, group: u16, set: &PortSet) -> bool
+        ensures group { result ≡ true → group_of self.now (ports_of set.now) ≡ Some group }
+        ensures range { result ≡ true → (4096 ≤ group) × (group < 16384) }
+    {
+        if group < FIRST {
+            return false;
+        }
+        let place = (group - FIRST) as usize;
+        if place >= self.keys.len() || self.keys[place] == 0 {
+            return false;
+        }
+        are_same(&self.sets[place], set)
     }
 
     /// Gives a set the lowest free group. The set isn't empty, and has none before. `NoGroup` exactly where
