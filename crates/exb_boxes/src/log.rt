@@ -63,6 +63,7 @@ impl Log {
 
     /// Forgets what happened. Its lists keep their memory, and the store keeps that of the frames that were relayed and of those
     /// that left.
+    #[inline(always)]
     pub fn clear(&mut self, store: &mut Store)
         ensures events { self.new.events ≡ [] }
         ensures passed { self.new.passed ≡ [] }
@@ -78,6 +79,7 @@ impl Log {
 }
 
 /// Forgets events, and keeps the buffers of frames that were relayed.
+#[inline(always)]
 fn keep_events(events: &mut List<Event>, store: &mut Store)
     ensures { events.new ≡ [] }
 {
@@ -89,6 +91,7 @@ fn keep_events(events: &mut List<Event>, store: &mut Store)
 }
 
 /// Forgets frames that left, and keeps their buffers.
+#[inline(always)]
 fn keep_all(left: &mut List<Left>, store: &mut Store)
     ensures { left.new ≡ [] }
 {

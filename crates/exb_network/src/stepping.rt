@@ -231,7 +231,7 @@ pub(crate) fn lose(site: &Site, number: u8, way: Way, place: u64, core: &mut Cor
 }
 
 /// A frame arrives at an external port.
-#[inline(never)]
+#[inline(always)]
 pub(crate) fn arrive(
     site: &Site,
     arrived: &Arrived,

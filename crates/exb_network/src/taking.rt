@@ -121,6 +121,7 @@ pub(crate) fn ignore(arrived: &Arrived, log: &mut Log) -> Result<(), NoMemory>
 }
 
 /// A frame arrives at an external port of an extender.
+#[inline(never)]
 pub(crate) fn arrive_at(
     site: &Site,
     arrived: &Arrived,

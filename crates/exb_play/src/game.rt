@@ -75,6 +75,7 @@ fn seed_of(schedule: Schedule) -> u64 {
 }
 
 /// Writes what has happened in a world since it was cleared.
+#[inline(always)]
 fn write_all<S: Shelf>(
     shelf: &mut S,
     manifest: &Manifest,
@@ -107,6 +108,7 @@ fn write_all<S: Shelf>(
 }
 
 /// Plays a segment by a schedule.
+#[inline(always)]
 fn play_segment(
     schedule: Schedule,
     world: &mut World,
@@ -151,6 +153,7 @@ fn seconds_since(last: Option<u64>, second: u64) -> u32
 
 impl Game {
     /// Writes and counts what has happened in the world since it was cleared, and clears it.
+    #[inline(always)]
     fn note<S: Shelf>(&mut self, shelf: &mut S, manifest: &Manifest) -> Result<(), ShelfFault>
         requires ready { IsReady manifest.now (S.ids shelf.old) self.old.outputs }
         requires frames { All (λ x. CanBeWritten manifest.now x) (network_of self.old.world).log.left }

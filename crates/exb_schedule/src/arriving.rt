@@ -8,6 +8,7 @@ use crate::segment::Arrival;
 use exb_network::{Step, WorldFault};
 
 /// Lets seconds pass, if there are any.
+#[inline(always)]
 pub(crate) fn let_pass(motion: &mut Motion, seconds: u32) -> Result<(), WorldFault>
     requires { CanAll motion.old (tick seconds) }
     ensures ok { OnOk result (HasRun (tick seconds) motion.old motion.new) }
@@ -21,6 +22,7 @@ pub(crate) fn let_pass(motion: &mut Motion, seconds: u32) -> Result<(), WorldFau
 }
 
 /// Lets frames arrive, in order.
+#[inline(always)]
 pub(crate) fn let_arrive(motion: &mut Motion, arrivals: &[Arrival]) -> Result<(), WorldFault>
     requires { CanAll motion.old (arrive arrivals.now) }
     ensures ok { OnOk result (HasRun (arrive arrivals.now) motion.old motion.new) }

@@ -117,6 +117,7 @@ fn go_one_way(world: &mut World, way: Way) -> Result<(), WorldFault>
 
 /// One round: the words that stand on the links upwards are gone through once, from the deepest extender, then those downwards,
 /// from the bridge; data words are taken, and the fate is asked of each control word. Then one beat passes.
+#[inline(never)]
 pub fn round(world: &mut World) -> Result<(), WorldFault>
     requires { ⊤ }
     ensures ok { OnOk result (HasAsked (round (tree_of (network_of world.old)) (bounds_of (network_of world.old)) (world_of (network_of world.old))) (left world.old.fate) (left world.new.fate) (network_of world.old) (network_of world.new)) }

@@ -94,6 +94,7 @@ impl Motion {
     }
 
     /// Forgets what happened, and changes nothing else.
+    #[inline(always)]
     pub fn clear(&mut self)
         ensures world { world_of self.new ≡ world_of self.old }
         ensures same { IsSame self.old self.new }

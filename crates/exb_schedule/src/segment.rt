@@ -34,6 +34,7 @@ pub struct Arrival {
 }
 
 /// Marks what is settled.
+#[inline(always)]
 fn set_mark(motion: &mut Motion) -> Result<(), WorldFault>
     requires { IsSettled (tree_of motion.old) (world_of motion.old) }
     ensures ok { OnOk result (IsStepped Mark motion.old motion.new) }
@@ -104,6 +105,8 @@ pub fn open(
 }
 
 /// Gives a command. What is planned for it the fate is armed with just before.
+#[cold]
+#[inline(never)]
 pub(crate) fn give_one(world: &mut World, command: &Timed) -> Result<(), WorldFault>
     requires can { Can (tree_of (network_of world.old)) (world_of (network_of world.old)) (Order command.now.command) }
     requires few { left world.old.fate + length command.now.fate < 2 ^ 57 }
@@ -121,6 +124,7 @@ pub(crate) fn give_one(world: &mut World, command: &Timed) -> Result<(), WorldFa
 }
 
 /// Gives commands, in order.
+#[inline(always)]
 fn give(world: &mut World, commands: &[Timed]) -> Result<(), WorldFault>
     requires can { CanAll (network_of world.old) (orders commands.now) }
     requires few { left world.old.fate + letters_in commands.now < 2 ^ 57 }
@@ -136,6 +140,7 @@ fn give(world: &mut World, commands: &[Timed]) -> Result<(), WorldFault>
 
 /// Gives a segment in order: the clock goes on by its seconds, its commands are given and its frames arrive. Each command's plan arms
 /// the fate just before it.
+#[inline(always)]
 fn give_all(
     world: &mut World,
     seconds: u32,
@@ -154,6 +159,7 @@ fn give_all(
 }
 
 /// Gives a segment in order, settles and marks.
+#[inline(always)]
 fn play_in_order(
     world: &mut World,
     seconds: u32,

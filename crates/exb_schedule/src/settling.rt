@@ -15,6 +15,7 @@ use exb_resting::laws::rounds_spend;
 
 /// Makes rounds until nothing is left to be done, and answers how many, a number that stays at 2^64 - 1: at most 64 for each verdict
 /// other than Pass that the fate may still give, for each exchange that is planned, and for one more.
+#[inline(always)]
 pub fn settle(world: &mut World) -> Result<u64, WorldFault>
     requires few { left world.old.fate < 2 ^ 57 }
     ensures ok { IfOk result (λ made. HasSettled (rounds (left world.old.fate) (planned_in (tree_of (network_of world.old)) (bounds_of (network_of world.old)) (world_of (network_of world.old)))) made (left world.old.fate) (left world.new.fate) (network_of world.old) (network_of world.new)) }

@@ -14,6 +14,8 @@ use exb_shelf::{Shelf, ShelfFault};
 use exb_text::{Output, write_trace_line};
 
 /// Puts a line behind the trace, which is asked for.
+#[cold]
+#[inline(never)]
 fn add_line<S: Shelf>(
     shelf: &mut S,
     manifest: &Manifest,
@@ -40,6 +42,7 @@ fn add_line<S: Shelf>(
 }
 
 /// Puts lines behind the trace, where it is asked for. `line` is room for one line.
+#[inline(always)]
 pub fn write_trace<S: Shelf>(
     shelf: &mut S,
     manifest: &Manifest,
