@@ -1,10 +1,13 @@
 //! Writing an output capture.
-ghost use Rattle.std.specs.Prelude.{◌≡◌, ◌<◌, ◌*◌, ◌^◌, ◌++◌, ℕ, List, length as length_of};
+ghost use Rattle.std.specs.Prelude.{◌≡◌, ◌<◌, ◌*◌, ◌^◌, ◌/◌, ◌%◌, ◌++◌, ℕ, List, length as length_of};
 ghost use Rattle.exb_model.specs.Texts.{capture_header, record_text as record_of};
 
 const SECOND: u64 = 1_000_000_000;
 
 const MICROSECOND: u64 = 1_000;
+
+/// Microseconds in a second.
+const MICROSECONDS: u64 = 1_000_000;
 
 /// The front of every output capture: classic pcap, little-endian, in microseconds, version 2.4, link
 /// type 1 (Ethernet).
@@ -16,6 +19,15 @@ pub fn header_text() -> [u8; 24]
     ]
 }
 
+/// The whole microseconds of a moment, in nanoseconds, behind its second. They come of a difference, since of a quotient each of its
+/// bytes would be computed by itself.
+#[inline(always)]
+fn micros_of(moment: u64) -> u32
+    ensures { result ≡ moment % 1_000_000_000 / 1_000 }
+{
+    (moment / MICROSECOND - moment / SECOND * MICROSECONDS) as u32
+}
+
 /// What stands before the bytes of a frame of this length that left at this moment, in nanoseconds. The
 /// moment is written in whole microseconds.
 pub fn record_text(moment: u64, length: u32) -> [u8; 16]
@@ -23,7 +35,7 @@ pub fn record_text(moment: u64, length: u32) -> [u8; 16]
     ensures { (bytes : List ℕ) → length_of bytes ≡ length → record_of (moment, bytes) ≡ result ++ bytes }
 {
     let seconds = ((moment / SECOND) as u32).to_le_bytes();
-    let micros = ((moment % SECOND / MICROSECOND) as u32).to_le_bytes();
+    let micros = micros_of(moment).to_le_bytes();
     let size = length.to_le_bytes();
     [
         seconds[0], seconds[1], seconds[2], seconds[3], micros[0], micros[1], micros[2], micros[3],

@@ -53,6 +53,7 @@ fn put(gathered: &mut Vec<Arrival>, came: Came) -> Result<(), CaptureFault>
 }
 
 /// A buffer to be written anew: that of an arrival that was played, or else one without room.
+#[inline(always)]
 fn spare(alloc: Global, played: &mut Vec<Arrival>) -> Vec<u8> {
     match played.pop() {
         Some(arrival) => arrival.bytes.into_vec(),
@@ -60,12 +61,40 @@ fn spare(alloc: Global, played: &mut Vec<Arrival>) -> Vec<u8> {
     }
 }
 
+/// A buffer to be written anew, where the arrivals of the segment before change places with those that are gathered: a seeded run
+/// takes the buffers of all of them.
+#[cold]
+#[inline(never)]
+fn exchange(alloc: Global, gathered: &mut Vec<Arrival>, played: &mut Vec<Arrival>) -> Vec<u8> {
+    mem::swap(gathered, played);
+    spare(alloc, played)
+}
+
+/// Forgets what was gathered for the segment before, and answers a buffer to be written anew. An eager run needs no other one.
+#[inline(always)]
+fn begin(
+    alloc: Global,
+    schedule: Schedule,
+    gathered: &mut Vec<Arrival>,
+    played: &mut Vec<Arrival>,
+) -> Vec<u8>
+    ensures { gathered.new.items ≡ [] }
+{
+    let buffer = match schedule {
+        Schedule::Eager => spare(alloc, gathered),
+        Schedule::Seeded { .. } => exchange(alloc, gathered, played),
+    };
+    gathered.clear();
+    buffer
+}
+
 impl Feed<'_> {
-    /// Takes what comes first, and answers its second; None exactly where nothing is left.
+    /// Takes what comes first, its bytes in this buffer, and answers its second; None exactly where nothing is left.
+    #[inline(always)]
     fn take_first<S: Shelf>(
         &mut self,
-        alloc: Global,
         shelf: &mut S,
+        buffer: Vec<u8>,
     ) -> Result<Option<u64>, CaptureFault>
         requires feed { CanFeed (S.ids shelf.old) self.old }
         ensures feed { OnOk result (CanFeed (S.ids shelf.new) self.new) }
@@ -77,7 +106,6 @@ impl Feed<'_> {
         ensures counts { CountsAgain result (S.faults shelf.old) (S.faults shelf.new) }
         ensures faults { NoFewer (S.faults shelf.old) (S.faults shelf.new) }
     {
-        let buffer = spare(alloc, &mut self.played);
         match self.programme.next(shelf, buffer)? {
             Some(Next::Record(came)) => {
                 let second = came.moment / NANOSECONDS;
@@ -119,6 +147,8 @@ impl Feed<'_> {
     }
 
     /// Takes all that comes in this second.
+    #[cold]
+    #[inline(never)]
     fn take_second<S: Shelf>(
         &mut self,
         alloc: Global,
@@ -157,9 +187,8 @@ impl Feed<'_> {
         ensures counts { CountsAgain result (S.faults shelf.old) (S.faults shelf.new) }
         ensures faults { NoFewer (S.faults shelf.old) (S.faults shelf.new) }
     {
-        mem::swap(&mut self.gathered, &mut self.played);
-        self.gathered.clear();
-        let Some(second) = self.take_first(alloc, shelf)? else {
+        let buffer = begin(alloc, schedule, &mut self.gathered, &mut self.played);
+        let Some(second) = self.take_first(shelf, buffer)? else {
             return Ok(None);
         };
         match schedule {

@@ -95,8 +95,27 @@ fn put_settled(room: &mut [u8; ROOM], before: usize) -> usize
     put(room, b"settled\n", before)
 }
 
+/// Puts the line of an ignored frame or of a tick, with its newline, before a place, and answers where it begins; None of any other
+/// event.
+#[cold]
+#[inline(never)]
+#[tactic(auto, unfolding(exb_model::specs::Texts::line_of))]
+fn rare_line(room: &mut [u8; ROOM], event: &Event, before: usize) -> Option<usize>
+    requires room { 40 ≤ before }
+    requires within { before ≤ 128 }
+    ensures within { IfSome result (λ start. start ≤ before) }
+    ensures written { IfSome result (λ start. drop start room.new ≡ line_of event.now ++ 10 ∷ drop before room.old) }
+{
+    let start = match event {
+        Event::Ignored { port, index } => put_arrival(room, b"ignore ", *port, *index, before),
+        Event::Tick { seconds } => put_tick(room, *seconds, before),
+        _ => return None,
+    };
+    Some(start)
+}
+
 /// Puts the line of an event that comes with frames, with its newline, before a place, and answers where it begins; None of any other
-/// event, and where there is no room.
+/// event, and where there is no room. Of the two that each frame has it is known by two comparisons which one it is.
 #[inline(always)]
 #[tactic(auto, unfolding(exb_model::specs::Texts::line_of))]
 fn quick_line(room: &mut [u8; ROOM], event: &Event, before: usize) -> Option<usize>
@@ -109,10 +128,8 @@ fn quick_line(room: &mut [u8; ROOM], event: &Event, before: usize) -> Option<usi
     }
     let start = match event {
         Event::Relay { port, index, .. } => put_arrival(room, b"relay ", *port, *index, before),
-        Event::Ignored { port, index } => put_arrival(room, b"ignore ", *port, *index, before),
-        Event::Tick { seconds } => put_tick(room, *seconds, before),
         Event::Settled => put_settled(room, before),
-        _ => return None,
+        _ => return rare_line(room, event, before),
     };
     Some(start)
 }

@@ -37,6 +37,20 @@ impl Tally {
     {
         match event {
             Event::Relay { .. } => self.relayed += 1,
+            Event::Settled => {}
+            _ => self.count_rare(event),
+        }
+    }
+
+    /// Counts an event of which not each frame has one.
+    #[cold]
+    #[inline(never)]
+    fn count_rare(&mut self, event: &Event)
+        requires { FitsTally (counted event.now (counts_of self.old)) }
+        ensures { counts_of self.new ≡ counted event.now (counts_of self.old) }
+    {
+        match event {
+            Event::Relay { .. } => self.relayed += 1,
             Event::Ignored { .. } => self.ignored += 1,
             Event::Commit { .. } => self.commits += 1,
             Event::Refuse { .. } => self.refusals += 1,

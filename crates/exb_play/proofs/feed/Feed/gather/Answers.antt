@@ -35,7 +35,7 @@ returns-in-Eager-clause-gathered g c =
     let S = g.S.Shelf in
     let end = c.take_first.new.shelf in
     let (d, one, is) = some_at _ c.in_ok-second.field-0 c.in-Some.second c.in-Some.is c.in_ok-second.ensures.taken in
-    gathers-alone S.tells (mode_of c.args.schedule) (S.file c.args.shelf.now) (S.file end) (S.ids c.args.shelf.now) (S.ids end) c.in-Some.second _ c.take_first.new.self d one c.clear.ensures.items is
+    gathers-alone S.tells (mode_of c.args.schedule) (S.file c.args.shelf.now) (S.file end) (S.ids c.args.shelf.now) (S.ids end) c.in-Some.second _ c.take_first.new.self d one c.begin-buffer.ensures is
     (λ seeded. let differ : Eager ≡ Seeded = sym (ap mode_of c.in-Eager.is) ∙ seeded in cc)
 
 pub returns-in_ok-take_second-in-Seeded-clause-gathered : goal.returns-in_ok-take_second-in-Seeded-clause-gathered
@@ -45,7 +45,7 @@ returns-in_ok-take_second-in-Seeded-clause-gathered g c =
     let end = c.take_second.new.shelf in
     let (d, one, is) = some_at _ c.in_ok-second.field-0 c.in-Some.second c.in-Some.is c.in_ok-second.ensures.taken in
     gathers-all S.tells (mode_of c.args.schedule) (S.file c.args.shelf.now) (S.file mid) (S.file end) (S.ids c.args.shelf.now) (S.ids mid) (S.ids end) c.in-Some.second _ c.take_first.new.self c.take_second.new.self d one
-    c.clear.ensures.items is c.in_ok-take_second-in-Seeded.ensures.taken c.in_ok-take_second-in-Seeded.ensures.end
+    c.begin-buffer.ensures is c.in_ok-take_second-in-Seeded.ensures.taken c.in_ok-take_second-in-Seeded.ensures.end
     (λ eager. let differ : Seeded ≡ Eager = sym (ap mode_of c.in-Seeded.is) ∙ eager in cc)
 
 pub returns-in_err-take_second-in-Seeded-clause-port : goal.returns-in_err-take_second-in-Seeded-clause-port
