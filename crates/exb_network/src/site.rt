@@ -13,12 +13,13 @@ use exb_boxes::{Direction, Ends, Extenders, Indices, Log, Post, Store};
 use exb_control::{Control, Outbox};
 use exb_extender::Sends;
 use exb_model::buffers::ControlBuf;
+use exb_model::command::Command;
 use exb_model::memory::NoMemory;
 use exb_model::port::{DEVICES, PortId};
 use exb_model::setup::{Place, Setup};
 use exb_model::tree::Tree;
 use std::alloc::Global;
-use std::marker::Model;
+use std::marker::{Model, PhantomData};
 
 /// What never changes: the tree, and how many E-channels and groups the space of a bridge port has.
 #[derive(Drop)]
@@ -212,6 +213,8 @@ pub(crate) struct Room {
     pub(crate) sends: Sends,
     pub(crate) buffers: Buffers,
     pub(crate) post: Post,
+    /// Names the type of commands, for functions that make a step.
+    pub(crate) commands: PhantomData<Command>,
 }
 
 impl Room {
@@ -234,6 +237,7 @@ impl Room {
                 store: Store::new(alloc),
                 log: Log::new(alloc, tracing),
             },
+            commands: PhantomData,
         }
     }
 }

@@ -7,9 +7,10 @@ ghost use Rattle.exb_changing.specs.Counting.{planned};
 ghost use Rattle.exb_changing.specs.Deciding.{decide};
 ghost use Rattle.exb_machine.specs.Allowing.{Can, IsSettled};
 ghost use Rattle.exb_machine.specs.Stepping.{done_by, words_on};
-ghost use Rattle.exb_machine.specs.Worlds.{first_world};
+ghost use Rattle.exb_machine.specs.Worlds.{Arrive, Beat, Carry, Mark, first_world};
 ghost use Rattle.exb_machine.specs.Runs.Asks.{AsksWell};
 ghost use Rattle.exb_machine.specs.Runs.Laws.{HasBytes};
+ghost use Rattle.exb_network.specs.Arrivals.{arrival_of};
 ghost use Rattle.exb_network.specs.Idle.{IsIdle};
 ghost use Rattle.exb_network.specs.Networks.{network_of, step_of, IsLive, IsStepped};
 ghost use Rattle.exb_boxes.specs.Numbers.{IsNumber};
@@ -231,6 +232,7 @@ impl World {
     }
 
     /// Forgets what happened, and changes nothing else.
+    #[inline(always)]
     pub fn clear(&mut self)
         ensures world { world_of self.new ≡ world_of self.old }
         ensures same { IsSame self.old self.new }
@@ -258,10 +260,111 @@ fn make_told(site: &Site, step: &Step<'_>, room: &mut Room, core: &mut Core) -> 
     ensures made { OnOk result ((failed : Bool) → IsStepped (step_of step.now) (network_of site.now core.old room.old.post.log failed) (network_of site.now core.new room.new.post.log failed)) }
 {
     if room.post.log.tracing {
-        make_traced(site, step, room, core)
+        traced(site, step, room, core)
     } else {
         make_live(site, step, room, core)
     }
+}
+
+/// Makes a step, and tells its lines. Those steps of which each frame has some are made anew from their parts, out of line: so they have no place in
+/// memory where no trace is kept.
+#[inline(always)]
+fn traced(site: &Site, step: &Step<'_>, room: &mut Room, core: &mut Core) -> Result<(), NoMemory>
+    requires live { IsLive site.now core.old }
+    requires can { Can site.now.tree (world_in core.old) (step_of step.now) }
+    requires tracing { room.old.post.log.tracing ≡ true }
+    ensures live { OnOk result (IsLive site.now core.new) }
+    ensures made { OnOk result ((failed : Bool) → IsStepped (step_of step.now) (network_of site.now core.old room.old.post.log failed) (network_of site.now core.new room.new.post.log failed)) }
+{
+    match step {
+        Step::Arrive {
+            port,
+            index,
+            moment,
+            bytes,
+        } => {
+            let arrived = Arrived {
+                port: *port,
+                index: *index,
+                moment: *moment,
+                bytes: *bytes,
+            };
+            traced_arrive(site, &arrived, room, core)
+        }
+        Step::Carry { link, way } => traced_carry(site, *link, *way, room, core),
+        Step::Beat => traced_beat(site, room, core),
+        Step::Mark => traced_mark(site, room, core),
+        _ => make_traced(site, step, room, core),
+    }
+}
+
+/// A frame arrives, and its lines are told.
+#[cold]
+#[inline(never)]
+fn traced_arrive(
+    site: &Site,
+    arrived: &Arrived<'_>,
+    room: &mut Room,
+    core: &mut Core,
+) -> Result<(), NoMemory>
+    requires live { IsLive site.now core.old }
+    requires can { Can site.now.tree (world_in core.old) (Arrive (arrival_of arrived.now)) }
+    requires tracing { room.old.post.log.tracing ≡ true }
+    ensures live { OnOk result (IsLive site.now core.new) }
+    ensures made { OnOk result ((failed : Bool) → IsStepped (Arrive (arrival_of arrived.now)) (network_of site.now core.old room.old.post.log failed) (network_of site.now core.new room.new.post.log failed)) }
+{
+    let step = Step::Arrive {
+        port: arrived.port,
+        index: arrived.index,
+        moment: arrived.moment,
+        bytes: arrived.bytes,
+    };
+    make_traced(site, &step, room, core)
+}
+
+/// A data word is taken, and its lines are told.
+#[cold]
+#[inline(never)]
+fn traced_carry(
+    site: &Site,
+    link: u8,
+    way: Way,
+    room: &mut Room,
+    core: &mut Core,
+) -> Result<(), NoMemory>
+    requires live { IsLive site.now core.old }
+    requires can { Can site.now.tree (world_in core.old) (Carry link (way_of way)) }
+    requires tracing { room.old.post.log.tracing ≡ true }
+    ensures live { OnOk result (IsLive site.now core.new) }
+    ensures made { OnOk result ((failed : Bool) → IsStepped (Carry link (way_of way)) (network_of site.now core.old room.old.post.log failed) (network_of site.now core.new room.new.post.log failed)) }
+{
+    make_traced(site, &Step::Carry { link, way }, room, core)
+}
+
+/// A beat passes, and its lines are told.
+#[cold]
+#[inline(never)]
+fn traced_beat(site: &Site, room: &mut Room, core: &mut Core) -> Result<(), NoMemory>
+    requires live { IsLive site.now core.old }
+    requires can { Can site.now.tree (world_in core.old) Beat }
+    requires tracing { room.old.post.log.tracing ≡ true }
+    ensures live { OnOk result (IsLive site.now core.new) }
+    ensures made { OnOk result ((failed : Bool) → IsStepped Beat (network_of site.now core.old room.old.post.log failed) (network_of site.now core.new room.new.post.log failed)) }
+{
+    make_traced(site, &Step::Beat, room, core)
+}
+
+/// All is marked, and its line is told.
+#[cold]
+#[inline(never)]
+fn traced_mark(site: &Site, room: &mut Room, core: &mut Core) -> Result<(), NoMemory>
+    requires live { IsLive site.now core.old }
+    requires can { Can site.now.tree (world_in core.old) Mark }
+    requires tracing { room.old.post.log.tracing ≡ true }
+    ensures live { OnOk result (IsLive site.now core.new) }
+    ensures made { OnOk result ((failed : Bool) → IsStepped Mark (network_of site.now core.old room.old.post.log failed) (network_of site.now core.new room.new.post.log failed)) }
+{
+    make_traced(site, &Step::Mark, room, core)
 }
 
 /// Makes a step, and tells its lines.
