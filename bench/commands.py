@@ -127,11 +127,11 @@ def differences(top, pairs, jobs):
     """For each name and pair of lists of kinds, the second longer than the first, the instructions a command more by function."""
     with concurrent.futures.ThreadPoolExecutor(jobs) as pool:
         runs = {}
-        for name, pair in pairs.items():
-            for place, kinds in enumerate(pair):
-                runs[name, place] = pool.submit(by_function, kinds, f"{top}/{name}-{place}")
+        for kinds in (tuple(it) for pair in pairs.values() for it in pair):
+            if kinds not in runs:
+                runs[kinds] = pool.submit(by_function, kinds, f"{top}/{len(runs)}")
         for name, (few, many) in pairs.items():
-            low, high = runs[name, 0].result(), runs[name, 1].result()
+            low, high = runs[tuple(few)].result(), runs[tuple(many)].result()
             yield name, {at: (high[at] - low.get(at, 0)) / (len(many) - len(few)) for at in high}
 
 

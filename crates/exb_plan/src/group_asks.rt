@@ -41,7 +41,7 @@ impl Covered {
 fn cover_all(alloc: Global, tree: &Tree, groups: &[GroupAt]) -> Result<Vec<Covered>, NoMemory>
     ensures { IfOk result (λ made. (n : ℕ) → rows_of_covered made.items n ≡ rows_at tree.now (map seen_group groups.now) n) }
 {
-    let mut covered = Vec::new(alloc);
+    let mut covered = Vec::with_capacity(alloc, groups.len())?;
     for group in groups {
         covered.push(Covered {
             number: group.number,

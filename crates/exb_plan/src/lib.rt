@@ -16,6 +16,7 @@ mod group_asks;
 pub mod group_sets;
 pub mod group_uses;
 pub mod groups;
+mod guesses;
 mod lost_uses;
 pub mod parts;
 mod pending;

@@ -14,6 +14,7 @@ ghost use Rattle.exb_plan.specs.LostUses.{is_left, AreGroups, AreLeft, AreInUse}
 
 use crate::group_uses::GroupUses;
 use crate::groups::is_cascade;
+use crate::guesses::Guesses;
 use crate::rising::put_rising;
 use exb_changing::{GroupAt, SetAt};
 use exb_model::memory::NoMemory;
@@ -26,6 +27,7 @@ fn put_left(
     numbers: &mut Vec<u16>,
     spaces: &Spaces,
     uses: &GroupUses,
+    near: &mut Guesses,
     part: &SetAt,
     bridge_port: u8,
 ) -> Result<(), NoMemory>
@@ -43,7 +45,7 @@ fn put_left(
     if part.bridge_port != bridge_port {
         return Ok(());
     }
-    match spaces.groups(bridge_port).find(&part.set) {
+    match near.find(spaces.groups(bridge_port), part) {
         Some(group) => {
             if uses.count(bridge_port, group) > 0 {
                 return Ok(());
@@ -71,8 +73,9 @@ fn left_at(
     ensures members { IfOk result (λ made. (g : ℕ) → is_among made.items g ≡ is_left (held_by spaces.now) uses.now (map seen parts.now) (bridge_port - 1) g) }
 {
     let mut numbers = Vec::new(alloc);
+    let mut near = Guesses::new();
     for part in parts {
-        put_left(&mut numbers, spaces, uses, part, bridge_port)?;
+        put_left(&mut numbers, spaces, uses, &mut near, part, bridge_port)?;
     }
     Ok(numbers)
 }

@@ -9,12 +9,18 @@ ghost use Rattle.exb_plan.specs.Counted.{count_at};
 ghost use Rattle.exb_plan.specs.Recount.{AreOwn, HavePlaces, HaveRowsOf, AreRaised, AreLowered, AreEnough, AreUnused};
 
 use crate::group_uses::GroupUses;
+use crate::guesses::Guesses;
 use exb_changing::SetAt;
 use exb_model::memory::NoMemory;
 use exb_numbers::Spaces;
 
 // A use more of the group of a part's set, if it has one.
-fn raise(uses: &mut GroupUses, spaces: &Spaces, part: &SetAt) -> Result<(), NoMemory>
+fn raise(
+    uses: &mut GroupUses,
+    spaces: &Spaces,
+    near: &mut Guesses,
+    part: &SetAt,
+) -> Result<(), NoMemory>
     requires placed { IsPlaced spaces.now (seen part.now) }
     requires own { AreOwn spaces.now }
     requires places { HavePlaces spaces.now uses.old }
@@ -23,14 +29,14 @@ fn raise(uses: &mut GroupUses, spaces: &Spaces, part: &SetAt) -> Result<(), NoMe
     ensures met { ((g : ℕ) → group_in (held_by spaces.now) (part.now.bridge_port - 1) (seen part.now).ports ≡ Some g
         → count_at uses.old (part.now.bridge_port - 1) g < 2 ^ 63) → IsOk result }
 {
-    match spaces.groups(part.bridge_port).find(&part.set) {
+    match near.find(spaces.groups(part.bridge_port), part) {
         Some(group) => uses.raise(part.bridge_port, group),
         None => Ok(()),
     }
 }
 
 // A use less.
-fn lower(uses: &mut GroupUses, spaces: &Spaces, part: &SetAt)
+fn lower(uses: &mut GroupUses, spaces: &Spaces, near: &mut Guesses, part: &SetAt)
     requires placed { IsPlaced spaces.now (seen part.now) }
     requires own { AreOwn spaces.now }
     requires used { (g : ℕ) → group_in (held_by spaces.now) (part.now.bridge_port - 1) (seen part.now).ports ≡ Some g
@@ -38,7 +44,7 @@ fn lower(uses: &mut GroupUses, spaces: &Spaces, part: &SetAt)
     ensures counts { AreLowered spaces.now (seen part.now ∷ []) uses.old uses.new }
     ensures rows { HaveRowsOf uses.old uses.new }
 {
-    if let Some(group) = spaces.groups(part.bridge_port).find(&part.set) {
+    if let Some(group) = near.find(spaces.groups(part.bridge_port), part) {
         uses.lower(part.bridge_port, group);
     }
 }
@@ -55,14 +61,15 @@ pub(crate) fn raise_all(
     ensures counts { OnOk result (AreRaised spaces.now (map seen parts.now) uses.old uses.new) }
     ensures rows { HaveRowsOf uses.old uses.new }
 {
+    let mut near = Guesses::new();
     for part in parts {
-        raise(uses, spaces, part)?;
+        raise(uses, spaces, &mut near, part)?;
     }
     Ok(())
 }
 
 // A use more of the group of a part's set, if it has one, which has fewer than 2^63 uses.
-fn raise_few(uses: &mut GroupUses, spaces: &Spaces, part: &SetAt)
+fn raise_few(uses: &mut GroupUses, spaces: &Spaces, near: &mut Guesses, part: &SetAt)
     requires placed { IsPlaced spaces.now (seen part.now) }
     requires own { AreOwn spaces.now }
     requires places { HavePlaces spaces.now uses.old }
@@ -71,7 +78,7 @@ fn raise_few(uses: &mut GroupUses, spaces: &Spaces, part: &SetAt)
     ensures counts { AreRaised spaces.now (seen part.now ∷ []) uses.old uses.new }
     ensures rows { HaveRowsOf uses.old uses.new }
 {
-    raise(uses, spaces, part).unwrap()
+    raise(uses, spaces, near, part).unwrap()
 }
 
 /// Each group has a use more for each part that is its set. None of those groups has a use before.
@@ -83,8 +90,9 @@ pub(crate) fn raise_new(uses: &mut GroupUses, spaces: &Spaces, parts: &[SetAt])
     ensures counts { AreRaised spaces.now (map seen parts.now) uses.old uses.new }
     ensures rows { HaveRowsOf uses.old uses.new }
 {
+    let mut near = Guesses::new();
     for part in parts {
-        raise_few(uses, spaces, part);
+        raise_few(uses, spaces, &mut near, part);
     }
 }
 
@@ -96,7 +104,8 @@ pub(crate) fn lower_all(uses: &mut GroupUses, spaces: &Spaces, parts: &[SetAt])
     ensures counts { AreLowered spaces.now (map seen parts.now) uses.old uses.new }
     ensures rows { HaveRowsOf uses.old uses.new }
 {
+    let mut near = Guesses::new();
     for part in parts {
-        lower(uses, spaces, part);
+        lower(uses, spaces, &mut near, part);
     }
 }

@@ -27,7 +27,12 @@ use exb_model::tree::Tree;
 use exb_model::vlan::Vid;
 use std::alloc::Global;
 
-// Puts the parts of a VLAN's members among some ports, in the kind in which a port of these is a member.
+/// Room for so many parts is taken at once.
+const FEW: usize = 64;
+
+// Puts the parts of a VLAN's members among some ports, in the kind in which a port of these is a member. It is asked of
+// each VLAN, of which most have no such part.
+#[inline(always)]
 fn add_kind_with<V: View>(
     parts: &mut Vec<SetAt>,
     branches: &Branches,
@@ -309,7 +314,7 @@ pub fn parts_before(
     ensures { IfOk result (λ made. map seen made.items ≡ filter has_ports (parts_touched_before tree.now command.now (bridge_of config.now))) }
 {
     let branches = Branches::new(tree, config);
-    let mut parts = Vec::new(alloc);
+    let mut parts = Vec::with_capacity(alloc, FEW)?;
     add_before(&mut parts, &branches, config, config, command)?;
     Ok(parts)
 }
@@ -326,7 +331,7 @@ pub fn parts_after(
 {
     let view = Pending { config, command };
     let branches = Branches::new(tree, &view);
-    let mut parts = Vec::new(alloc);
+    let mut parts = Vec::with_capacity(alloc, FEW)?;
     add_after(&mut parts, &branches, &view, config, command)?;
     Ok(parts)
 }

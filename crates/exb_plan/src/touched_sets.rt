@@ -10,6 +10,7 @@ ghost use Rattle.exb_changing.specs.Plans.Making.{has_group};
 ghost use Rattle.exb_plan.specs.TouchedSets.{AreTouched};
 
 use crate::group_sets::each_once;
+use crate::guesses::Guesses;
 use crate::touched::{parts_after, parts_before};
 use exb_changing::SetAt;
 use exb_config::Config;
@@ -33,11 +34,11 @@ pub struct TouchedSets {
 }
 
 // Whether a set has a group.
-fn has_group(spaces: &Spaces, set: &SetAt) -> bool
+fn has_group(spaces: &Spaces, near: &mut Guesses, set: &SetAt) -> bool
     requires { IsPlaced spaces.now (seen set.now) }
     ensures { result ≡ has_group (held_by spaces.now) (seen set.now) }
 {
-    spaces.groups(set.bridge_port).find(&set.set).is_some()
+    near.find(spaces.groups(set.bridge_port), set).is_some()
 }
 
 // The parts whose sets have no group, in their order.
@@ -46,8 +47,9 @@ fn without_group(alloc: Global, spaces: &Spaces, parts: &[SetAt]) -> Result<Vec<
     ensures { IfOk result (λ made. map seen made.items ≡ filter (λ s. not (has_group (held_by spaces.now) s)) (map seen parts.now)) }
 {
     let mut fresh = Vec::new(alloc);
+    let mut near = Guesses::new();
     for part in parts {
-        if !has_group(spaces, part) {
+        if !has_group(spaces, &mut near, part) {
             fresh.push(*part)?;
         }
     }

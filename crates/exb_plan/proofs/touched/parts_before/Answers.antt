@@ -4,5 +4,5 @@ use Rattle.exb_plan.proofs.touched.parts_before.Goals as goal
 
 pub returns : goal.returns
 returns c =
-    before_is c.args.tree.now c.args.command.now (bridge_of c.args.config.now) c.new-parts.result.items c.add_before.new.parts.items c.new-parts.ensures.items
+    before_is c.args.tree.now c.args.command.now (bridge_of c.args.config.now) c.in_ok-parts.parts.items c.add_before.new.parts.items c.in_ok-parts.ensures.items
     (c.in_ok-add_before.ensures c.args.tree.now c.new-branches.ensures)
