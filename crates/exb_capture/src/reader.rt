@@ -5,7 +5,7 @@ ghost use Rattle.exb_shelf.specs.Counting.{after_read};
 ghost use Rattle.exb_shelf.specs.Shelf.{IsReading, moved, Rose, NoFewer};
 ghost use Rattle.exb_capture.specs.Blocks.{most_held};
 ghost use Rattle.exb_capture.specs.Formats.{at_place};
-ghost use Rattle.exb_capture.specs.Pieces.{Reading, At, unread, fitting, fed, roomy, failing, gone, over, at_last, at_nothing, turn, asked};
+ghost use Rattle.exb_capture.specs.Pieces.{Reading, At, unread, fitting, fed, roomy, gone, over, at_front_end, turn, asked};
 ghost use Rattle.exb_capture.specs.Reading.{HasFilled};
 ghost use Rattle.exb_capture.specs.Asked.{turned, seen, IsAhead, IsSeen, Looks};
 
@@ -147,13 +147,6 @@ impl<F: Format> Reader<F> {
         }
     }
 
-    // From now on it gives this fault.
-    fn fail(&mut self, fault: Fault)
-        ensures { self.new ≡ failing fault self.old }
-    {
-        self.failed = Some(fault);
-    }
-
     /// Takes the first bytes of a piece, as many as there is room for, and answers how many.
     pub fn feed(&mut self, piece: &[u8]) -> u32
         ensures taken { result ≡ fitting piece.now self.old }
@@ -194,33 +187,21 @@ impl<F: Format> Reader<F> {
         Ok(n)
     }
 
-    // That more is needed, or at the file's end this fault.
+    // That more is needed, or at the file's end this fault, from then on, or the end.
     #[inline(always)]
-    fn at_last(&mut self, ended: bool, fault: Fault) -> Option<Result<Ahead, Fault>>
-        ensures value { turned result self.new ≡ at_last most_held ended fault self.old }
+    fn at_last(&mut self, ended: bool, fault: Option<Fault>) -> Option<Result<Ahead, Fault>>
+        ensures value { turned result self.new ≡ at_front_end most_held ended fault self.old }
         ensures held { IsSeen self.new.held result }
     {
-        if ended {
-            self.fail(fault);
-            Some(Err(fault))
-        } else {
+        if !ended {
             self.make_room();
-            Some(Ok(Ahead::More))
+            return Some(Ok(Ahead::More));
         }
-    }
-
-    // That more is needed, or the end.
-    #[inline(always)]
-    fn at_nothing(&mut self, ended: bool) -> Option<Result<Ahead, Fault>>
-        ensures value { turned result self.new ≡ at_nothing most_held ended self.old }
-        ensures held { IsSeen self.new.held result }
-    {
-        if ended {
-            Some(Ok(Ahead::End))
-        } else {
-            self.make_room();
-            Some(Ok(Ahead::More))
-        }
+        let Some(fault) = fault else {
+            return Some(Ok(Ahead::End));
+        };
+        self.failed = Some(fault);
+        Some(Err(fault))
     }
 
     // What stands at the front.
@@ -253,16 +234,12 @@ impl<F: Format> Reader<F> {
         self.go();
         if self.owing > 0 {
             let at = self.begun;
-            return self.at_last(ended, Fault::new(Flaw::Cut, at));
+            return self.at_last(ended, Some(Fault::new(Flaw::Cut, at)));
         }
         match self.look() {
-            Front::Nothing => self.at_nothing(ended),
-            Front::Short(fault) => self.at_last(ended, fault.at_place(self.place)),
-            Front::Bad(fault) => {
-                let fault = fault.at_place(self.place);
-                self.fail(fault);
-                Some(Err(fault))
-            }
+            Front::Nothing => self.at_last(ended, None),
+            Front::Short(fault) => self.at_last(ended, Some(fault.at_place(self.place))),
+            Front::Bad(fault) => self.at_last(true, Some(fault.at_place(self.place))),
             Front::Over(n) => {
                 self.pass(n);
                 None
