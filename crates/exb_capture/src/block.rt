@@ -1,7 +1,7 @@
 //! The blocks of a pcapng file, each looked at once.
 ghost use Rattle.std.specs.Prelude.{◌≡◌, ◌≤◌, ◌<◌, ◌*◌, ◌^◌, ◌+◌, ◌-◌, ◌%◌, All, None, length, IfOk};
-ghost use Rattle.exb_capture.specs.Blocks.{new_order, old_order, order_at, kind_of, is_read, head_at, is_no_frame, or_option, resolution_from, interface_at, enhanced_at, simple_at, block_at};
-ghost use Rattle.exb_capture.specs.Within.{HasDigits, HasResolution, IsIn, IsHead};
+ghost use Rattle.exb_capture.specs.Blocks.{new_order, old_order, kind_of, is_read, head_at, is_no_frame, or_option, resolution_from, interface_at, enhanced_at, simple_at, block_at};
+ghost use Rattle.exb_capture.specs.Within.{HasDigits, HasResolution, IsIn, IsHead, IsReadable};
 
 use crate::fault::{Fault, Flaw, refuse};
 use crate::format::Seen;
@@ -80,19 +80,6 @@ fn new_order(twelve: &[u8]) -> Option<ByteOrder>
     }
 }
 
-// The order of bytes of a block, in a section of this order.
-#[inline(always)]
-fn order_at(old: Option<ByteOrder>, twelve: &[u8]) -> Option<ByteOrder>
-    requires { 12 ≤ length twelve.now }
-    ensures { old_order result ≡ order_at old twelve.now }
-{
-    if word_at(ByteOrder::Big, twelve, 0) == SECTION_HEADER {
-        new_order(twelve)
-    } else {
-        old
-    }
-}
-
 /// What the first twelve bytes of a block say, in a section of this order.
 #[inline(always)]
 pub(crate) fn head_of(old: Option<ByteOrder>, twelve: &[u8]) -> Result<Head, Fault>
@@ -100,7 +87,12 @@ pub(crate) fn head_of(old: Option<ByteOrder>, twelve: &[u8]) -> Result<Head, Fau
     ensures value { result ≡ head_at old twelve.now }
     ensures sized { IfOk result IsHead }
 {
-    let Some(order) = order_at(old, twelve) else {
+    let known = if word_at(ByteOrder::Big, twelve, 0) == SECTION_HEADER {
+        new_order(twelve)
+    } else {
+        old
+    };
+    let Some(order) = known else {
         return Err(Fault::new(Flaw::Magic, 8));
     };
     let kind = word_at(order, twelve, 0);
@@ -258,12 +250,7 @@ pub(crate) fn whole_block(
     last: u64,
     block: &[u8],
 ) -> Result<Content, Fault>
-    requires whole { length block.now ≡ head.size }
-    requires some { 12 ≤ head.size }
-    requires fours { head.size % 4 ≡ 0 }
-    requires most { head.size ≤ 327_680 }
-    requires digits { All HasResolution interfaces.now }
-    requires last { last < 2 ^ 32 * 1_000_000_000 }
+    requires { IsReadable head interfaces.now last block.now }
     ensures value { result ≡ block_at head interfaces.now last block.now }
     ensures within { IfOk result (IsIn head.size (length interfaces.now)) }
 {

@@ -116,18 +116,6 @@ fn record_of(order: ByteOrder, resolution: Resolution, held: &[u8]) -> Front
     Front::Holds(seen, size)
 }
 
-// The same, where the order of the bytes is asked once for all fields.
-#[inline(always)]
-fn record(form: Form, held: &[u8]) -> Front
-    ensures value { told result (Reached.Behind form) held.now ≡ record_front form held.now }
-    ensures within { IsWithin held.now result }
-{
-    match form.order {
-        ByteOrder::Little => record_of(ByteOrder::Little, form.resolution, held),
-        ByteOrder::Big => record_of(ByteOrder::Big, form.resolution, held),
-    }
-}
-
 impl Reached {
     // What stands at the front of a file.
     #[cold]
@@ -167,7 +155,11 @@ impl Format for Reached {
     fn front(&mut self, held: &[u8]) -> Front {
         match *self {
             Reached::Start => self.at_start(held),
-            Reached::Behind(form) => record(form, held),
+            // The order of the bytes is asked once for all fields.
+            Reached::Behind(form) => match form.order {
+                ByteOrder::Little => record_of(ByteOrder::Little, form.resolution, held),
+                ByteOrder::Big => record_of(ByteOrder::Big, form.resolution, held),
+            },
         }
     }
 

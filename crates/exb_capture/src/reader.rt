@@ -1,12 +1,9 @@
 //! Reading a capture that is fed in pieces, in any format.
-ghost use Rattle.std.specs.Prelude.{◌≡◌, ◌≢◌, ◌<◌, ◌≤◌, ◌+◌, ◌-◌, ◌^◌, ℕ, [], false, true, length, drop, take, Ok, None, IfOk, OnErr, IsErrOf, IfSome, min};
-ghost use Rattle.exb_shelf.specs.Files.{SameFiles, bytes_of};
-ghost use Rattle.exb_shelf.specs.Counting.{after_read};
-ghost use Rattle.exb_shelf.specs.Shelf.{IsReading, moved, Rose, NoFewer};
+ghost use Rattle.std.specs.Prelude.{◌≡◌, ◌≢◌, ◌<◌, ◌≤◌, ◌+◌, ◌-◌, length, drop, take, None, IfOk};
+ghost use Rattle.exb_shelf.specs.Shelf.{IsReading};
 ghost use Rattle.exb_capture.specs.Blocks.{most_held};
-ghost use Rattle.exb_capture.specs.Formats.{at_place};
 ghost use Rattle.exb_capture.specs.Pieces.{Reading, At, unread, fitting, fed, roomy, gone, over, at_front_end, turn, asked};
-ghost use Rattle.exb_capture.specs.Reading.{HasFilled};
+ghost use Rattle.exb_capture.specs.Calls.{Fills};
 ghost use Rattle.exb_capture.specs.Asked.{turned, seen, IsAhead, IsSeen, Looks};
 
 use crate::fault::{Fault, Flaw};
@@ -28,19 +25,6 @@ pub enum Ahead {
     More,
     /// There is no further record.
     End,
-}
-
-impl Fault {
-    // The same fault in what begins at this place of the file.
-    #[inline]
-    fn at_place(self, place: u64) -> Fault
-        ensures { result ≡ at_place place self }
-    {
-        Fault {
-            flaw: self.flaw,
-            at: place.saturating_add(self.at),
-        }
-    }
 }
 
 // A buffer of this many bytes.
@@ -169,17 +153,7 @@ impl<F: Format> Reader<F> {
     ) -> Result<usize, ShelfFault>
         requires reading { IsReading (S.ids shelf.old id) }
         requires room { most ≤ self.old.room }
-        ensures bound { IfOk result (λ n. n ≤ most) }
-        ensures filled { IfOk result (λ n. HasFilled S.tells (drop (S.ids shelf.old id).place (bytes_of (S.file shelf.old (S.ids shelf.old id).name))) n self.old self.new) }
-        ensures end { S.tells → 0 < most → IfOk result (λ n. n ≡ 0 → drop (S.ids shelf.old id).place (bytes_of (S.file shelf.old (S.ids shelf.old id).name)) ≡ []) }
-        ensures same { OnErr result (self.new ≡ self.old) }
-        ensures id { IfOk result (λ n. S.ids shelf.new id ≡ moved (S.ids shelf.old id) n) }
-        ensures others { (j : ℕ) → j ≢ id → S.ids shelf.new j ≡ S.ids shelf.old j }
-        ensures id_err { OnErr result (S.ids shelf.new id ≡ S.ids shelf.old id) }
-        ensures files { SameFiles (S.file shelf.old) (S.file shelf.new) }
-        ensures counts { S.faults shelf.new ≡ after_read result (S.faults shelf.old) }
-        ensures faults { NoFewer (S.faults shelf.old) (S.faults shelf.new) }
-        ensures failed { IsErrOf result ShelfFault.Failed → Rose (S.faults shelf.old).reads (S.faults shelf.new).reads }
+        ensures { Fills S.tells (S.file shelf.old) (S.file shelf.new) (S.ids shelf.old) (S.ids shelf.new) (S.faults shelf.old) (S.faults shelf.new) id most self.old self.new result }
     {
         let to = self.end + most;
         let n = shelf.read(id, &mut self.buffer.as_mut_slice()[self.end..to])?;
