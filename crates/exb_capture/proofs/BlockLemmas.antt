@@ -18,7 +18,7 @@ use Rattle.exb_capture.proofs.FormatLemmas.{IsDecided, longer, IsMeasured, LiesW
 use Rattle.exb_capture.proofs.BlockSizes.{head_sized, IsSized, IsLong, block_long}
 use Rattle.exb_capture.proofs.BlockOpen.{block_undecided, block_blank}
 use Rattle.exb_capture.proofs.BlockPlaces.{block_within, head_within}
-use Rattle.exb_capture.specs.Blocks.{Sections, order_of, interfaces_of, is_read, head_at, block_at, shown, whole_front, headed_front, block_front, most_held}
+use Rattle.exb_capture.specs.Blocks.{Sections, order_of, interfaces_of, is_read, head_at, block_at, shown, whole_front, headed_front, block_front, most_held, kind_of}
 
 -- a block that is there
 abbrev pub block : Sections → Head → List ℕ → Front Sections
@@ -37,7 +37,7 @@ whole_stands s head h more = by_size (nat_lt (length h) head.size) refl
 
 headed_stands : (s : Sections) (x : Result Head Fault) (h more : List ℕ) → IsDecided (headed_front s x h) → headed_front s x (h ++ more) ≡ headed_front s x h
 headed_stands s (Err f) h more = λ is. refl
-headed_stands s (Ok head) h more = by_kind (is_read head.kind)
+headed_stands s (Ok head) h more = by_kind (is_read (kind_of head.kind))
   where
     by_kind : (b : Bool) → IsDecided (cond b (whole_front s head h) (Over head.size s)) → cond b (whole_front s head (h ++ more)) (Over head.size s) ≡ cond b (whole_front s head h) (Over head.size s)
     by_kind true is = whole_stands s head h more is
@@ -74,13 +74,13 @@ shown_measured s head b (Err f) h long lies some fits = omega (arith, lies, fits
 
 headed_measured : (s : Sections) (x : Result Head Fault) (h : List ℕ) → ((head : Head) → x ≡ Ok head → IsSized head) → 12 ≤ length h → LiesWithin 12 x → IsMeasured most_held h (headed_front s x h)
 headed_measured s (Err f) h sized twelve lies = omega (arith, twelve, lies)
-headed_measured s (Ok head) h sized twelve lies = by_kind (is_read head.kind) refl
+headed_measured s (Ok head) h sized twelve lies = by_kind (is_read (kind_of head.kind)) refl
   where
-    by_size : (b : Bool) → nat_lt (length h) head.size ≡ b → is_read head.kind ≡ true → IsMeasured most_held h (cond b (Short (fault Cut 0)) (block s head h))
+    by_size : (b : Bool) → nat_lt (length h) head.size ≡ b → is_read (kind_of head.kind) ≡ true → IsMeasured most_held h (cond b (Short (fault Cut 0)) (block s head h))
     by_size true e read = let few = ltb-true (length h) head.size e in let most = (sized head refl).most read in (omega (arith, few, most), omega arith)
     by_size false e read = shown_measured s head (take head.size h) (block_at head (interfaces_of s.section) s.last (take head.size h)) h (block_long head (interfaces_of s.section) s.last (take head.size h)) (block_within head (interfaces_of s.section) s.last (take head.size h) (sized head refl).some) (let some = (sized head refl).some in omega (arith, some)) (ltb-false (length h) head.size e)
 
-    by_kind : (b : Bool) → is_read head.kind ≡ b → IsMeasured most_held h (cond b (whole_front s head h) (Over head.size s))
+    by_kind : (b : Bool) → is_read (kind_of head.kind) ≡ b → IsMeasured most_held h (cond b (whole_front s head h) (Over head.size s))
     by_kind true read = by_size (nat_lt (length h) head.size) refl read
     by_kind false read = let some = (sized head refl).some in omega (arith, some)
 

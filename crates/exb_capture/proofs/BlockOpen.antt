@@ -8,15 +8,13 @@ use Rattle.exb_capture.specs.declared.fault.Flaw.TheVariants.{Version, LinkType,
 use Rattle.exb_capture.specs.declared.order.ByteOrder.{ByteOrder}
 use Rattle.exb_capture.specs.declared.order.ByteOrder.TheVariants.{Big, Little}
 use Rattle.exb_capture.specs.declared.block.Interface.{Interface}
-use Rattle.exb_capture.specs.declared.block.Kind.{Kind}
-use Rattle.exb_capture.specs.declared.block.Kind.TheVariants.{SectionHeader, InterfaceBlock, EnhancedPacket, SimplePacket, Other}
 use Rattle.exb_capture.specs.declared.block.Head.{Head}
 use Rattle.exb_capture.specs.declared.block.Content.{Content}
 use Rattle.exb_capture.specs.declared.block.Content.TheVariants.{Skipped, NewSection, NewInterface, Packet}
 use Rattle.exb_capture.specs.Formats.{Front, Nothing, Short, Over, fault}
 use Rattle.exb_capture.specs.Fields.{◌>>=◌, refuse, word, half_word, nanoseconds}
 use Rattle.exb_capture.specs.Pieces.{IsOther, IsUndecided, IsNotCut}
-use Rattle.exb_capture.specs.Blocks.{Sections, order_of, interfaces_of, is_header, new_order, old_order, order_at, kind_of, is_read, is_no_size, head_at, digits_at, or_option, or_six, padded, resolution_within, resolution_from, section_at, interface_at, interface_number, no_interface, units_at, is_no_frame, enhanced_at, snapped, simple_at, content_at, block_at, shown, whole_front, headed_front, block_front}
+use Rattle.exb_capture.specs.Blocks.{Sections, order_of, interfaces_of, is_header, new_order, old_order, order_at, kind_of, is_read, is_no_size, head_at, digits_at, or_option, or_six, padded, resolution_within, resolution_from, section_at, interface_at, interface_number, no_interface, units_at, is_no_frame, enhanced_at, snapped, simple_at, content_at, block_at, shown, whole_front, headed_front, block_front, Kind, SectionHeader, InterfaceBlock, EnhancedPacket, SimplePacket, Other}
 use Rattle.exb_capture.proofs.BlockSizes.{head_sized}
 use Rattle.exb_capture.proofs.UndecidedLemmas.{IsWhole, then_whole, refused_whole, chosen_whole, zeros_are_bytes, append_bytes, filled_long}
 
@@ -35,10 +33,10 @@ order_whole old twelve =
 head_whole : (old : Option ByteOrder) (twelve : List ℕ) → IsWhole (head_at old twelve)
 head_whole old twelve =
     then_whole (order_at old twelve)
-    (λ order. refuse (is_no_size (kind_of (word order twelve 0)) (word order twelve 4)) (fault Length 4) >>= (λ sized. Ok (record { order = order; kind = kind_of (word order twelve 0); size = word order twelve 4 })))
+    (λ order. refuse (is_no_size (kind_of (word order twelve 0)) (word order twelve 4)) (fault Length 4) >>= (λ sized. Ok (record { order = order; kind = word order twelve 0; size = word order twelve 4 })))
     (order_whole old twelve)
     (λ order. then_whole (refuse (is_no_size (kind_of (word order twelve 0)) (word order twelve 4)) (fault Length 4))
-    (λ sized. Ok (record { order = order; kind = kind_of (word order twelve 0); size = word order twelve 4 }))
+    (λ sized. Ok (record { order = order; kind = word order twelve 0; size = word order twelve 4 }))
     (refused_whole (is_no_size (kind_of (word order twelve 0)) (word order twelve 4)) (fault Length 4) (λ e. cc)) (λ u. tt))
 
 -- what an option 9 says is no such fault
@@ -158,8 +156,8 @@ content_whole Other head interfaces last block = tt
 block_whole : (head : Head) (interfaces : List Interface) (last : ℕ) (block : List ℕ) → IsWhole (block_at head interfaces last block)
 unfolding block_at
 block_whole head interfaces last block =
-    then_whole (refuse (not (word head.order block (head.size - 4) == head.size)) (fault Length (head.size - 4))) (λ closed. content_at head.kind head interfaces last block)
-    (refused_whole (not (word head.order block (head.size - 4) == head.size)) (fault Length (head.size - 4)) (λ e. cc)) (λ closed. content_whole head.kind head interfaces last block)
+    then_whole (refuse (not (word head.order block (head.size - 4) == head.size)) (fault Length (head.size - 4))) (λ closed. content_at (kind_of head.kind) head interfaces last block)
+    (refused_whole (not (word head.order block (head.size - 4) == head.size)) (fault Length (head.size - 4)) (λ e. cc)) (λ closed. content_whole (kind_of head.kind) head interfaces last block)
 
 -- ---- what stands at the front of bytes of a head
 front_of_head : (s : Sections) (b : List ℕ) (x : Result Head Fault) → 12 ≤ length b → head_at (order_of s.section) (take 12 b) ≡ x → block_front s b ≡ headed_front s x b
@@ -178,7 +176,7 @@ shown_other s head b (Err f) n h e = h
 
 -- a block of which all bytes are there, and no more
 full_other : (s : Sections) (b : List ℕ) (head : Head) → length b ≡ head.size → 12 ≤ head.size → head_at (order_of s.section) (take 12 b) ≡ Ok head → IsOther Cut (length b) (block_front s b)
-full_other s b head size some e = subst (IsOther Cut (length b)) (sym (front_of_head s b (Ok head) (omega (arith, size, some)) e)) (by_kind (is_read head.kind))
+full_other s b head size some e = subst (IsOther Cut (length b)) (sym (front_of_head s b (Ok head) (omega (arith, size, some)) e)) (by_kind (is_read (kind_of head.kind)))
   where
     whole : Front Sections
     whole = shown s head (take head.size b) (block_at head (interfaces_of s.section) s.last (take head.size b))
@@ -229,7 +227,7 @@ long_undecided s h head long short e =
 
 headed_undecided : (s : Sections) (h : List ℕ) (x : Result Head Fault) (f : Fault) → 12 ≤ length h → head_at (order_of s.section) (take 12 h) ≡ x → headed_front s x h ≡ Short f → IsUndecided block_front s h f.flaw
 headed_undecided s h (Err g) f long e = λ is. absurd (cc)
-headed_undecided s h (Ok head) f long e = by_kind (is_read head.kind)
+headed_undecided s h (Ok head) f long e = by_kind (is_read (kind_of head.kind))
   where
     whole : Front Sections
     whole = shown s head (take head.size h) (block_at head (interfaces_of s.section) s.last (take head.size h))

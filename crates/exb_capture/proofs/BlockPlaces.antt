@@ -7,14 +7,12 @@ use Rattle.exb_capture.specs.declared.fault.Flaw.TheVariants.{Version, LinkType,
 use Rattle.exb_capture.specs.declared.order.ByteOrder.{ByteOrder}
 use Rattle.exb_capture.specs.declared.order.ByteOrder.TheVariants.{Big, Little}
 use Rattle.exb_capture.specs.declared.block.Interface.{Interface}
-use Rattle.exb_capture.specs.declared.block.Kind.{Kind}
-use Rattle.exb_capture.specs.declared.block.Kind.TheVariants.{SectionHeader, InterfaceBlock, EnhancedPacket, SimplePacket, Other}
 use Rattle.exb_capture.specs.declared.block.Head.{Head}
 use Rattle.exb_capture.specs.declared.block.Content.{Content}
 use Rattle.exb_capture.specs.declared.block.Content.TheVariants.{NewSection, NewInterface, Packet}
 use Rattle.exb_capture.specs.Formats.{fault}
 use Rattle.exb_capture.specs.Fields.{◌>>=◌, refuse, word, half_word, nanoseconds}
-use Rattle.exb_capture.specs.Blocks.{is_header, new_order, old_order, order_at, kind_of, is_no_size, head_at, digits_at, or_option, or_six, padded, resolution_within, resolution_from, section_at, interface_at, interface_number, no_interface, units_at, is_no_frame, enhanced_at, snapped, simple_at, content_at, block_at}
+use Rattle.exb_capture.specs.Blocks.{is_header, new_order, old_order, order_at, kind_of, is_no_size, head_at, digits_at, or_option, or_six, padded, resolution_within, resolution_from, section_at, interface_at, interface_number, no_interface, units_at, is_no_frame, enhanced_at, snapped, simple_at, content_at, block_at, Kind, SectionHeader, InterfaceBlock, EnhancedPacket, SimplePacket, Other}
 use Rattle.exb_capture.proofs.FormatLemmas.{LiesWithin, then_within, sized_within, refused_within, chosen_within, further_within}
 
 -- ---- the head
@@ -32,10 +30,10 @@ order_within old twelve =
 pub head_within : (old : Option ByteOrder) (twelve : List ℕ) → LiesWithin 12 (head_at old twelve)
 head_within old twelve =
     then_within 12 (order_at old twelve)
-    (λ order. refuse (is_no_size (kind_of (word order twelve 0)) (word order twelve 4)) (fault Length 4) >>= (λ sized. Ok (record { order = order; kind = kind_of (word order twelve 0); size = word order twelve 4 })))
+    (λ order. refuse (is_no_size (kind_of (word order twelve 0)) (word order twelve 4)) (fault Length 4) >>= (λ sized. Ok (record { order = order; kind = word order twelve 0; size = word order twelve 4 })))
     (order_within old twelve)
     (λ order. then_within 12 (refuse (is_no_size (kind_of (word order twelve 0)) (word order twelve 4)) (fault Length 4))
-    (λ sized. Ok (record { order = order; kind = kind_of (word order twelve 0); size = word order twelve 4 }))
+    (λ sized. Ok (record { order = order; kind = word order twelve 0; size = word order twelve 4 }))
     (refused_within 12 (is_no_size (kind_of (word order twelve 0)) (word order twelve 4)) (fault Length 4) (omega arith)) (λ u. tt))
 
 -- ---- options
@@ -163,5 +161,5 @@ content_within Other head interfaces last block some = tt
 pub block_within : (head : Head) (interfaces : List Interface) (last : ℕ) (block : List ℕ) → 12 ≤ head.size → LiesWithin head.size (block_at head interfaces last block)
 unfolding block_at
 block_within head interfaces last block some =
-    then_within head.size (refuse (not (word head.order block (head.size - 4) == head.size)) (fault Length (head.size - 4))) (λ closed. content_at head.kind head interfaces last block)
-    (refused_within head.size (not (word head.order block (head.size - 4) == head.size)) (fault Length (head.size - 4)) (omega arith)) (λ closed. content_within head.kind head interfaces last block some)
+    then_within head.size (refuse (not (word head.order block (head.size - 4) == head.size)) (fault Length (head.size - 4))) (λ closed. content_at (kind_of head.kind) head interfaces last block)
+    (refused_within head.size (not (word head.order block (head.size - 4) == head.size)) (fault Length (head.size - 4)) (omega arith)) (λ closed. content_within (kind_of head.kind) head interfaces last block some)

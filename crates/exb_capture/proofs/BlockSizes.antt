@@ -5,20 +5,18 @@ use Rattle.std.proofs.lemmas.Bool.{ltb-false}
 use Rattle.exb_capture.specs.declared.fault.Fault.{Fault}
 use Rattle.exb_capture.specs.declared.fault.Flaw.TheVariants.{Length}
 use Rattle.exb_capture.specs.declared.order.ByteOrder.{ByteOrder}
-use Rattle.exb_capture.specs.declared.block.Kind.{Kind}
 use Rattle.exb_capture.specs.declared.block.Head.{Head}
 use Rattle.exb_capture.specs.Formats.{fault}
 use Rattle.exb_capture.specs.Fields.{◌>>=◌, refuse, word}
 use Rattle.exb_capture.specs.declared.block.Interface.{Interface}
-use Rattle.exb_capture.specs.declared.block.Kind.TheVariants.{SectionHeader, InterfaceBlock, EnhancedPacket, SimplePacket, Other}
 use Rattle.exb_capture.specs.declared.block.Content.{Content}
 use Rattle.exb_capture.specs.declared.block.Content.TheVariants.{Skipped, NewSection, NewInterface, Packet}
-use Rattle.exb_capture.specs.Blocks.{kind_of, is_read, is_no_size, order_at, head_at, content_at, block_at}
+use Rattle.exb_capture.specs.Blocks.{kind_of, is_read, is_no_size, order_at, head_at, content_at, block_at, Kind, SectionHeader, InterfaceBlock, EnhancedPacket, SimplePacket, Other}
 
 -- what a head that is read tells of the size
 pub record IsSized (head : Head) : Type 0 where
   pub some : 12 ≤ head.size
-  pub most : is_read head.kind ≡ true → head.size ≤ 327_680
+  pub most : is_read (kind_of head.kind) ≡ true → head.size ≤ 327_680
 
 no_or : (a b : Bool) → (a || b) ≡ false → (a ≡ false) × (b ≡ false)
 no_or true b e = absurd (cc)
@@ -39,15 +37,15 @@ pub head_sized : (old : Option ByteOrder) (twelve : List ℕ) (head : Head) → 
 head_sized old twelve head = by_order (order_at old twelve)
   where
     by_test : (order : ByteOrder) (b : Bool) → is_no_size (kind_of (word order twelve 0)) (word order twelve 4) ≡ b
-        → (refuse b (fault Length 4) >>= (λ sized. Ok (record { order = order; kind = kind_of (word order twelve 0); size = word order twelve 4 }))) ≡ Ok head → IsSized head
+        → (refuse b (fault Length 4) >>= (λ sized. Ok (record { order = order; kind = word order twelve 0; size = word order twelve 4 }))) ≡ Ok head → IsSized head
     by_test order true t e = absurd (cc)
     by_test order false t e =
-        let same : record { order = order; kind = kind_of (word order twelve 0); size = word order twelve 4 } ≡ head = cc in
+        let same : record { order = order; kind = word order twelve 0; size = word order twelve 4 } ≡ head = cc in
         let sized = sized_by (kind_of (word order twelve 0)) (word order twelve 4) t in
         subst IsSized same (record { some = sized.0; most = sized.1 })
 
     by_order : (x : Result ByteOrder Fault)
-        → (x >>= (λ order. refuse (is_no_size (kind_of (word order twelve 0)) (word order twelve 4)) (fault Length 4) >>= (λ sized. Ok (record { order = order; kind = kind_of (word order twelve 0); size = word order twelve 4 }))))
+        → (x >>= (λ order. refuse (is_no_size (kind_of (word order twelve 0)) (word order twelve 4)) (fault Length 4) >>= (λ sized. Ok (record { order = order; kind = word order twelve 0; size = word order twelve 4 }))))
         ≡ Ok head → IsSized head
     by_order (Ok order) e = by_test order (is_no_size (kind_of (word order twelve 0)) (word order twelve 4)) refl e
     by_order (Err f) e = absurd (cc)
@@ -88,5 +86,5 @@ content_long Other head interfaces last block = tt
 pub block_long : (head : Head) (interfaces : List Interface) (last : ℕ) (block : List ℕ) → IsLong head.size (block_at head interfaces last block)
 unfolding block_at
 block_long head interfaces last block =
-    passed_long head.size (not (word head.order block (head.size - 4) == head.size)) (fault Length (head.size - 4)) (λ closed. content_at head.kind head interfaces last block)
-    (content_long head.kind head interfaces last block)
+    passed_long head.size (not (word head.order block (head.size - 4) == head.size)) (fault Length (head.size - 4)) (λ closed. content_at (kind_of head.kind) head interfaces last block)
+    (content_long (kind_of head.kind) head interfaces last block)

@@ -1,7 +1,7 @@
 -- Classic pcap is a format.
-use Rattle.std.proofs.Common.{◌≡◌, ◌≤◌, ◌+◌, ℕ, Bool, true, false, List, ◌++◌, length, take, drop, Option, Some, None, Result, Ok, Err, cond, refl, ap, sym, ◌∙◌, arith}
+use Rattle.std.proofs.Common.{◌≡◌, ◌<◌, ◌≤◌, ◌+◌, ◌-◌, ◌*◌, ℕ, Bool, true, false, List, ◌++◌, length, take, drop, Option, Some, None, Result, Ok, Err, cond, refl, ap, sym, subst, ◌∙◌, arith}
 use Rattle.std.specs.Prelude.{nat_lt, nat_le, nat_eq, not, ◌&&◌, ◌==◌, ◌^◌}
-use Rattle.std.proofs.lemmas.Bool.{ltb-false, ltb-true, le-ltb, ne_eqb, eqb-true}
+use Rattle.std.proofs.lemmas.Bool.{ltb-false, ltb-true, le-ltb, lt-leb, ne_eqb, eqb-true}
 use Rattle.std.proofs.lemmas.List.{take-append-le}
 use Rattle.exb_capture.specs.declared.fault.Fault.{Fault}
 use Rattle.exb_capture.specs.declared.fault.Flaw.TheVariants.{NotPcap, Version, LinkType, Cut, Length, Time}
@@ -160,6 +160,19 @@ pub classic_is_a_format : IsFormat most_held classic_front
 classic_is_a_format = format_by most_held classic_front classic_stands classic_measured classic_undecided classic_blank
 
 -- ---- a record, as the code finds it
+pub head_is : (f : Form) (head : List ℕ) (fraction n units : ℕ) → fraction ≡ word f.order head 4 → n ≡ word f.order head 8 → units ≡ 10 ^ digits f.resolution → fraction < units → n ≤ 262_144
+    → Ok n ≡ head_at f head
+head_is f head fraction n units first size is early short =
+    let low : word f.order head 4 < 10 ^ digits f.resolution = subst (λ u. word f.order head 4 < u) is (subst (λ x. x < units) first early) in
+    let few : word f.order head 8 ≤ 262_144 = subst (λ x. x ≤ 262_144) size short in
+    ap Ok size
+    ∙ sym (ap (λ b. refuse b (fault Time 4) >>= (λ early. refuse (nat_lt 262_144 (word f.order head 8)) (fault Length 8) >>= (λ short. Ok (word f.order head 8)))) (lt-leb (10 ^ digits f.resolution) (word f.order head 4) low)
+    ∙ ap (λ b. refuse b (fault Length 8) >>= (λ short. Ok (word f.order head 8))) (le-ltb 262_144 (word f.order head 8) few))
+
+pub time_is : (f : Form) (head : List ℕ) (seconds fraction unit : ℕ) → seconds ≡ word f.order head 0 → fraction ≡ word f.order head 4 → unit ≡ 10 ^ (9 - digits f.resolution)
+    → seconds * 1_000_000_000 + fraction * unit ≡ time_at f head
+time_is f head seconds fraction unit a b c = (λ i. a i * 1_000_000_000 + b i * c i)
+
 pub record_is : (f : Form) (held : List ℕ) (n time : ℕ) → 16 + n ≤ length held → Ok n ≡ head_at f (take 16 held) → time ≡ time_at f (take 16 held)
     → Holds (record { time = time; bytes = take n (drop 16 held) }) (16 + n) (Behind f) ≡ record_front f held
 record_is f held n time fits head is =

@@ -1,6 +1,7 @@
 -- What is told of the records that were taken.
 use Rattle.std.proofs.Common.{◌≡◌, ◌<◌, ◌+◌, ◌-◌, ◌*◌, ◌^◌, ℕ, Option, List, [], ◌∷◌, ◌++◌, length, Some, None, refl, ap, sym, ◌∙◌, arith, length-append}
 use Rattle.std.specs.Prelude.{min, IfSome}
+use Rattle.std.specs.Option.{option_or}
 use Rattle.exb_model.specs.Input.{Record}
 use Rattle.exb_capture.specs.declared.checking.Scanned.{Scanned}
 use Rattle.exb_capture.specs.declared.file.CaptureFile.{CaptureFile}
@@ -9,6 +10,10 @@ use Rattle.exb_capture.specs.Scans.{HasCounted, IsScanned, first_time, or_this}
 
 pub none_counted : (bytes : List ℕ) (f : CaptureFile) → HasRead bytes [] f → HasCounted bytes f (record { bytes = 0; records = 0; first = None })
 none_counted bytes f h = record { taken = []; read = h; records = refl; first = refl }
+
+pub or_is : (first : Option ℕ) (m : ℕ) → option_or first (Some m) ≡ or_this first m
+or_is None m = refl
+or_is (Some k) m = refl
 
 first_on : (xs : List Record) (x : Record) (m : ℕ) → x.time ≡ m → or_this (first_time xs) m ≡ first_time (xs ++ x ∷ [])
 first_on [] x m e = ap Some (sym e)

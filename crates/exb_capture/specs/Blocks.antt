@@ -5,8 +5,6 @@ use Rattle.exb_model.specs.Input.{Record}
 use Rattle.exb_capture.specs.declared.fault.Fault.{Fault}
 use Rattle.exb_capture.specs.declared.fault.Flaw.TheVariants.{Version, LinkType, Cut, Length, Time, Magic, TooMany, Resolution, Interface as NoInterface}
 use Rattle.exb_capture.specs.declared.block.Interface.{Interface}
-use Rattle.exb_capture.specs.declared.block.Kind.{Kind}
-use Rattle.exb_capture.specs.declared.block.Kind.TheVariants.{SectionHeader, InterfaceBlock, EnhancedPacket, SimplePacket, Other}
 use Rattle.exb_capture.specs.declared.block.Head.{Head}
 use Rattle.exb_capture.specs.declared.block.Content.{Content}
 use Rattle.exb_capture.specs.declared.block.Content.TheVariants.{Skipped, NewSection, NewInterface, Packet}
@@ -52,6 +50,14 @@ old_order (Some order) = Ok order
 abbrev pub order_at : Option ByteOrder → List ℕ → Result ByteOrder Fault
 order_at old twelve = if is_header twelve then new_order twelve else old_order old
 
+-- what is read of a block
+pub data Kind : Type 0 where
+  SectionHeader : Kind
+  InterfaceBlock : Kind
+  EnhancedPacket : Kind
+  SimplePacket : Kind
+  Other : Kind
+
 -- by the number at its front
 abbrev pub kind_of : ℕ → Kind
 kind_of n =
@@ -79,7 +85,7 @@ abbrev pub head_at : Option ByteOrder → List ℕ → Result Head Fault
 head_at old twelve = do
   order ← order_at old twelve
   sized ← refuse (is_no_size (kind_of (word order twelve 0)) (word order twelve 4)) (fault Length 4)
-  Ok (record { order = order; kind = kind_of (word order twelve 0); size = word order twelve 4 })
+  Ok (record { order = order; kind = word order twelve 0; size = word order twelve 4 })
 
 -- ---- options
 -- what an option 9 says: the digits behind the point of a second
@@ -174,7 +180,7 @@ content_at Other head interfaces last block = Ok Skipped
 unfoldable pub block_at : Head → List Interface → ℕ → List ℕ → Result Content Fault
 block_at head interfaces last block = do
   closed ← refuse (not (word head.order block (head.size - 4) == head.size)) (fault Length (head.size - 4))
-  content_at head.kind head interfaces last block
+  content_at (kind_of head.kind) head interfaces last block
 
 -- ---- the format
 abbrev pub order_of : Option Section → Option ByteOrder
@@ -205,7 +211,7 @@ whole_front s head left =
 
 -- what is skipped needn't be there yet
 abbrev pub headed_front : Sections → Result Head Fault → List ℕ → Front Sections
-headed_front s (Ok head) left = if is_read head.kind then whole_front s head left else Over head.size s
+headed_front s (Ok head) left = if is_read (kind_of head.kind) then whole_front s head left else Over head.size s
 headed_front s (Err f) left = Bad f
 
 -- the block at the front of what is left

@@ -1,11 +1,13 @@
 pub mod Asked
 pub mod Blocks
+pub mod Calls
 pub mod Captures
 pub mod Classic
 pub mod Counts
 pub mod Cutting
 pub mod Fields
 pub mod Formats
+pub mod Laws
 pub mod Pieces
 pub mod Reading
 pub mod Replaying

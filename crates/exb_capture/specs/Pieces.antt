@@ -1,5 +1,5 @@
 -- A reader that is fed a file in pieces, over any format, as a machine: its state, and what each call makes of it.
-use Rattle.std.specs.Prelude.{◌≡◌, ◌<◌, ◌≤◌, ℕ, zero, suc, ◌-◌, ◌++◌, nat_lt, min, if◌then◌else◌, Bool, true, false, List, [], length, drop, take}
+use Rattle.std.specs.Prelude.{◌≡◌, ◌<◌, ◌≤◌, ℕ, zero, suc, ◌-◌, ◌++◌, nat_lt, min, if◌then◌else◌, Bool, true, false, List, [], length, drop, take, Option, Some, None}
 use Rattle.exb_model.specs.Frames.{IsBytes}
 use Rattle.exb_model.specs.Input.{Record}
 use Rattle.exb_capture.specs.declared.fault.Fault.{Fault}
@@ -116,6 +116,11 @@ at_last most false f r = Answers More (roomy most r)
 abbrev pub at_nothing : {S : Type 0} → ℕ → Bool → Reading S → Turn S
 at_nothing most true r = Answers End r
 at_nothing most false r = Answers More (roomy most r)
+
+-- the same, where this is the fault if there is one
+abbrev pub at_front_end : {S : Type 0} → ℕ → Bool → Option Fault → Reading S → Turn S
+at_front_end most ended None r = at_nothing most ended r
+at_front_end most ended (Some f) r = at_last most ended f r
 
 -- where this stands at the front
 abbrev pub turn_at : {S : Type 0} → ℕ → Bool → Front S → Reading S → Turn S

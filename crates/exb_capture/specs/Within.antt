@@ -7,7 +7,7 @@ use Rattle.exb_capture.specs.declared.format.Front.{Front}
 use Rattle.exb_capture.specs.declared.format.Front.TheVariants as front
 use Rattle.exb_capture.specs.Formats.{Front as Stood}
 use Rattle.exb_capture.specs.Formats as stood
-use Rattle.exb_capture.specs.Blocks.{Section, is_read}
+use Rattle.exb_capture.specs.Blocks.{Section, is_read, kind_of}
 use Rattle.exb_capture.specs.declared.block.Head.{Head}
 use Rattle.exb_capture.specs.declared.block.Content.{Content}
 use Rattle.exb_capture.specs.declared.block.Content.TheVariants.{Skipped, NewSection, NewInterface, Packet}
@@ -43,7 +43,16 @@ IsIn size count (Packet seen) = IsFrameIn size seen.moment seen.from seen.bytes
 pub record IsHead (head : Head) : Type 0 where
   pub some : 12 ≤ head.size
   pub fours : head.size % 4 ≡ 0
-  pub most : is_read head.kind ≡ true → head.size ≤ 327_680
+  pub most : is_read (kind_of head.kind) ≡ true → head.size ≤ 327_680
+
+-- a whole block that is looked into, in a section of these interfaces, where the record before had this moment
+pub record IsReadable (head : Head) (interfaces : List Interface) (before : ℕ) (block : List ℕ) : Type 0 where
+  pub whole : length block ≡ head.size
+  pub some : 12 ≤ head.size
+  pub fours : head.size % 4 ≡ 0
+  pub most : head.size ≤ 327_680
+  pub digits : All HasResolution interfaces
+  pub last : before < 2 ^ 32 * 1_000_000_000
 
 -- how far pcapng was read, by its parts
 pub record IsBlocks (order : Option ByteOrder) (interfaces : List Interface) (last : ℕ) : Type 0 where

@@ -1,35 +1,28 @@
 //! The blocks of a pcapng file, each looked at once.
 ghost use Rattle.std.specs.Prelude.{◌≡◌, ◌≤◌, ◌<◌, ◌*◌, ◌^◌, ◌+◌, ◌-◌, ◌%◌, All, None, length, IfOk};
-ghost use Rattle.exb_capture.specs.Blocks.{new_order, old_order, order_at, kind_of, is_read, head_at, is_no_frame, snapped, digits_at, or_option, resolution_from, interface_number, section_at, interface_at, enhanced_at, simple_at, block_at};
-ghost use Rattle.exb_capture.specs.Within.{HasDigits, HasResolution, IsIn, IsHead};
-ghost use Rattle.exb_capture.specs.Fields.{nanoseconds};
+ghost use Rattle.exb_capture.specs.Blocks.{new_order, old_order, kind_of, is_read, head_at, is_no_frame, or_option, resolution_from, interface_at, enhanced_at, simple_at, block_at};
+ghost use Rattle.exb_capture.specs.Within.{HasDigits, HasResolution, IsIn, IsHead, IsReadable};
 
 use crate::fault::{Fault, Flaw, refuse};
 use crate::format::Seen;
 use crate::order::{ByteOrder, half_word_at, word_at};
 
+// The numbers of the blocks that are looked into.
 const SECTION_HEADER: u32 = 0x0A0D_0D0A;
 
-const SECTION_MAGIC: u32 = 0x1A2B_3C4D;
+const INTERFACE: u32 = 1;
 
-/// The number of an enhanced packet.
 pub(crate) const PACKET: u32 = 6;
+
+const SIMPLE_PACKET: u32 = 3;
+
+const SECTION_MAGIC: u32 = 0x1A2B_3C4D;
 
 const MOST_SIZE: u32 = 327_680;
 
 const MOST_BYTES: u32 = 262_144;
 
 const SECONDS: u64 = 4_294_967_296;
-
-/// What is read of a block.
-#[derive(Clone, Copy, PartialEq, Eq)]
-pub enum Kind {
-    SectionHeader,
-    InterfaceBlock,
-    EnhancedPacket,
-    SimplePacket,
-    Other,
-}
 
 /// An interface of a section.
 #[derive(Clone, Copy, Debug, Default, Drop, PartialEq, Eq)]
@@ -46,7 +39,8 @@ pub struct Interface {
 #[derive(Clone, Copy)]
 pub struct Head {
     pub order: ByteOrder,
-    pub kind: Kind,
+    /// The number of its kind.
+    pub kind: u32,
     pub size: u32,
 }
 
@@ -59,33 +53,14 @@ pub enum Content {
     Packet(Seen),
 }
 
-impl Kind {
-    // By the number at a block's front.
-    #[inline(always)]
-    fn of(number: u32) -> Kind
-        ensures { result ≡ kind_of number }
-    {
-        match number {
-            SECTION_HEADER => Kind::SectionHeader,
-            1 => Kind::InterfaceBlock,
-            PACKET => Kind::EnhancedPacket,
-            3 => Kind::SimplePacket,
-            _ => Kind::Other,
-        }
-    }
-
-    // Whether a block of this kind is looked into.
-    #[inline(always)]
-    pub(crate) fn is_read(self) -> bool
-        ensures { result ≡ is_read self }
-    {
-        match self {
-            Kind::SectionHeader
-            | Kind::InterfaceBlock
-            | Kind::EnhancedPacket
-            | Kind::SimplePacket => true,
-            Kind::Other => false,
-        }
+// Whether a block of this kind is looked into.
+#[inline(always)]
+pub(crate) fn is_read(kind: u32) -> bool
+    ensures { result ≡ is_read (kind_of kind) }
+{
+    match kind {
+        SECTION_HEADER | INTERFACE | PACKET | SIMPLE_PACKET => true,
+        _ => false,
     }
 }
 
@@ -105,19 +80,6 @@ fn new_order(twelve: &[u8]) -> Option<ByteOrder>
     }
 }
 
-// The order of bytes of a block, in a section of this order.
-#[inline(always)]
-fn order_at(old: Option<ByteOrder>, twelve: &[u8]) -> Option<ByteOrder>
-    requires { 12 ≤ length twelve.now }
-    ensures { old_order result ≡ order_at old twelve.now }
-{
-    if word_at(ByteOrder::Big, twelve, 0) == SECTION_HEADER {
-        new_order(twelve)
-    } else {
-        old
-    }
-}
-
 /// What the first twelve bytes of a block say, in a section of this order.
 #[inline(always)]
 pub(crate) fn head_of(old: Option<ByteOrder>, twelve: &[u8]) -> Result<Head, Fault>
@@ -125,12 +87,17 @@ pub(crate) fn head_of(old: Option<ByteOrder>, twelve: &[u8]) -> Result<Head, Fau
     ensures value { result ≡ head_at old twelve.now }
     ensures sized { IfOk result IsHead }
 {
-    let Some(order) = order_at(old, twelve) else {
+    let known = if word_at(ByteOrder::Big, twelve, 0) == SECTION_HEADER {
+        new_order(twelve)
+    } else {
+        old
+    };
+    let Some(order) = known else {
         return Err(Fault::new(Flaw::Magic, 8));
     };
-    let kind = Kind::of(word_at(order, twelve, 0));
+    let kind = word_at(order, twelve, 0);
     let size = word_at(order, twelve, 4);
-    if size < 12 || size % 4 != 0 || kind.is_read() && size > MOST_SIZE {
+    if size < 12 || size % 4 != 0 || is_read(kind) && size > MOST_SIZE {
         return Err(Fault::new(Flaw::Length, 4));
     }
     Ok(Head { order, kind, size })
@@ -166,47 +133,6 @@ fn units(digits: u8) -> u64
     }
 }
 
-// A time below 2^32 seconds in nanoseconds.
-#[inline(always)]
-fn nanoseconds(digits: u8, time: u64) -> u64
-    requires digits { digits ≤ 9 }
-    requires early { time < 2 ^ 32 * 10 ^ digits }
-    ensures moment { result ≡ nanoseconds digits time }
-    ensures in_time { result < 2 ^ 32 * 1_000_000_000 }
-{
-    time * units(9 - digits)
-}
-
-// A length cut to what is stored of a frame.
-fn snapped(snap: u32, n: u32) -> u32
-    ensures { result ≡ snapped snap n }
-{
-    if snap == 0 { n } else { n.min(snap) }
-}
-
-fn section(head: Head, block: &[u8]) -> Result<Content, Fault>
-    requires { length block.now ≡ head.size }
-    ensures value { result ≡ section_at head block.now }
-    ensures within { IfOk result (IsIn head.size 0) }
-{
-    refuse!(head.size < 28, Length, 4);
-    refuse!(half_word_at(head.order, block, 12) != 1, Version, 12);
-    Ok(Content::NewSection)
-}
-
-// What an option 9 says.
-fn digits_at(order: ByteOrder, block: &[u8], at: usize) -> Result<u8, Fault>
-    requires { at + 8 ≤ length block.now }
-    ensures value { result ≡ digits_at order at block.now }
-    ensures digits { IfOk result (λ digits. digits ≤ 9) }
-{
-    if half_word_at(order, block, at + 2) == 1 && block[at + 4] <= 9 {
-        Ok(block[at + 4])
-    } else {
-        Err(Fault::new(Flaw::Resolution, at as u64))
-    }
-}
-
 // With the option at this place, where none before it was an option 9.
 fn or_option(
     first: Option<Result<u8, Fault>>,
@@ -219,11 +145,13 @@ fn or_option(
     ensures value { result ≡ or_option first order at block.now }
     ensures digits { HasDigits result }
 {
-    if first.is_none() && half_word_at(order, block, at) == 9 {
-        Some(digits_at(order, block, at))
-    } else {
-        first
+    if first.is_some() || half_word_at(order, block, at) != 9 {
+        return first;
     }
+    if half_word_at(order, block, at + 2) == 1 && block[at + 4] <= 9 {
+        return Some(Ok(block[at + 4]));
+    }
+    Some(Err(Fault::new(Flaw::Resolution, at as u64)))
 }
 
 // What the options of an interface block say of its resolution.
@@ -238,34 +166,13 @@ fn resolution(order: ByteOrder, block: &[u8]) -> Result<u8, Fault>
     let to = block.len() - 4;
     let mut at = 16usize;
     let mut first: Option<Result<u8, Fault>> = None;
-    'options: loop {
-        if at >= to {
-            return first.unwrap_or(Ok(6));
-        }
-        if half_word_at(order, block, at) == 0 {
-            return first.unwrap_or(Ok(6));
-        }
+    'options: while at < to && half_word_at(order, block, at) != 0 {
         let size = half_word_at(order, block, at + 2) as usize;
-        if to < at + 4 + size {
-            return Err(Fault::new(Flaw::Length, at as u64));
-        }
+        refuse!(to < at + 4 + size, Length, at as u64);
         first = or_option(first, order, block, at);
         at = at + 4 + (size + 3) / 4 * 4;
     }
-}
-
-// The interface of this number.
-#[inline(always)]
-fn numbered(interfaces: &[Interface], number: u32, none: Fault) -> Result<Interface, Fault>
-    requires { All HasResolution interfaces.now }
-    ensures value { result ≡ interface_number interfaces.now number none }
-    ensures digits { IfOk result HasResolution }
-{
-    if (number as usize) < interfaces.len() {
-        Ok(interfaces[number as usize])
-    } else {
-        Err(none)
-    }
+    first.unwrap_or(Ok(6))
 }
 
 fn new_interface(head: Head, interfaces: &[Interface], block: &[u8]) -> Result<Content, Fault>
@@ -293,8 +200,9 @@ fn enhanced(head: Head, interfaces: &[Interface], block: &[u8]) -> Result<Conten
     ensures within { IfOk result (IsIn head.size (length interfaces.now)) }
 {
     refuse!(head.size < 32, Length, 4);
-    let number = word_at(head.order, block, 8);
-    let interface = numbered(interfaces, number, Fault::new(Flaw::Interface, 8))?;
+    let number = word_at(head.order, block, 8) as usize;
+    refuse!(number >= interfaces.len(), Interface, 8);
+    let interface = interfaces[number];
     refuse!(interface.link != 1, LinkType, 8);
     let time = (word_at(head.order, block, 12) as u64) * SECONDS
         + word_at(head.order, block, 16) as u64;
@@ -302,7 +210,7 @@ fn enhanced(head: Head, interfaces: &[Interface], block: &[u8]) -> Result<Conten
     let bytes = word_at(head.order, block, 20);
     refuse!(is_no_frame(head.size, 32, bytes), Length, 20);
     Ok(Content::Packet(Seen {
-        moment: nanoseconds(interface.digits, time),
+        moment: time * units(9 - interface.digits),
         from: 28,
         bytes,
     }))
@@ -316,9 +224,15 @@ fn simple(head: Head, interfaces: &[Interface], last: u64, block: &[u8]) -> Resu
     ensures within { IfOk result (IsIn head.size (length interfaces.now)) }
 {
     refuse!(head.size < 16, Length, 4);
-    let interface = numbered(interfaces, 0, Fault::new(Flaw::Interface, 0))?;
+    refuse!(interfaces.is_empty(), Interface, 0);
+    let interface = interfaces[0];
     refuse!(interface.link != 1, LinkType, 0);
-    let bytes = snapped(interface.snap, word_at(head.order, block, 8));
+    let original = word_at(head.order, block, 8);
+    let bytes = if interface.snap == 0 {
+        original
+    } else {
+        original.min(interface.snap)
+    };
     refuse!(is_no_frame(head.size, 16, bytes), Length, 8);
     Ok(Content::Packet(Seen {
         moment: last,
@@ -336,12 +250,7 @@ pub(crate) fn whole_block(
     last: u64,
     block: &[u8],
 ) -> Result<Content, Fault>
-    requires whole { length block.now ≡ head.size }
-    requires some { 12 ≤ head.size }
-    requires fours { head.size % 4 ≡ 0 }
-    requires most { head.size ≤ 327_680 }
-    requires digits { All HasResolution interfaces.now }
-    requires last { last < 2 ^ 32 * 1_000_000_000 }
+    requires { IsReadable head interfaces.now last block.now }
     ensures value { result ≡ block_at head interfaces.now last block.now }
     ensures within { IfOk result (IsIn head.size (length interfaces.now)) }
 {
@@ -349,10 +258,14 @@ pub(crate) fn whole_block(
     let again = word_at(head.order, block, end as usize);
     refuse!(again != head.size, Length, end as u64);
     match head.kind {
-        Kind::SectionHeader => section(head, block),
-        Kind::InterfaceBlock => new_interface(head, interfaces, block),
-        Kind::EnhancedPacket => enhanced(head, interfaces, block),
-        Kind::SimplePacket => simple(head, interfaces, last, block),
-        Kind::Other => Ok(Content::Skipped),
+        SECTION_HEADER => {
+            refuse!(head.size < 28, Length, 4);
+            refuse!(half_word_at(head.order, block, 12) != 1, Version, 12);
+            Ok(Content::NewSection)
+        }
+        INTERFACE => new_interface(head, interfaces, block),
+        PACKET => enhanced(head, interfaces, block),
+        SIMPLE_PACKET => simple(head, interfaces, last, block),
+        _ => Ok(Content::Skipped),
     }
 }

@@ -3,7 +3,7 @@ ghost use Rattle.std.specs.Prelude.{◌≡◌, ◌≤◌};
 ghost use Rattle.exb_capture.specs.Blocks.{Sections, no_section, whole_front, block_front};
 ghost use Rattle.exb_capture.specs.Within.{IsHead, Shows};
 
-use crate::block::{Content, Head, Interface, PACKET, head_of, whole_block};
+use crate::block::{Content, Head, Interface, PACKET, head_of, is_read, whole_block};
 use crate::fault::{Fault, Flaw};
 use crate::format::{Format, Front};
 use crate::order::{ByteOrder, word_at};
@@ -92,7 +92,7 @@ impl Blocks {
             return Front::Short(Fault::new(Flaw::Cut, 0));
         }
         match head_of(self.order, &held[..12]) {
-            Ok(head) if head.kind.is_read() => self.whole(head, held),
+            Ok(head) if is_read(head.kind) => self.whole(head, held),
             Ok(head) => Front::Over(head.size),
             Err(fault) => Front::Bad(fault),
         }

@@ -1,10 +1,6 @@
 //! Checking a capture from front to end.
-ghost use Rattle.std.specs.Prelude.{◌≡◌, ◌≤◌, ◌<◌, ◌+◌, ◌-◌, ◌*◌, ◌^◌, [], ℕ, false, min, IfOk, OnOk, IfErr, IsErrOf, IfSome};
-ghost use Rattle.exb_shelf.specs.Files.{SameFiles, bytes_of};
-ghost use Rattle.exb_shelf.specs.Shelf.{IsReadingOf, Opens, Rose, NoFewer};
-ghost use Rattle.exb_capture.specs.Counts.{after_looking, after_scan};
-ghost use Rattle.exb_capture.specs.Reading.{IsAt, IsSound, HasRead, HaltsBy, MovesOn};
-ghost use Rattle.exb_capture.specs.Scans.{IsScan, IsScanned, or_this, refused, unopened};
+ghost use Rattle.exb_capture.specs.Calls.{IsChecked, ScansOn};
+ghost use Rattle.exb_capture.specs.Reading.{IsAt, IsSound};
 
 use crate::fault::Fault;
 use crate::file::{CaptureFile, Halt};
@@ -37,71 +33,24 @@ pub enum ScanFault {
     Large { limit: u64 },
 }
 
-/// Why a capture that can't be opened is refused.
-fn unopened(fault: OpenFault) -> ScanFault
-    ensures { result ≡ unopened fault }
-{
-    match fault {
-        OpenFault::Missing => ScanFault::Missing,
-        OpenFault::Failed => ScanFault::Read,
-        OpenFault::Memory => ScanFault::Memory,
-    }
-}
-
-/// Why a capture that can't be read on is refused.
-fn refused(halt: Halt, limit: u64) -> ScanFault
-    ensures { result ≡ refused limit halt }
-{
-    match halt {
-        Halt::Memory => ScanFault::Memory,
-        Halt::Failed => ScanFault::Read,
-        Halt::Broken { fault } => ScanFault::Fault { fault },
-        Halt::Large => ScanFault::Large { limit },
-    }
-}
-
-impl Scanned {
-    /// With one record more, of this time.
-    fn with(self, moment: u64) -> Scanned
-        ensures bytes { result.bytes ≡ self.bytes }
-        ensures records { result.records ≡ min (self.records + 1) (2 ^ 64 - 1) }
-        ensures first { result.first ≡ or_this self.first moment }
-    {
-        Scanned {
-            bytes: self.bytes,
-            records: self.records.saturating_add(1),
-            first: self.first.or(Some(moment)),
-        }
-    }
-}
-
 /// Goes through a capture that was opened.
 fn scan_on<S: Shelf>(shelf: &mut S, file: &mut CaptureFile) -> Result<Scanned, Halt>
     requires at { IsAt (S.ids shelf.old file.old.id) file.old.got }
     requires sound { IsSound file.old }
-    ensures whole { S.tells → IfOk result (λ scanned. HasRead (bytes_of (S.file shelf.old (S.ids shelf.old file.old.id).name)) [] file.old
-        → IsScanned file.old.limit (bytes_of (S.file shelf.old (S.ids shelf.old file.old.id).name)) scanned) }
-    ensures halts { S.tells → IfErr result (λ halt. HasRead (bytes_of (S.file shelf.old (S.ids shelf.old file.old.id).name)) [] file.old
-        → HaltsBy (bytes_of (S.file shelf.old (S.ids shelf.old file.old.id).name)) file.old.limit halt) }
-    ensures bytes { IfOk result (λ scanned. scanned.bytes ≤ file.old.limit) }
-    ensures first { IfOk result (λ scanned. IfSome scanned.first (λ first. first < 2 ^ 32 * 1_000_000_000)) }
-    ensures moves { MovesOn file.old.id (S.ids shelf.old) (S.ids shelf.new) }
-    ensures files { SameFiles (S.file shelf.old) (S.file shelf.new) }
-    ensures counts { S.faults shelf.new ≡ after_looking result (S.faults shelf.old) }
-    ensures faults { NoFewer (S.faults shelf.old) (S.faults shelf.new) }
-    ensures failed { IsErrOf result Halt.Failed → Rose (S.faults shelf.old).reads (S.faults shelf.new).reads }
+    ensures { ScansOn S.tells (S.file shelf.old) (S.file shelf.new) (S.ids shelf.old) (S.ids shelf.new) (S.faults shelf.old) (S.faults shelf.new) file.old result }
 {
-    let mut scanned = Scanned {
-        bytes: 0,
-        records: 0,
-        first: None,
-    };
+    let mut count = 0u64;
+    let mut first: Option<u64> = None;
     'records: while let Some(moment) = file.ahead(shelf)? {
         file.pass();
-        scanned = scanned.with(moment);
+        count = count.saturating_add(1);
+        first = first.or(Some(moment));
     }
-    scanned.bytes = file.got();
-    Ok(scanned)
+    Ok(Scanned {
+        bytes: file.got(),
+        records: count,
+        first,
+    })
 }
 
 /// Checks a capture of at most `limit` bytes from front to end. It is read in pieces.
@@ -115,26 +64,19 @@ pub fn scan<S: Shelf>(
     name: &str,
     limit: u64,
 ) -> Result<Scanned, ScanFault>
-    ensures says { S.tells → IsScan limit (S.file shelf.old name.now) result }
-    ensures bytes { IfOk result (λ scanned. scanned.bytes ≤ limit) }
-    ensures first { IfOk result (λ scanned. IfSome scanned.first (λ first. first < 2 ^ 32 * 1_000_000_000)) }
-
-    // What is opened, and what stays.
-    ensures id { OnOk result ((id : ℕ) × ((S.ids shelf.old id).given ≡ false) × IsReadingOf name.now (S.ids shelf.new id)) }
-    ensures opened { Opens (IsReadingOf name.now) (S.ids shelf.old) (S.ids shelf.new) }
-    ensures files { SameFiles (S.file shelf.old) (S.file shelf.new) }
-
-    ensures counts { S.faults shelf.new ≡ after_scan result (S.faults shelf.old) }
-    ensures faults { NoFewer (S.faults shelf.old) (S.faults shelf.new) }
-    ensures missing { IsErrOf result ScanFault.Missing → Rose (S.faults shelf.old).missing (S.faults shelf.new).missing }
-    ensures failed { IsErrOf result ScanFault.Read → Rose (S.faults shelf.old).reads (S.faults shelf.new).reads }
+    ensures { IsChecked S.tells (S.file shelf.old) (S.file shelf.new) (S.ids shelf.old) (S.ids shelf.new) (S.faults shelf.old) (S.faults shelf.new) name.now limit result }
 {
     let mut file = match CaptureFile::open(alloc, shelf, name, limit) {
         Ok(file) => file,
-        Err(fault) => return Err(unopened(fault)),
+        Err(OpenFault::Missing) => return Err(ScanFault::Missing),
+        Err(OpenFault::Failed) => return Err(ScanFault::Read),
+        Err(OpenFault::Memory) => return Err(ScanFault::Memory),
     };
     match scan_on(shelf, &mut file) {
         Ok(scanned) => Ok(scanned),
-        Err(halt) => Err(refused(halt, limit)),
+        Err(Halt::Memory) => Err(ScanFault::Memory),
+        Err(Halt::Failed) => Err(ScanFault::Read),
+        Err(Halt::Broken { fault }) => Err(ScanFault::Fault { fault }),
+        Err(Halt::Large) => Err(ScanFault::Large { limit }),
     }
 }

@@ -1,10 +1,10 @@
 //! Classic pcap: a header, and then record by record.
 ghost use Rattle.std.specs.Prelude.{◌≡◌, ◌&&◌, ◌≤◌, ◌<◌, ◌-◌, ◌*◌, ◌^◌, ◌∷◌, [], length, IfOk};
-ghost use Rattle.exb_capture.specs.Classic.{digits, classic_front, magic_front, record_front, header_at, shown_header, head_at, form, form_of, time_at};
-ghost use Rattle.exb_capture.specs.Fields.{agrees, byte_agrees, word};
+ghost use Rattle.exb_capture.specs.Classic.{digits, classic_front, magic_front, record_front, form, form_of};
+ghost use Rattle.exb_capture.specs.Fields.{agrees, byte_agrees};
 ghost use Rattle.exb_capture.specs.Within.{told, IsWithin, Shows};
 
-use crate::fault::{Fault, Flaw, refuse};
+use crate::fault::{Fault, Flaw};
 use crate::format::{Format, Front, Seen};
 use crate::order::{ByteOrder, half_word_at, word_at};
 
@@ -30,14 +30,14 @@ pub enum Reached {
 }
 
 impl Resolution {
-    // How many units make a second.
+    // How many units make a second, and how many nanoseconds a unit.
     #[inline(always)]
-    fn units(self) -> u32
-        ensures { result ≡ 10 ^ digits self }
+    fn units(self) -> (u32, u64)
+        ensures { result ≡ (10 ^ digits self, 10 ^ (9 - digits self)) }
     {
         match self {
-            Resolution::Micros => 1_000_000,
-            Resolution::Nanos => 1_000_000_000,
+            Resolution::Micros => (1_000_000, 1_000),
+            Resolution::Nanos => (1_000_000_000, 1),
         }
     }
 }
@@ -79,37 +79,6 @@ fn form_of(left: &[u8]) -> Option<Form>
     Some(Form { order, resolution })
 }
 
-// The stored length in a record's head.
-#[inline(always)]
-fn stored(form: Form, head: &[u8]) -> Result<u32, Fault>
-    requires { 16 ≤ length head.now }
-    ensures value { result ≡ head_at form head.now }
-    ensures early { IfOk result (λ n. word form.order head.now 4 < 10 ^ digits form.resolution) }
-    ensures short { IfOk result (λ n. n ≤ 262_144) }
-{
-    let fraction = word_at(form.order, head, 4);
-    refuse!(fraction >= form.resolution.units(), Time, 4);
-    let n = word_at(form.order, head, 8);
-    refuse!(n > 262_144, Length, 8);
-    Ok(n)
-}
-
-// When a record was captured.
-#[inline(always)]
-fn time_at(form: Form, head: &[u8]) -> u64
-    requires head { 16 ≤ length head.now }
-    requires early { word form.order head.now 4 < 10 ^ digits form.resolution }
-    ensures value { result ≡ time_at form head.now }
-    ensures in_time { result < 2 ^ 32 * 1_000_000_000 }
-{
-    let fraction = word_at(form.order, head, 4) as u64;
-    let rest = match form.resolution {
-        Resolution::Micros => fraction * 1_000,
-        Resolution::Nanos => fraction,
-    };
-    (word_at(form.order, head, 0) as u64) * 1_000_000_000 + rest
-}
-
 // The record at the front of what is left.
 #[tactic(auto, using(crate::proofs::ClassicLemmas::record_is))]
 #[inline(always)]
@@ -123,35 +92,28 @@ fn record_of(order: ByteOrder, resolution: Resolution, held: &[u8]) -> Front
     if held.len() < 16 {
         return Front::Short(Fault::new(Flaw::Cut, 0));
     }
-    let form = Form { order, resolution };
     let head = &held[..16];
-    match stored(form, head) {
-        Ok(bytes) => {
-            let size = 16 + bytes;
-            if held.len() < size as usize {
-                return Front::Short(Fault::new(Flaw::Cut, 0));
-            }
-            let seen = Seen {
-                moment: time_at(form, head),
-                from: 16,
-                bytes,
-            };
-            Front::Holds(seen, size)
-        }
-        Err(fault) => Front::Bad(fault),
+    let (units, unit) = resolution.units();
+    let fraction = word_at(order, head, 4);
+    if fraction >= units {
+        return Front::Bad(Fault::new(Flaw::Time, 4));
     }
-}
-
-// The same, where the order of the bytes is asked once for all fields.
-#[inline(always)]
-fn record(form: Form, held: &[u8]) -> Front
-    ensures value { told result (Reached.Behind form) held.now ≡ record_front form held.now }
-    ensures within { IsWithin held.now result }
-{
-    match form.order {
-        ByteOrder::Little => record_of(ByteOrder::Little, form.resolution, held),
-        ByteOrder::Big => record_of(ByteOrder::Big, form.resolution, held),
+    let bytes = word_at(order, head, 8);
+    if bytes > 262_144 {
+        return Front::Bad(Fault::new(Flaw::Length, 8));
     }
+    let size = 16 + bytes;
+    if held.len() < size as usize {
+        return Front::Short(Fault::new(Flaw::Cut, 0));
+    }
+    let moment = (word_at(order, head, 0) as u64) * 1_000_000_000 + (fraction as u64) * unit;
+    let from = 16;
+    let seen = Seen {
+        moment,
+        from,
+        bytes,
+    };
+    Front::Holds(seen, size)
 }
 
 impl Reached {
@@ -193,7 +155,11 @@ impl Format for Reached {
     fn front(&mut self, held: &[u8]) -> Front {
         match *self {
             Reached::Start => self.at_start(held),
-            Reached::Behind(form) => record(form, held),
+            // The order of the bytes is asked once for all fields.
+            Reached::Behind(form) => match form.order {
+                ByteOrder::Little => record_of(ByteOrder::Little, form.resolution, held),
+                ByteOrder::Big => record_of(ByteOrder::Big, form.resolution, held),
+            },
         }
     }
 

@@ -1,5 +1,6 @@
 //! Why a file is no capture.
 ghost use Rattle.std.specs.Prelude.{◌≡◌};
+ghost use Rattle.exb_capture.specs.Formats.{at_place};
 
 /// What is wrong, by the tables of the two formats.
 #[derive(Clone, Copy, Debug, PartialEq, Eq)]
@@ -40,6 +41,16 @@ impl Fault {
     pub(crate) fn new(flaw: Flaw, at: u64) -> Fault
         ensures { result ≡ record { flaw = flaw; at = at } }
     {
+        Fault { flaw, at }
+    }
+
+    // The same fault in what begins at this place of the file.
+    #[inline]
+    pub(crate) fn at_place(self, place: u64) -> Fault
+        ensures { result ≡ at_place place self }
+    {
+        let at = place.saturating_add(self.at);
+        let flaw = self.flaw;
         Fault { flaw, at }
     }
 }

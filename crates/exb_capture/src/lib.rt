@@ -18,7 +18,7 @@ mod reader;
 mod replay;
 mod writer;
 
-pub use block::{Content, Head, Interface, Kind};
+pub use block::{Content, Head, Interface};
 pub use blocks::Blocks;
 pub use checking::{ScanFault, Scanned, scan};
 pub use classic::{Form, Reached, Resolution};

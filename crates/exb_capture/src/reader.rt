@@ -1,12 +1,9 @@
 //! Reading a capture that is fed in pieces, in any format.
-ghost use Rattle.std.specs.Prelude.{◌≡◌, ◌≢◌, ◌<◌, ◌≤◌, ◌+◌, ◌-◌, ◌^◌, ℕ, [], false, true, length, drop, take, Ok, None, IfOk, OnErr, IsErrOf, IfSome, min};
-ghost use Rattle.exb_shelf.specs.Files.{SameFiles, bytes_of};
-ghost use Rattle.exb_shelf.specs.Counting.{after_read};
-ghost use Rattle.exb_shelf.specs.Shelf.{IsReading, moved, Rose, NoFewer};
+ghost use Rattle.std.specs.Prelude.{◌≡◌, ◌≢◌, ◌<◌, ◌≤◌, ◌+◌, ◌-◌, length, drop, take, None, IfOk};
+ghost use Rattle.exb_shelf.specs.Shelf.{IsReading};
 ghost use Rattle.exb_capture.specs.Blocks.{most_held};
-ghost use Rattle.exb_capture.specs.Formats.{at_place};
-ghost use Rattle.exb_capture.specs.Pieces.{Reading, At, unread, fitting, fed, roomy, failing, gone, over, at_last, at_nothing, turn, asked};
-ghost use Rattle.exb_capture.specs.Reading.{HasFilled};
+ghost use Rattle.exb_capture.specs.Pieces.{Reading, At, unread, fitting, fed, roomy, gone, over, at_front_end, turn, asked};
+ghost use Rattle.exb_capture.specs.Calls.{Fills};
 ghost use Rattle.exb_capture.specs.Asked.{turned, seen, IsAhead, IsSeen, Looks};
 
 use crate::fault::{Fault, Flaw};
@@ -28,19 +25,6 @@ pub enum Ahead {
     More,
     /// There is no further record.
     End,
-}
-
-impl Fault {
-    // The same fault in what begins at this place of the file.
-    #[inline]
-    fn at_place(self, place: u64) -> Fault
-        ensures { result ≡ at_place place self }
-    {
-        Fault {
-            flaw: self.flaw,
-            at: place.saturating_add(self.at),
-        }
-    }
 }
 
 // A buffer of this many bytes.
@@ -147,13 +131,6 @@ impl<F: Format> Reader<F> {
         }
     }
 
-    // From now on it gives this fault.
-    fn fail(&mut self, fault: Fault)
-        ensures { self.new ≡ failing fault self.old }
-    {
-        self.failed = Some(fault);
-    }
-
     /// Takes the first bytes of a piece, as many as there is room for, and answers how many.
     pub fn feed(&mut self, piece: &[u8]) -> u32
         ensures taken { result ≡ fitting piece.now self.old }
@@ -176,17 +153,7 @@ impl<F: Format> Reader<F> {
     ) -> Result<usize, ShelfFault>
         requires reading { IsReading (S.ids shelf.old id) }
         requires room { most ≤ self.old.room }
-        ensures bound { IfOk result (λ n. n ≤ most) }
-        ensures filled { IfOk result (λ n. HasFilled S.tells (drop (S.ids shelf.old id).place (bytes_of (S.file shelf.old (S.ids shelf.old id).name))) n self.old self.new) }
-        ensures end { S.tells → 0 < most → IfOk result (λ n. n ≡ 0 → drop (S.ids shelf.old id).place (bytes_of (S.file shelf.old (S.ids shelf.old id).name)) ≡ []) }
-        ensures same { OnErr result (self.new ≡ self.old) }
-        ensures id { IfOk result (λ n. S.ids shelf.new id ≡ moved (S.ids shelf.old id) n) }
-        ensures others { (j : ℕ) → j ≢ id → S.ids shelf.new j ≡ S.ids shelf.old j }
-        ensures id_err { OnErr result (S.ids shelf.new id ≡ S.ids shelf.old id) }
-        ensures files { SameFiles (S.file shelf.old) (S.file shelf.new) }
-        ensures counts { S.faults shelf.new ≡ after_read result (S.faults shelf.old) }
-        ensures faults { NoFewer (S.faults shelf.old) (S.faults shelf.new) }
-        ensures failed { IsErrOf result ShelfFault.Failed → Rose (S.faults shelf.old).reads (S.faults shelf.new).reads }
+        ensures { Fills S.tells (S.file shelf.old) (S.file shelf.new) (S.ids shelf.old) (S.ids shelf.new) (S.faults shelf.old) (S.faults shelf.new) id most self.old self.new result }
     {
         let to = self.end + most;
         let n = shelf.read(id, &mut self.buffer.as_mut_slice()[self.end..to])?;
@@ -194,33 +161,21 @@ impl<F: Format> Reader<F> {
         Ok(n)
     }
 
-    // That more is needed, or at the file's end this fault.
+    // That more is needed, or at the file's end this fault, from then on, or the end.
     #[inline(always)]
-    fn at_last(&mut self, ended: bool, fault: Fault) -> Option<Result<Ahead, Fault>>
-        ensures value { turned result self.new ≡ at_last most_held ended fault self.old }
+    fn at_last(&mut self, ended: bool, fault: Option<Fault>) -> Option<Result<Ahead, Fault>>
+        ensures value { turned result self.new ≡ at_front_end most_held ended fault self.old }
         ensures held { IsSeen self.new.held result }
     {
-        if ended {
-            self.fail(fault);
-            Some(Err(fault))
-        } else {
+        if !ended {
             self.make_room();
-            Some(Ok(Ahead::More))
+            return Some(Ok(Ahead::More));
         }
-    }
-
-    // That more is needed, or the end.
-    #[inline(always)]
-    fn at_nothing(&mut self, ended: bool) -> Option<Result<Ahead, Fault>>
-        ensures value { turned result self.new ≡ at_nothing most_held ended self.old }
-        ensures held { IsSeen self.new.held result }
-    {
-        if ended {
-            Some(Ok(Ahead::End))
-        } else {
-            self.make_room();
-            Some(Ok(Ahead::More))
-        }
+        let Some(fault) = fault else {
+            return Some(Ok(Ahead::End));
+        };
+        self.failed = Some(fault);
+        Some(Err(fault))
     }
 
     // What stands at the front.
@@ -253,16 +208,12 @@ impl<F: Format> Reader<F> {
         self.go();
         if self.owing > 0 {
             let at = self.begun;
-            return self.at_last(ended, Fault::new(Flaw::Cut, at));
+            return self.at_last(ended, Some(Fault::new(Flaw::Cut, at)));
         }
         match self.look() {
-            Front::Nothing => self.at_nothing(ended),
-            Front::Short(fault) => self.at_last(ended, fault.at_place(self.place)),
-            Front::Bad(fault) => {
-                let fault = fault.at_place(self.place);
-                self.fail(fault);
-                Some(Err(fault))
-            }
+            Front::Nothing => self.at_last(ended, None),
+            Front::Short(fault) => self.at_last(ended, Some(fault.at_place(self.place))),
+            Front::Bad(fault) => self.at_last(true, Some(fault.at_place(self.place))),
             Front::Over(n) => {
                 self.pass(n);
                 None

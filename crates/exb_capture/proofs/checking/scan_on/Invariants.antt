@@ -14,8 +14,8 @@ invariant-records g l =
       at : IsAt (S.ids l.shelf l.file.id) l.file.got;
       sound : IsSound l.file;
       same : IsSameFile l.fn.file l.file;
-      counted : S.tells → HasRead bytes [] l.fn.file → HasCounted bytes l.file l.scanned;
-      first : IfSome l.scanned.first (λ k. k < 2 ^ 32 * 1_000_000_000);
+      counted : S.tells → HasRead bytes [] l.fn.file → HasCounted bytes l.file (record { bytes = 0; records = l.count; first = l.first });
+      first : IfSome l.first (λ k. k < 2 ^ 32 * 1_000_000_000);
       moves : MovesOn l.fn.file.id (S.ids l.fn.shelf) (S.ids l.shelf);
       files : SameFiles (S.file l.fn.shelf) (S.file l.shelf);
       faulted : S.faults l.shelf ≡ S.faults l.fn.shelf;

@@ -1,11 +1,31 @@
+use Rattle.std.proofs.Common.{arith, rules}
+use Rattle.std.proofs.lemmas.Grind.{common_steps}
 use Rattle.exb_capture.proofs.Going.{taken_sound, taken_less, taken_read}
 use Rattle.exb_capture.proofs.file.CaptureFile.take.Goals as goal
 
-pub returns-clause-sound : goal.returns-clause-sound
-returns-clause-sound c = taken_sound c.args.self.now c.requires.sound
+pub returns : goal.returns
+returns c =
+    record {
+      sound = (
+          taken_sound c.args.self.now c.requires.sound);
+      same = first_of (search rules, grind (arith, common_steps));
+      got = first_of (search rules, grind (arith, common_steps));
+      left = (
+          taken_less c.args.self.now c.requires.found.1.0 c.requires.found.1.1);
+      bytes = first_of (search rules, grind (arith, common_steps));
+      short = first_of (search rules, grind (arith, common_steps));
+      read = (
+          λ bytes xs x e h. taken_read bytes xs x c.args.self.now e h);
+    }
 
-pub returns-clause-left : goal.returns-clause-left
-returns-clause-left c = taken_less c.args.self.now c.requires.found.1.0 c.requires.found.1.1
-
-pub returns-clause-read : goal.returns-clause-read
-returns-clause-read c = λ bytes xs x e h. taken_read bytes xs x c.args.self.now e h
+pub returns-in_err-extend_from_slice-in-Some : goal.returns-in_err-extend_from_slice-in-Some
+returns-in_err-extend_from_slice-in-Some c =
+    record {
+      sound = taken_sound c.args.self.now c.requires.sound;
+      same = first_of (search rules, grind (arith, common_steps));
+      got = first_of (search rules, grind (arith, common_steps));
+      left = taken_less c.args.self.now c.requires.found.1.0 c.requires.found.1.1;
+      bytes = first_of (search rules, grind (arith, common_steps));
+      short = first_of (search rules, grind (arith, common_steps));
+      read = λ bytes xs x e h. taken_read bytes xs x c.args.self.now e h;
+    }

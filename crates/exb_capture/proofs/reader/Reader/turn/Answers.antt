@@ -1,7 +1,7 @@
-use Rattle.std.proofs.Common.{◌≡◌, ap, sym, ◌∙◌, arith}
+use Rattle.std.proofs.Common.{◌≡◌, true, ap, sym, ◌∙◌, arith}
 use Rattle.exb_capture.specs.Formats.{at_place}
 use Rattle.exb_capture.specs.Blocks.{most_held}
-use Rattle.exb_capture.specs.Pieces.{Answers, Faulty, GoesOn, At, at_last, at_nothing, failing}
+use Rattle.exb_capture.specs.Pieces.{GoesOn, At, at_last, at_nothing}
 use Rattle.exb_capture.proofs.ReaderLemmas.{none_stage, turned_at, same_state, passed_over, stage_is, owing_is, place_is, held_is, found_is}
 use Rattle.exb_capture.proofs.reader.Reader.turn.Goals as goal
 
@@ -12,7 +12,7 @@ returns-in-Nothing-clause-value g c =
     let gs : c.go.new.self.stage ≡ At s = stage_is _ _ c.go.ensures ∙ st in
     let owing = owing_is _ _ c.self-2.view_is in
     let look = c.in-Nothing.ensures s gs in
-    c.at_nothing.ensures.value
+    c.at_last-in-Nothing.ensures.value
     ∙ ap (at_nothing most_held c.args.ended) (same_state c.go.new.self c.look.new.self s look.state look.is look.shows.same gs)
     ∙ turned_at g.F.Format.stands c.args.ended c.args.self.now c.go.new.self c.look.new.self s _ st c.go.ensures (omega (arith, owing, c.if-self-gt0.false)) look
 
@@ -37,10 +37,11 @@ returns-in-Bad-clause-value g c =
     let gs : c.go.new.self.stage ≡ At s = stage_is _ _ c.go.ensures ∙ st in
     let owing = owing_is _ _ c.self-2.view_is in
     let look = c.in-Bad.ensures s gs in
-    let place : c.self-in-Bad.inside.place ≡ c.go.new.self.place = place_is _ _ (c.self-in-Bad.view_is ∙ look.is) in
-    let at : c.at_place-fault.result ≡ at_place c.go.new.self.place c.in-Bad.fault = c.at_place-fault.ensures ∙ ap (λ p. at_place p c.in-Bad.fault) place in
-    ap (Answers (Faulty c.at_place-fault.result)) (c.fail.ensures ∙ ap (failing c.at_place-fault.result) (same_state c.go.new.self c.look.new.self s look.state look.is look.shows.same gs))
-    ∙ ap (λ f. Answers (Faulty f) (failing f c.go.new.self)) at
+    let place : c.at_last-in-Bad.inside.place ≡ c.go.new.self.place = place_is _ _ (c.at_last-in-Bad.view_is ∙ look.is) in
+    let at : c.at_place-in-Bad.result ≡ at_place c.go.new.self.place c.in-Bad.fault = c.at_place-in-Bad.ensures ∙ ap (λ p. at_place p c.in-Bad.fault) place in
+    c.at_last-in-Bad-2.ensures.value
+    ∙ ap (λ f. at_last most_held true f c.look.new.self) at
+    ∙ ap (at_last most_held true (at_place c.go.new.self.place c.in-Bad.fault)) (same_state c.go.new.self c.look.new.self s look.state look.is look.shows.same gs)
     ∙ turned_at g.F.Format.stands c.args.ended c.args.self.now c.go.new.self c.look.new.self s _ st c.go.ensures (omega (arith, owing, c.if-self-gt0.false)) look
 
 pub returns-in-Over-clause-value : goal.returns-in-Over-clause-value
