@@ -1,9 +1,7 @@
 -- One capture more that is read again.
-use Rattle.std.proofs.Common.{◌≡◌, ℕ, ◌+◌, ◌^◌, ◌<◌, ◌≤◌, false, List, [], ◌∷◌, ◌++◌, length, map, refl, sym, ap, subst, ◌∙◌, arith}
-use Rattle.std.specs.Prelude.{Option, Some, Result, Ok, Err, IfSome, IfNone, is_ok, is_err, if◌then◌else◌, sum_by}
+use Rattle.std.proofs.Common.{◌≡◌, ℕ, ◌+◌, ◌^◌, ◌<◌, ◌≤◌, false, List, [], ◌∷◌, ◌++◌, length, map, refl, sym, ap, ◌∙◌, arith}
+use Rattle.std.specs.Prelude.{Option, Some, Result, Ok, Err, IfSome, IfNone, is_ok, is_err, if◌then◌else◌, OnOk}
 use Rattle.std.specs.List.{AllByRecursion}
-use Rattle.std.specs.declared.collections.BinaryHeap.{BinaryHeap}
-use Rattle.std.specs.BinaryHeap.{IsHeap, heap_items, heap_len, heap_capacity}
 use Rattle.exb_model.specs.Input.{Record}
 use Rattle.exb_capture.specs.Captures.{capture_records}
 use Rattle.exb_capture.specs.declared.format.Capture.{Capture as State}
@@ -17,12 +15,10 @@ use Rattle.exb_capture.specs.Reading.{IsAt, IsBegun, MovesOn, left_to_read, one_
 use Rattle.exb_capture.specs.Replaying.{ComesAt, HasGiven, IsAsBefore, IsKept, IsPlayed, IsSameReplay}
 use Rattle.exb_capture.specs.Scans.{scanned_of}
 use Rattle.exb_merge.specs.declared.replays.Again.{Again}
-use Rattle.exb_merge.specs.Replays.{Apart, AreReplays, HasPort, IsOpened, IsReplayOf, seen, standing_of}
+use Rattle.exb_merge.specs.Replays.{Apart, AreReplays, HasPort, IsOpened, IsReplayOf, standing_of}
 use Rattle.exb_merge.specs.Streams.{Stream, stream_of}
-use Rattle.exb_merge.specs.Turns.{Turn, by_turn, turn_at, IsInTurn, SameMembers}
 use Rattle.exb_merge.proofs.Moving.{all_opened, files_then, new_apart, stay_opened}
 use Rattle.exb_merge.proofs.Places.{all_join}
-use Rattle.exb_merge.proofs.Seen.{turns_more}
 use Rattle.exb_merge.proofs.Standing.{apart_more}
 use Rattle.exb_merge.proofs.Told.{Stays, replaying_looked, replaying_opened, replays_join, replays_stay}
 
@@ -30,6 +26,11 @@ use Rattle.exb_merge.proofs.Told.{Stays, replaying_looked, replaying_opened, rep
 pub when_ok : {T E X : Type 0} (r : Result T E) (xs ys zs : List X) → is_err r ≡ false → xs ≡ (if is_ok r then ys else zs) → xs ≡ ys
 when_ok (Ok x) xs ys zs fine e = e
 when_ok (Err x) xs ys zs fine e = absurd (cc)
+
+-- what is known where there is no error
+pub fine : {T E P : Type 0} (r : Result T E) → is_err r ≡ false → OnOk r P → P
+fine (Ok x) good h = h
+fine (Err x) good h = absurd (cc)
 
 begun_at : (i : Id) (name : List ℕ) (got : ℕ) → i ≡ reading name 0 → got ≡ 0 → IsAt i got
 begun_at i name got is none = record { given = ap (λ (k : Id). k.given) is; reads = ap (λ (k : Id). k.reads) is; place = ap (λ (k : Id). k.place) is ∙ sym none }
@@ -73,15 +74,6 @@ module _ (given opening ids : ℕ → Id) (ss : List Again) (s : Again) (name : 
       AreReplays now ids (ss ++ s ∷ []) (xs ++ x ∷ [])
   replays_more file mid now xs x same_mid same_now own all =
       replays_join now ids ss (s ∷ []) xs (x ∷ []) (replays_stay file now given ids ss xs (files_then file mid now same_mid same_now) stay_more all) (own, tt)
-
-pub in_turn_more : {A : Type 0} (ss : List Again) (s : Again) (place : ℕ) (turns reserved turns' : BinaryHeap Turn A) → place ≡ length ss → IsInTurn (map seen ss) turns → heap_items reserved ≡ heap_items turns →
-    SameMembers (heap_items turns') (turn_at place s.next ++ heap_items reserved) → (IsHeap by_turn (heap_items reserved) → IsHeap by_turn (heap_items turns')) → heap_len turns' ≤ heap_capacity turns' →
-    IsInTurn (map seen (ss ++ s ∷ [])) turns'
-in_turn_more ss s place turns reserved turns' here in_turn same added ordered room = record {
-  same = turns_more ss (heap_items turns) (heap_items turns') s place in_turn.same here (λ f. added f ∙ ap (λ ts. sum_by f (turn_at place s.next ++ ts)) same);
-  ordered = ordered (subst (IsHeap by_turn) (sym same) in_turn.ordered);
-  room = room;
-}
 
 pub apart_new : (given : ℕ → Id) (ss : List Again) (s : Again) (id : ℕ) → s.replay.file.id ≡ id → (given id).given ≡ false → (HasPort s.port (map standing_of ss) → ⊥) → AllByRecursion (IsOpened given) ss → Apart ss →
     Apart (ss ++ s ∷ [])

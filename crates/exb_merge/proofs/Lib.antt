@@ -1,7 +1,7 @@
 pub mod InOrder
 pub mod Arriving
 pub mod Members
-pub mod TurnLemmas
+pub mod Trees
 pub mod Merged
 pub mod Among
 pub mod Starting

@@ -108,7 +108,7 @@ module _ (given ids : ℕ → Id) where
   seats_stay [] same all = tt
   seats_stay (s ∷ ss) same all =
       let rest : List ℕ = all_ids (map (λ (t : Seat). t.programme) ss) in (
-        record { programme = programme_stays s.programme (all-left (λ k. ids k ≡ given k) (own_ids s.programme) rest same) all.0.programme; turn = all.0.turn },
+        record { programme = programme_stays s.programme (all-left (λ k. ids k ≡ given k) (own_ids s.programme) rest same) all.0.programme; turn = all.0.turn; small = all.0.small },
         seats_stay ss (all-right (λ k. ids k ≡ given k) (own_ids s.programme) rest same) all.1,
       )
 

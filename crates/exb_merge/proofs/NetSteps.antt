@@ -1,5 +1,5 @@
 -- One thing more comes of several bridges.
-use Rattle.std.proofs.Common.{◌≡◌, ℕ, zero, suc, ◌+◌, ◌*◌, ◌^◌, ◌<◌, ◌≤◌, Bool, true, false, cond, List, [], ◌∷◌, ◌++◌, length, map, min, max, set, drop, refl, sym, ap, subst, ◌∙◌, arith, inl, inr, length-append}
+use Rattle.std.proofs.Common.{◌≡◌, ℕ, zero, suc, ◌+◌, ◌*◌, ◌^◌, ◌<◌, ◌≤◌, Bool, true, false, cond, List, [], ◌∷◌, ◌++◌, length, map, min, set, drop, refl, sym, ap, subst, ◌∙◌, arith, inl, inr, length-append}
 use Rattle.std.specs.Prelude.{◌≢◌, nat_le, nat_lt, flat_map, slice_get, Option, Some, None, IfSome, IfNone, Err, IsErrOf}
 use Rattle.std.specs.List.{AllByRecursion}
 use Rattle.std.proofs.lemmas.Bool.{leb-true}
@@ -18,10 +18,10 @@ use Rattle.exb_merge.specs.declared.replays.CaptureFault.{CaptureFault}
 use Rattle.exb_merge.specs.declared.replays.Replays.{Replays}
 use Rattle.exb_capture.specs.Replaying.{ComesAt}
 use Rattle.exb_merge.specs.Agendas.{ToPlay, commands_left, first_moment, still_to_come, turn_by}
-use Rattle.exb_merge.specs.NetAgendas.{AreAllReplays, ComesTo, IsSeated, IsTurn, ReadApart, all_ids, all_to_play, due_of, dues_left, left_of_all, seat_seen, turn_seen}
+use Rattle.exb_merge.specs.NetAgendas.{AreAllReplays, ComesTo, IsSeated, IsTurn, ReadApart, all_ids, all_to_play, due_of, dues_left, left_of_all}
 use Rattle.exb_merge.specs.Programmes.{IsComing, IsFrom, IsSoonest, IsTakenOf, left_of, moment_in, played_with, sooner, what}
 use Rattle.exb_merge.specs.Replays.{AreOpened, AreReplays, HasNext, IsEarliest, IsOpened, NoneIsBefore, ReadsOn}
-use Rattle.exb_merge.specs.Streams.{Stream, arrivals_of, next_moment, to_come}
+use Rattle.exb_merge.specs.Streams.{Stream, arrivals_of, to_come}
 use Rattle.exb_merge.proofs.Among.{not-first, rising-drop}
 use Rattle.exb_merge.proofs.Members.{all-left, all-right}
 use Rattle.exb_merge.proofs.NetOrder.{HasRecords, IsAfter, IsRecord, coming_turn, due, first_of_all, first_turn, first_with, none_of_all}
@@ -32,17 +32,7 @@ use Rattle.exb_merge.proofs.Programming.{earliest_told, none_from, one_earliest,
 abbrev pub own : Seat → Programme
 own s = s.programme
 
-abbrev pub turn_in : Seat → Option ℕ
-turn_in s = s.turn
-
 -- ---- turns
-shows_at : (o : Option ℕ) → next_moment (arrivals_of (turn_seen o)) ≡ o
-shows_at None = refl
-shows_at (Some t) = ap Some (let e : max 0 t ≡ t = omega arith in e)
-
-pub shows : (s : Seat) → next_moment (arrivals_of (seat_seen s)) ≡ s.turn
-shows s = shows_at s.turn
-
 -- where a programme has its turn no earlier, nothing of it comes before that moment
 pub from_turn : (m : ℕ) (t : Option ℕ) (p : Programme) → IsTurn t p → IfSome t (λ k. 2 * m ≤ k) → IsFrom m p
 from_turn m t p turn low =
@@ -101,14 +91,14 @@ pub command_low : (start : ℕ) (o : Option ℕ) → start < 2 ^ 32 → IfSome o
 command_low start None low before = tt
 command_low start (Some m) low before = omega (arith, low, before)
 
-next_low : (ids : ℕ → Id) (m : ℕ) (ss : List Again) → AllByRecursion (IsOpened ids) ss → HasNext m ss → m < 2 ^ 63
+next_low : (ids : ℕ → Id) (m : ℕ) (ss : List Again) → AllByRecursion (IsOpened ids) ss → HasNext m ss → m < 2 ^ 62
 next_low ids m [] all has = absurd has
 next_low ids m (s ∷ ss) all (inr has) = next_low ids m ss all.1 has
 next_low ids m (s ∷ ss) all (inl is) =
     let comes = subst (λ (o : Option ℕ). IfSome o (λ k. ComesAt k s.replay)) is all.0.comes in
     omega (arith, comes.in_time)
 
-pub captured_low : (ids : ℕ → Id) (r : Replays) (o : Option ℕ) → AreOpened ids r → IsEarliest o r → IfSome o (λ m. m < 2 ^ 63)
+pub captured_low : (ids : ℕ → Id) (r : Replays) (o : Option ℕ) → AreOpened ids r → IsEarliest o r → IfSome o (λ m. m < 2 ^ 62)
 captured_low ids r None opened first = tt
 captured_low ids r (Some m) opened first = next_low ids m r.sources.items opened.each first.0
 

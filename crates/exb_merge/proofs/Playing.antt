@@ -2,9 +2,6 @@
 use Rattle.std.proofs.Common.{◌≡◌, ℕ, suc, ◌+◌, ◌*◌, ◌^◌, ◌<◌, ◌≤◌, List, [], ◌∷◌, ◌++◌, length, map, max, set, sym, ap, subst, ◌∙◌, arith}
 use Rattle.std.specs.Prelude.{Option, Some, IfSome, IfNone, sum_by}
 use Rattle.std.specs.List.{AllByRecursion}
-use Rattle.std.specs.List.Sorted.{IsPermutation}
-use Rattle.std.specs.declared.collections.BinaryHeap.{BinaryHeap}
-use Rattle.std.specs.BinaryHeap.{IsHeap, heap_items, heap_len, heap_capacity}
 use Rattle.exb_model.specs.Input.{Record, Captured, second_of}
 use Rattle.exb_capture.specs.Reading.{next_of}
 use Rattle.exb_shelf.specs.Files.{Files, SameFiles, bytes_of}
@@ -15,15 +12,16 @@ use Rattle.exb_capture.specs.Replaying.{ComesAt, HasGiven, IsPlayed, IsReplaying
 use Rattle.exb_merge.specs.declared.replays.Again.{Again}
 use Rattle.exb_merge.specs.declared.replays.Came.{Came}
 use Rattle.exb_merge.specs.Arrivals.{arrival_with}
-use Rattle.exb_merge.specs.Replays.{Apart, AreReplays, HasCome, HasNext, HasPort, IsOpened, ReadsOn, gone_on, number_of, seen, standing_of}
+use Rattle.exb_merge.specs.Replays.{Apart, AreReplays, HasCome, HasNext, HasPort, IsOpened, ReadsOn, gone_on, next_in, number_of, standing_of}
 use Rattle.exb_merge.specs.Streams.{Stream, to_come}
-use Rattle.exb_merge.specs.Turns.{Turn, by_turn, turn_at, IsInTurn, SameMembers}
+use Rattle.exb_merge.specs.Turns.{IsFirst}
 use Rattle.exb_merge.proofs.Moving.{opened_put, reads_on, stay_after, stay_before}
 use Rattle.exb_merge.proofs.Places.{all_put, set_at}
-use Rattle.exb_merge.proofs.Seen.{IsNext, has_next, none_earlier, own_comes, own_of, turns_on}
+use Rattle.exb_merge.proofs.Members.{all-left, all-right}
+use Rattle.exb_merge.proofs.Seen.{IsNext, has_next, own_comes, own_of}
 use Rattle.exb_merge.proofs.Standing.{apart_before, apart_put, goes_on, has_port, id_of, ids_same, left_less, left_of, number_is, since_told}
-use Rattle.exb_merge.proofs.Told.{HasReplay, gone_behind, next_told, replay_at, replaying_looked, replaying_taken, replays_join, replays_stay, same_told, told_first}
-use Rattle.exb_merge.proofs.TurnLemmas.{turn, NoTurnBefore}
+use Rattle.exb_merge.proofs.Told.{HasReplay, gone_behind, none_arrives, replay_at, replaying_looked, replaying_taken, replays_join, replays_stay, told_first}
+use Rattle.exb_merge.proofs.Turning.{ahead_of, all_from, behind_of}
 
 -- ---- all, once the capture whose turn it is has gone on
 module _ (xs : List Again) (m place : ℕ) (s s' : Again) (h : IsNext xs m place s) where
@@ -69,11 +67,10 @@ module _ (xs : List Again) (m place : ℕ) (s s' : Again) (h : IsNext xs m place
       }
 
 module _ (xs : List Again) (m place : ℕ) (s : Again) (h : IsNext xs m place s) where
-  pub next_earliest : {A : Type 0} (turns : BinaryHeap Turn A) (k : ℕ) → k ≡ m → IsInTurn (map seen xs) turns → NoTurnBefore m place (heap_items turns) →
-      HasNext k xs × AllByRecursion (λ (t : Again). IfSome t.next (λ n. k ≤ n)) xs
-  next_earliest turns k is in_turn first =
+  pub next_earliest : (k : ℕ) → k ≡ m → IsFirst (map next_in xs) m place → HasNext k xs × AllByRecursion (λ (t : Again). IfSome t.next (λ n. k ≤ n)) xs
+  next_earliest k is first =
       subst (λ l. HasNext l xs × AllByRecursion (λ (t : Again). IfSome t.next (λ n. l ≤ n)) xs) (sym is)
-      (subst (HasNext m) (sym h.at.split) (has_next h.at.before h.at.after s m h.next), none_earlier xs (heap_items turns) m place in_turn.same first)
+      (subst (HasNext m) (sym h.at.split) (has_next h.at.before h.at.after s m h.next), all_from next_in xs m place first)
 
   pub next_reads : (given ids : ℕ → Id) → MovesOn (id_of s) given ids → ReadsOn (map id_of xs) given ids
   next_reads given ids moves = subst (λ ys. ReadsOn (map id_of ys) given ids) (sym h.at.split) (reads_on given ids h.at.before h.at.after s moves)
@@ -82,11 +79,6 @@ module _ (xs : List Again) (m place : ℕ) (s : Again) (h : IsNext xs m place s)
   next_since second k is since all =
       subst (λ l. second ≤ second_of l) (sym is)
       (since_told second m s.replay.told.first since (own_of (λ (t : Again). IfSome t.replay.told.first (λ first. second ≤ second_of first)) xs place s h.at all))
-
-pub in_turn_next : {A : Type 0} (xs : List Again) (s' : Again) (m place : ℕ) (turns : BinaryHeap Turn A) (rest : List Turn) (turns' : BinaryHeap Turn A) → IsInTurn (map seen xs) turns → IsPermutation (heap_items turns) (turn m place ∷ rest) →
-    SameMembers (heap_items turns') (turn_at place s'.next ++ rest) → IsHeap by_turn (heap_items turns') → heap_len turns' ≤ heap_capacity turns' → IsInTurn (map seen (set xs place s')) turns'
-in_turn_next xs s' m place turns rest turns' in_turn moved added ordered room =
-    record { same = λ f. added f ∙ turns_on xs (heap_items turns) rest m place s' in_turn.same moved f; ordered = ordered; room = room }
 
 -- ---- a record of it was taken
 module _ (given : ℕ → Id) (s : Again) (taken : Replay) (same : IsSameReplay s.replay taken) where
@@ -130,15 +122,16 @@ module _ (file : Files) (given : ℕ → Id) (xs : List Again) (m place : ℕ) (
       }
 
   -- so what came is the first of all, and the rest is left
-  pub order_next : {A : Type 0} (now : Files) (ids : ℕ → Id) (looked : Replay) (port index : ℕ) (next : Option ℕ) (turns : BinaryHeap Turn A) (c : Came) (streams : List Stream) → Apart xs →
-      IsInTurn (map seen xs) turns → NoTurnBefore m place (heap_items turns) → c.port ≡ s.port → c.index ≡ s.index → c.moment ≡ m → port ≡ s.port → index ≡ suc s.index → looked.least ≡ m →
+  pub order_next : (now : Files) (ids : ℕ → Id) (looked : Replay) (port index : ℕ) (next : Option ℕ) (c : Came) (streams : List Stream) → Apart xs →
+      IsFirst (map next_in xs) m place → c.port ≡ s.port → c.index ≡ s.index → c.moment ≡ m → port ≡ s.port → index ≡ suc s.index → looked.least ≡ m →
       IsAt (given taken.file.id) taken.file.got → MovesOn taken.file.id given ids → SameFiles file now → IsSameReplay taken looked →
       ((ys : List Record) → HasGiven (bytes_of (file (given taken.file.id).name)) ys taken → HasGiven (bytes_of (file (given taken.file.id).name)) ys looked) →
       IfNone next ((ys : List Record) → HasGiven (bytes_of (file (given taken.file.id).name)) ys taken → IsPlayed taken.told (bytes_of (file (given taken.file.id).name)) ys) →
       AreReplays file given xs streams → HasRest streams c.bytes →
       (rest : List Stream) × (to_come streams ≡ Captured (arrival_with c) ∷ to_come rest) × AreReplays now ids (set xs place (record { port = port; index = index; next = next; replay = looked })) rest
-  order_next now ids looked port index next turns c streams apart in_turn earliest own_port own_index own_moment port_is index_is least at moves files later gives_on end told t =
+  order_next now ids looked port index next c streams apart first own_port own_index own_moment port_is index_is least at moves files later gives_on end told t =
       let q = t.there in
+      let opened = subst (AllByRecursion (IsOpened given)) h.at.split each in
       let s' : Again = record { port = port; index = index; next = next; replay = looked } in
       let x' : Stream = gone_behind q.one m t.rest in
       let on = moves_taken given s taken same ids moves in
@@ -151,7 +144,8 @@ module _ (file : Files) (given : ℕ → Id) (xs : List Again) (m place : ℕ) (
         replays_stay file now given ids h.at.after q.after files (stay_after given ids h.at.before h.at.after s on parts) q.behind,
       ) in (
         q.before ++ x' ∷ q.after,
-        told_first streams q.before q.after q.one (heap_items turns) m place t.first t.rest c (same_told file given xs streams (heap_items turns) each told in_turn.same) q.split (q.at ∙ h.at.at)
-            (next_told file given s q.one own q.is ∙ h.next) earliest t.split (t.moment ∙ ap (λ n. max n t.first.time) (sym q.is.least)) (own_port ∙ sym q.is.port) (own_index ∙ sym q.is.index) own_moment t.bytes,
+        told_first streams q.before q.after q.one m t.first t.rest c q.split
+            (none_arrives file given (suc m) h.at.before q.before (all-left (IsOpened given) h.at.before (s ∷ h.at.after) opened) q.ahead (ahead_of next_in xs m place first s h.at))
+            (none_arrives file given m h.at.after q.after (all-right (IsOpened given) h.at.before (s ∷ h.at.after) opened).1 q.behind (behind_of next_in xs m place first s h.at)) t.split (t.moment ∙ ap (λ n. max n t.first.time) (sym q.is.least)) (own_port ∙ sym q.is.port) (own_index ∙ sym q.is.index) own_moment t.bytes,
         subst (λ ss. AreReplays now ids ss (q.before ++ x' ∷ q.after)) (sym (set_at xs place s s' h.at)) all,
       )

@@ -1,6 +1,6 @@
 -- What is told of captures that are read again.
-use Rattle.std.proofs.Common.{◌≡◌, ℕ, suc, false, List, [], ◌∷◌, ◌++◌, length, map, max, get_or, set, refl, sym, ap, subst, ◌∙◌, arith}
-use Rattle.std.specs.Prelude.{Option, Some, None, Ok, IfSome, IfNone}
+use Rattle.std.proofs.Common.{◌≡◌, ◌≤◌, ℕ, suc, false, List, [], ◌∷◌, ◌++◌, length, max, refl, sym, ap, subst, ◌∙◌}
+use Rattle.std.specs.Prelude.{Option, Some, None, Ok, IfSome, IfNone, flat_map}
 use Rattle.std.specs.List.{AllByRecursion}
 use Rattle.exb_model.specs.Input.{Record, Arrival, Captured, arrivals_from}
 use Rattle.exb_capture.specs.Captures.{capture_records}
@@ -18,13 +18,9 @@ use Rattle.exb_capture.proofs.Replaying.{next_replayed, end_replayed}
 use Rattle.exb_merge.specs.declared.replays.Again.{Again}
 use Rattle.exb_merge.specs.declared.replays.Came.{Came}
 use Rattle.exb_merge.specs.Arrivals.{arrival_with}
-use Rattle.exb_merge.specs.Replays.{IsOpened, IsReplayOf, AreReplays, seen}
+use Rattle.exb_merge.specs.Replays.{IsOpened, IsReplayOf, AreReplays}
 use Rattle.exb_merge.specs.Streams.{Stream, arrivals_of, next_moment, to_come}
-use Rattle.exb_merge.specs.Turns.{Turn, turn_at, turns_from, SameMembers, IsInTurn}
-use Rattle.std.specs.declared.collections.BinaryHeap.{BinaryHeap}
-use Rattle.std.specs.BinaryHeap.{heap_items, heap_len}
-use Rattle.exb_merge.proofs.Seen.{moment_seen}
-use Rattle.exb_merge.proofs.TurnLemmas.{HasTurn, NoTurnBefore, at-split, set-split, comes-first, comes-none}
+use Rattle.exb_merge.proofs.Arriving.{NoneArrives, none_arrives-append, none_arrives-next, to_come-first, to_come-none}
 
 -- ---- one capture
 -- the first record of what is left comes next
@@ -80,17 +76,16 @@ replaying_opened file opened ids name bytes records told r there whole is same i
     subst (λ b. IsReplaying b records r) (sym here) goes
 
 -- ---- of all
-turns_told : (files : Files) (ids : ℕ → Id) (n : ℕ) (ss : List Again) (xs : List Stream) → AllByRecursion (IsOpened ids) ss → AreReplays files ids ss xs → turns_from n (map seen ss) ≡ turns_from n xs
-turns_told files ids n [] [] each t = refl
-turns_told files ids n [] (x ∷ xs) each t = absurd t
-turns_told files ids n (s ∷ ss) [] each t = absurd t
-turns_told files ids n (s ∷ ss) (x ∷ xs) each t =
-    ap (λ o. turn_at n o ++ turns_from (suc n) (map seen ss)) (moment_seen s ∙ sym (next_told files ids s x each.0 t.0))
-    ∙ ap (λ ts. turn_at n (next_moment (arrivals_of x)) ++ ts) (turns_told files ids (suc n) ss xs each.1 t.1)
-
-pub same_told : (files : Files) (ids : ℕ → Id) (ss : List Again) (xs : List Stream) (turns : List Turn) → AllByRecursion (IsOpened ids) ss → AreReplays files ids ss xs →
-    SameMembers turns (turns_from 0 (map seen ss)) → SameMembers turns (turns_from 0 xs)
-same_told files ids ss xs turns each t same = subst (λ ts. SameMembers turns ts) (turns_told files ids 0 ss xs each t) same
+-- where no capture has a record before a moment, nothing of them arrives before it
+pub none_arrives : (files : Files) (ids : ℕ → Id) (m : ℕ) (ss : List Again) (xs : List Stream) → AllByRecursion (IsOpened ids) ss → AreReplays files ids ss xs →
+    AllByRecursion (λ (s : Again). IfSome s.next (λ k. m ≤ k)) ss → NoneArrives m (flat_map arrivals_of xs)
+none_arrives files ids m [] [] each t from = tt
+none_arrives files ids m [] (x ∷ xs) each t from = absurd t
+none_arrives files ids m (s ∷ ss) [] each t from = absurd t
+none_arrives files ids m (s ∷ ss) (x ∷ xs) each t from =
+    none_arrives-append m (arrivals_of x) (flat_map arrivals_of xs)
+    (none_arrives-next m x (λ k e. subst (λ o. IfSome o (λ n. m ≤ n)) (sym (next_told files ids s x each.0 t.0) ∙ e) from.0))
+    (none_arrives files ids m ss xs each.1 t.1 from.1)
 
 -- nothing was read through its id
 replay_stays : (file now : Files) (given ids : ℕ → Id) (s : Again) (x : Stream) → SameFiles file now → ids s.replay.file.id ≡ given s.replay.file.id → IsReplayOf file given s x → IsReplayOf now ids s x
@@ -155,18 +150,27 @@ arrival_is x r rest m c first is port index moment bytes =
     ∙ ap (λ (a : Arrival). a ∷ arrivals_from x.port (suc x.index) (max x.least r.time) rest) own
     ∙ ap (λ n. arrival_with c ∷ arrivals_from x.port (suc x.index) n rest) (sym is)
 
-pub told_first : (xs before after : List Stream) (x : Stream) (turns : List Turn) (m place : ℕ) (r : Record) (rest : List Record) (c : Came) → SameMembers turns (turns_from 0 xs) →
-    xs ≡ before ++ x ∷ after → length before ≡ place → next_moment (arrivals_of x) ≡ Some m → NoTurnBefore m place turns →
+pub told_first : (xs before after : List Stream) (x : Stream) (m : ℕ) (r : Record) (rest : List Record) (c : Came) → xs ≡ before ++ x ∷ after →
+    NoneArrives (suc m) (flat_map arrivals_of before) → NoneArrives m (flat_map arrivals_of after) →
     x.records ≡ r ∷ rest → m ≡ max x.least r.time → c.port ≡ x.port → c.index ≡ x.index → c.moment ≡ m → c.bytes ≡ r.bytes →
     to_come xs ≡ Captured (arrival_with c) ∷ to_come (before ++ gone_behind x m rest ∷ after)
-told_first xs before after x turns m place r rest c same split at moment earliest first is port index when bytes =
-    let turn : HasTurn xs 0 m place = record { before = before; one = x; after = after; split = split; at = omega (arith, at); moment = moment } in
-    let here : x ≡ get_or xs place x = sym (ap (λ ys. get_or ys place x) split ∙ ap (λ k. get_or (before ++ x ∷ after) k x) (sym at) ∙ at-split before x after x) in
-    comes-first xs turns m place x (gone_behind x m rest) (arrival_with c) same turn earliest here (arrival_is x r rest m c first is port index when bytes)
-    ∙ ap (λ ys. Captured (arrival_with c) ∷ to_come ys)
-    (ap (λ ys. set ys place (gone_behind x m rest)) split ∙ ap (λ k. set (before ++ x ∷ after) k (gone_behind x m rest)) (sym at) ∙ set-split before x (gone_behind x m rest) after)
+told_first xs before after x m r rest c split ahead behind first is port index when bytes =
+    ap to_come split
+    ∙ to_come-first before after x (gone_behind x m rest) (arrival_with c) (arrival_is x r rest m c first is port index when bytes)
+    (subst (λ k. NoneArrives (suc k) (flat_map arrivals_of before)) (sym when) ahead) (subst (λ k. NoneArrives k (flat_map arrivals_of after)) (sym when) behind)
+
+no_next : (xs : List Arrival) → next_moment xs ≡ None → xs ≡ []
+no_next [] e = refl
+no_next (x ∷ xs) e = absurd (cc)
+
+none_of : (files : Files) (ids : ℕ → Id) (ss : List Again) (xs : List Stream) → AllByRecursion (IsOpened ids) ss → AreReplays files ids ss xs → AllByRecursion (λ (s : Again). s.next ≡ None) ss →
+    AllByRecursion (λ x. arrivals_of x ≡ []) xs
+none_of files ids [] [] each t none = tt
+none_of files ids [] (x ∷ xs) each t none = absurd t
+none_of files ids (s ∷ ss) [] each t none = absurd t
+none_of files ids (s ∷ ss) (x ∷ xs) each t none = (no_next (arrivals_of x) (next_told files ids s x each.0 t.0 ∙ none.0), none_of files ids ss xs each.1 t.1 none.1)
 
 -- where no turn is left, nothing comes
-pub none_told : {A : Type 0} (files : Files) (ids : ℕ → Id) (ss : List Again) (xs : List Stream) (turns : BinaryHeap Turn A) → AllByRecursion (IsOpened ids) ss → AreReplays files ids ss xs →
-    IsInTurn (map seen ss) turns → heap_len turns ≡ 0 → to_come xs ≡ []
-none_told files ids ss xs turns each t in_turn none = comes-none xs (heap_items turns) (same_told files ids ss xs (heap_items turns) each t in_turn.same) (omega (arith, none))
+pub none_told : (files : Files) (ids : ℕ → Id) (ss : List Again) (xs : List Stream) → AllByRecursion (IsOpened ids) ss → AreReplays files ids ss xs → AllByRecursion (λ (s : Again). s.next ≡ None) ss →
+    to_come xs ≡ []
+none_told files ids ss xs each t none = to_come-none xs (none_of files ids ss xs each t none)

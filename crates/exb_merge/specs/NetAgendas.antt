@@ -1,5 +1,5 @@
 -- What is still to be played of a net: the commands and captures of several bridges, in the order in which the net is given them.
-use Rattle.std.specs.Prelude.{⊤, ◌≡◌, ◌≢◌, ◌<◌, ◌≤◌, ℕ, suc, Bool, false, List, [], ◌∷◌, ◌++◌, length, map, filter, filter_map, flat_map, sum_by, Option, Some, None, slice_get}
+use Rattle.std.specs.Prelude.{⊤, ◌≡◌, ◌≢◌, ◌<◌, ◌≤◌, ℕ, suc, Bool, false, List, [], ◌∷◌, ◌++◌, length, map, filter, filter_map, flat_map, sum_by, Option, Some, None, IfSome, slice_get}
 use Rattle.std.specs.List.{AllByRecursion}
 use Rattle.std.specs.Option.{option_map}
 use Rattle.exb_model.specs.Input.{Input, given_by, moment_of, second_of}
@@ -15,8 +15,8 @@ use Rattle.exb_merge.specs.declared.programme.Programme.{Programme}
 use Rattle.exb_merge.specs.Agendas.{ToPlay, commands_left, first_moment, turn_by}
 use Rattle.exb_merge.specs.Programmes.{IsComing, IsFrom, IsProgramme, left_of, played_with, what}
 use Rattle.exb_merge.specs.Replays.{AreReplays, IsEarliest, ids_in}
-use Rattle.exb_merge.specs.Streams.{Stream, arrivals_of, next_moment, stream_at, stream_of}
-use Rattle.exb_merge.specs.Turns.{IsInTurn}
+use Rattle.exb_merge.specs.Streams.{Stream, arrivals_of, next_moment, stream_at}
+use Rattle.exb_merge.specs.Turns.{AreTurns}
 
 -- ---- what is left of several bridges
 -- the commands of bridges that are numbered from b on, and their records
@@ -90,23 +90,19 @@ left_of_all ps = sum_by left_of ps
 abbrev pub IsTurn : Option ℕ → Programme → Type 0
 IsTurn turn p = (captured : Option ℕ) × IsEarliest captured p.captures × (turn ≡ turn_by (first_moment (commands_left (played_with [] p))) captured)
 
--- a turn as the next moment of a stream, so that bridges have theirs as captures have them
-abbrev pub turn_seen : Option ℕ → Stream
-turn_seen None = stream_of 0 []
-turn_seen (Some t) = stream_of 0 (record { time = t; bytes = [] } ∷ [])
-
-abbrev pub seat_seen : Seat → Stream
-seat_seen s = turn_seen s.turn
+abbrev pub turn_in : Seat → Option ℕ
+turn_in s = s.turn
 
 pub record IsSeated (ids : ℕ → Id) (s : Seat) : Type 0 where
   pub programme : IsProgramme ids s.programme
   pub turn : IsTurn s.turn s.programme
+  pub small : IfSome s.turn (λ t. t < 18446744073709551615)
 
 -- Each bridge has a programme, which reads through ids of its own, and each of which something is left has its turn.
 pub record IsAgenda (ids : ℕ → Id) (a : Agenda) : Type 0 where
   pub each : AllByRecursion (IsSeated ids) a.seats.items
   pub apart : ReadApart (programmes_in a)
-  pub turns : IsInTurn (map seat_seen a.seats.items) a.turns
+  pub turns : AreTurns (map turn_in a.seats.items) a.turns
   pub few : length a.seats.items ≤ 256
 
 -- ---- what comes

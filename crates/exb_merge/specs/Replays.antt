@@ -15,7 +15,7 @@ use Rattle.exb_merge.specs.declared.replays.Came.{Came}
 use Rattle.exb_merge.specs.declared.replays.Replays.{Replays}
 use Rattle.exb_merge.specs.Arrivals.{arrival_with}
 use Rattle.exb_merge.specs.Streams.{Stream, to_come}
-use Rattle.exb_merge.specs.Turns.{IsInTurn}
+use Rattle.exb_merge.specs.Turns.{AreTurns}
 
 -- why captures aren't read on, where that of this port isn't
 abbrev pub fault_at : ℕ → ReplayFault → CaptureFault
@@ -24,13 +24,9 @@ fault_at p replay.Read = Read
 fault_at p (replay.Changed at) = Changed p at
 
 -- ---- what comes next of one capture
--- the next record alone, without its bytes, as a stream: its turn is the capture's turn
-abbrev pub seen_at : Option ℕ → Again → Stream
-seen_at None s = record { port = s.port; index = s.index; least = 0; records = [] }
-seen_at (Some m) s = record { port = s.port; index = s.index; least = m; records = record { time = m; bytes = [] } ∷ [] }
-
-abbrev pub seen : Again → Stream
-seen s = seen_at s.next s
+-- the moment of its next record, if it has one
+abbrev pub next_in : Again → Option ℕ
+next_in s = s.next
 
 -- The capture was opened and looked at: the moment of its next record is kept, where it has one, and its numbers are no more than its
 -- bytes.
@@ -51,7 +47,7 @@ Apart (s ∷ rest) = AllByRecursion (λ t. (t.port ≢ s.port) × (t.replay.file
 pub record AreOpened (ids : ℕ → Id) (r : Replays) : Type 0 where
   pub each : AllByRecursion (IsOpened ids) r.sources.items
   pub apart : Apart r.sources.items
-  pub turns : IsInTurn (map seen r.sources.items) r.turns
+  pub turns : AreTurns (map next_in r.sources.items) r.turns
 
 -- how many bytes are left of all
 abbrev pub left_in : Replays → ℕ

@@ -1,35 +1,69 @@
--- The order in which captures have their turns.
-use Rattle.std.specs.Prelude.{◌≡◌, ◌≤◌, ℕ, suc, List, [], ◌∷◌, ◌++◌, Option, Some, None, sum_by}
-use Rattle.std.specs.declared.cmp.Ordering.{Ordering}
-use Rattle.std.specs.declared.cmp.Reverse.{Reverse}
-use Rattle.std.specs.Ordering.{nat_cmp, ordering_then}
-use Rattle.std.specs.declared.collections.BinaryHeap.{BinaryHeap}
-use Rattle.std.specs.BinaryHeap.{IsHeap, heap_items, heap_len, heap_capacity}
-use Rattle.exb_merge.specs.Streams.{Stream, arrivals_of, next_moment}
+-- The turns of what stands in a list.
+use Rattle.std.specs.Prelude.{◌≡◌, ◌≢◌, ◌<◌, ◌≤◌, ◌+◌, ◌*◌, ◌/◌, nat_lt, if◌then◌else◌, ℕ, zero, suc, List, [], ◌∷◌, length, get_or, map, Option, Some, None, IfSome}
+use Rattle.std.specs.List.{AllByRecursion}
+use Rattle.exb_merge.specs.declared.turns.Turns.{Turns}
 
--- the moment of a capture's next record, and the capture's place
-abbrev pub Turn : Type 0
-Turn = Reverse (ℕ × ℕ)
+-- ---- whose turn it is
+abbrev pub moment_at : List (Option ℕ) → ℕ → Option ℕ
+moment_at moments place = get_or moments place None
 
--- the earlier is the greater, and at the same moment that of the capture which stands first
-abbrev pub by_turn : Turn → Turn → Ordering
-by_turn x y = ordering_then (nat_cmp y.0.0 x.0.0) (nat_cmp y.0.1 x.0.1)
+-- The first turn of some moments by place is that of this one: none is earlier, and those at the same moment stand behind it.
+pub record IsFirst (moments : List (Option ℕ)) (moment place : ℕ) : Type 0 where
+  pub within : place < length moments
+  pub own : moment_at moments place ≡ Some moment
+  pub all : (q : ℕ) → q < length moments → IfSome (moment_at moments q) (λ m. moment ≤ m)
+  pub ahead : (q : ℕ) → q < place → IfSome (moment_at moments q) (λ m. moment < m)
 
-abbrev pub turn_at : ℕ → Option ℕ → List Turn
-turn_at place None = []
-turn_at place (Some moment) = record { 0 = (moment, place) } ∷ []
+-- ---- how it is found
+-- a moment as it is kept: later than any where there is none
+abbrev pub kept : Option ℕ → ℕ
+kept None = 18446744073709551615
+kept (Some m) = m
 
--- the turns of captures that stand from a place on
-abbrev pub turns_from : ℕ → List Stream → List Turn
-turns_from place [] = []
-turns_from place (s ∷ rest) = turn_at place (next_moment (arrivals_of s)) ++ turns_from (suc place) rest
+abbrev pub at : List ℕ → ℕ → ℕ
+at xs k = get_or xs k 0
 
--- two lists have the same members, each as often
-abbrev pub SameMembers : {X : Type 0} → List X → List X → Type 0
-SameMembers {X} xs ys = (f : X → ℕ) → sum_by f xs ≡ sum_by f ys
+-- turns in their order, as numbers
+abbrev pub turn : List ℕ → ℕ → ℕ
+turn moments place = at moments place * 18446744073709551616 + place
 
--- the heap holds the turns of these captures, and has room for them
-pub record IsInTurn {A : Type 0} (streams : List Stream) (turns : BinaryHeap Turn A) : Type 0 where
-  pub same : SameMembers (heap_items turns) (turns_from 0 streams)
-  pub ordered : IsHeap by_turn (heap_items turns)
-  pub room : heap_len turns ≤ heap_capacity turns
+abbrev pub sooner : List ℕ → ℕ → ℕ → ℕ
+sooner moments one other = if nat_lt (turn moments other) (turn moments one) then other else one
+
+-- of the two below this node that one is first which has its turn first
+abbrev pub IsWon : List ℕ → List ℕ → ℕ → Type 0
+IsWon moments firsts n = at firsts n ≡ sooner moments (at firsts (2 * n)) (at firsts (2 * n + 1))
+
+-- so many nodes above a node
+abbrev pub above : ℕ → ℕ → ℕ
+above zero n = n
+above (suc k) n = above k (n / 2)
+
+-- Each node has a place, and the first of those below it: only this node and those above it may not have theirs.
+pub record HasPending (moments firsts : List ℕ) (pending : ℕ) : Type 0 where
+  pub nodes : length firsts ≡ 2 * length moments
+  pub low : pending < length moments
+  pub places : (n : ℕ) → 1 ≤ n → n < length firsts → at firsts n < length moments
+  pub won : (n : ℕ) → 1 ≤ n → n < length moments → ((k : ℕ) → above k pending ≢ n) → IsWon moments firsts n
+
+-- the leaves of a tree of so many places are what they were
+pub record HasLeaves (places : ℕ) (old new : List ℕ) : Type 0 where
+  pub count : length new ≡ length old
+  pub same : (n : ℕ) → places ≤ n → at new n ≡ at old n
+
+-- the tree of the turns of these moments
+pub record IsTree (moments leaves firsts : List ℕ) : Type 0 where
+  pub count : length leaves ≡ length moments
+  pub low : (q : ℕ) → q < length moments → length moments ≤ at leaves q
+  pub high : (q : ℕ) → q < length moments → at leaves q < length firsts
+  pub of_place : (q : ℕ) → q < length moments → at firsts (at leaves q) ≡ q
+  pub of_leaf : (n : ℕ) → 1 ≤ n → length moments ≤ n → n < length firsts → at leaves (at firsts n) ≡ n
+  pub nodes : length firsts ≡ 2 * length moments
+  pub places : (n : ℕ) → 1 ≤ n → n < length firsts → at firsts n < length moments
+  pub won : (n : ℕ) → 1 ≤ n → n < length moments → IsWon moments firsts n
+
+-- these are the turns of these moments
+pub record AreTurns (moments : List (Option ℕ)) (t : Turns) : Type 0 where
+  pub are : t.moments.items ≡ map kept moments
+  pub small : AllByRecursion (λ o. IfSome o (λ m. m < 18446744073709551615)) moments
+  pub tree : IsTree t.moments.items t.leaves.items t.firsts.items

@@ -12,12 +12,10 @@ ghost use Rattle.exb_merge.specs.Streams.{Stream};
 
 use crate::programme::{Next, Programme};
 use crate::replays::CaptureFault;
-use crate::turns::{Turn, first_turn, put_turn, turn_on};
+use crate::turns::Turns;
 use exb_model::memory::NoMemory;
 use exb_shelf::Shelf;
 use std::alloc::Global;
-use std::cmp::Reverse;
-use std::collections::BinaryHeap;
 
 /// What comes next, and the bridge to which it comes.
 #[derive(Debug, Drop)]
@@ -47,7 +45,7 @@ pub(crate) struct Seat<'a> {
 pub struct Agenda<'a> {
     seats: Vec<Seat<'a>>,
     /// The turn of each bridge of which something is left.
-    turns: BinaryHeap<Turn>,
+    turns: Turns,
 }
 
 impl Seat<'_> {
@@ -89,7 +87,7 @@ impl<'a> Agenda<'a> {
     {
         Agenda {
             seats: Vec::new(alloc),
-            turns: BinaryHeap::new(alloc),
+            turns: Turns::new(alloc),
         }
     }
 
@@ -102,11 +100,9 @@ impl<'a> Agenda<'a> {
             → AllByRecursion (λ k. (given k).given ≡ false) (ids_in programme.entry.captures) → IsAgenda ids self.old → IsProgramme ids programme.entry → IsAgenda ids self.new) }
         ensures programmes { OnOk result (programmes_in self.new ≡ programmes_in self.old ++ programme.entry ∷ []) }
     {
-        self.turns.reserve(1)?;
         let turn = programme.turn();
-        let place = self.seats.len();
         self.seats.push(Seat { programme, turn })?;
-        put_turn(&mut self.turns, turn, place);
+        self.turns.add(turn)?;
         Ok(())
     }
 
@@ -146,7 +142,7 @@ impl<'a> Agenda<'a> {
         ensures faults { NoFewer (S.faults shelf.old) (S.faults shelf.new) }
         ensures failed { (b : ℕ) → IsErrOf result (record { bridge = b; fault = CaptureFault.Read }) → Rose (S.faults shelf.old).reads (S.faults shelf.new).reads }
     {
-        let Some(Reverse((_, place))) = first_turn(&self.turns) else {
+        let Some((_, place)) = self.turns.first() else {
             return Ok(None);
         };
         let bridge = place as u8;
@@ -155,7 +151,7 @@ impl<'a> Agenda<'a> {
             Ok(next) => next,
             Err(fault) => return Err(BridgeFault { bridge, fault }),
         };
-        turn_on(&mut self.turns, seat.turn, place);
+        self.turns.put(place, seat.turn);
         match next {
             Some(next) => Ok(Some(NetNext { bridge, next })),
             None => Ok(None),

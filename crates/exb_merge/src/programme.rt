@@ -55,8 +55,9 @@ fn moment_after(start: u64, at: u32) -> u64
 #[inline(always)]
 fn turn_by(command: Option<u64>, captured: Option<u64>) -> Option<u64>
     requires command { IfSome command (λ m. m < 2 ^ 63) }
-    requires captured { IfSome captured (λ m. m < 2 ^ 63) }
-    ensures { result ≡ turn_by command captured }
+    requires captured { IfSome captured (λ m. m < 2 ^ 62) }
+    ensures value { result ≡ turn_by command captured }
+    ensures small { IfSome result (λ t. t < 18446744073709551615) }
 {
     match (command, captured) {
         (None, None) => None,
@@ -151,7 +152,8 @@ impl<'a> Programme<'a> {
     #[inline(always)]
     pub(crate) fn turn(&self) -> Option<u64>
         requires programme { (ids : ℕ → Id) × IsProgramme ids self.now }
-        ensures { IsTurn result self.now }
+        ensures turn { IsTurn result self.now }
+        ensures small { IfSome result (λ t. t < 18446744073709551615) }
     {
         turn_by(self.command_moment(), self.captures.moment())
     }

@@ -11,15 +11,13 @@ ghost use Rattle.exb_merge.specs.Counting.{CountsAgain};
 ghost use Rattle.exb_merge.specs.Replays.{fault_at, AreOpened, AreReplays, AreToldSince, ComesFirst, HasCome, HasPort, IsEarliest, IsWithin, NoneIsBefore, ReadsOn, ids_in, left_in, standings};
 ghost use Rattle.exb_merge.specs.Streams.{Stream, stream_of};
 
-use crate::turns::{Turn, first_turn, put_turn, turn_on};
+use crate::turns::Turns;
 use exb_capture::{Replay, ReplayFault, Scanned};
 use exb_model::bytes::Bytes;
 use exb_model::memory::NoMemory;
 use exb_model::port::PortId;
 use exb_shelf::Shelf;
 use std::alloc::Global;
-use std::cmp::Reverse;
-use std::collections::BinaryHeap;
 
 /// Why the captures can't be read on.
 #[derive(Clone, Copy, Debug, PartialEq, Eq)]
@@ -75,7 +73,7 @@ pub(crate) struct Again {
 pub struct Replays {
     sources: Vec<Again>,
     /// The turn of each capture that isn't at its end.
-    turns: BinaryHeap<Turn>,
+    turns: Turns,
 }
 
 impl Again {
@@ -119,7 +117,7 @@ impl Replays {
     {
         Replays {
             sources: Vec::new(alloc),
-            turns: BinaryHeap::new(alloc),
+            turns: Turns::new(alloc),
         }
     }
 
@@ -160,9 +158,6 @@ impl Replays {
         ensures faults { NoFewer (S.faults shelf.old) (S.faults shelf.new) }
         ensures failed { IsErrOf result CaptureFault.Read → Rose (S.faults shelf.old).reads (S.faults shelf.new).reads }
     {
-        if self.turns.reserve(1).is_err() {
-            return Err(CaptureFault::Memory);
-        }
         let mut replay = match Replay::open(alloc, shelf, name, told) {
             Ok(replay) => replay,
             Err(fault) => return Err(fault_at(port, fault)),
@@ -171,7 +166,6 @@ impl Replays {
             Ok(next) => next,
             Err(fault) => return Err(fault_at(port, fault)),
         };
-        let place = self.sources.len();
         let source = Again {
             port,
             index: 1,
@@ -181,7 +175,9 @@ impl Replays {
         if self.sources.push(source).is_err() {
             return Err(CaptureFault::Memory);
         }
-        put_turn(&mut self.turns, next, place);
+        if self.turns.add(next).is_err() {
+            return Err(CaptureFault::Memory);
+        }
         Ok(())
     }
 
@@ -191,8 +187,8 @@ impl Replays {
         requires opened { (ids : ℕ → Id) × AreOpened ids self.now }
         ensures { IsEarliest result self.now }
     {
-        match self.turns.peek() {
-            Some(Reverse((moment, _))) => Some(*moment),
+        match self.turns.first() {
+            Some((moment, _)) => Some(moment),
             None => None,
         }
     }
@@ -236,7 +232,7 @@ impl Replays {
         ensures faults { NoFewer (S.faults shelf.old) (S.faults shelf.new) }
         ensures failed { IsErrOf result CaptureFault.Read → Rose (S.faults shelf.old).reads (S.faults shelf.new).reads }
     {
-        let Some(Reverse((moment, place))) = first_turn(&self.turns) else {
+        let Some((moment, place)) = self.turns.first() else {
             return Ok(None);
         };
         let source = &mut self.sources[place];
@@ -249,7 +245,7 @@ impl Replays {
             Err(fault) => return Err(fault_at(source.port, fault)),
         };
         source.next = next;
-        turn_on(&mut self.turns, next, place);
+        self.turns.put(place, next);
         Ok(Some(came))
     }
 }

@@ -1,58 +1,115 @@
-//! The turns of captures.
-ghost use Rattle.std.specs.Prelude.{◌≡◌, ◌<◌, ◌≤◌, ◌∷◌, ◌++◌, drop, IfSome, IfNone};
-ghost use Rattle.std.specs.List.Sorted.{IsPermutation};
-ghost use Rattle.std.specs.BinaryHeap.{IsHeap, IsUpperBound, heap_items, heap_len, heap_capacity};
-ghost use Rattle.exb_merge.specs.Turns.{by_turn, turn_at, SameMembers};
+//! Whose turn it is of what stands in a list.
+ghost use Rattle.std.specs.Prelude.{◌≡◌, ◌<◌, ◌*◌, ◌+◌, ◌++◌, ◌∷◌, [], ℕ, List, Option, Some, None, length, set, OnOk, IfSome, IfNone};
+ghost use Rattle.std.specs.List.{AllByRecursion};
+ghost use Rattle.exb_merge.specs.Turns.{AreTurns, HasLeaves, HasPending, IsFirst, sooner};
 
-use std::cmp::Reverse;
-use std::collections::BinaryHeap;
-use std::collections::binary_heap::PeekMut;
+use exb_model::memory::NoMemory;
+use std::alloc::Global;
 
-/// A turn: the moment of a capture's next record, and the place of the capture. The earliest is the
-/// greatest, and at the same moment that of the first capture.
-pub type Turn = Reverse<(u64, usize)>;
+/// The moment of a place that has no turn: later than any.
+const NEVER: u64 = u64::MAX;
 
-/// Gives the capture at a place its turn, if it has a next record. There is room for it.
-pub fn put_turn(turns: &mut BinaryHeap<Turn>, moment: Option<u64>, place: usize)
-    requires { heap_len turns.old < heap_capacity turns.old }
-    ensures same { SameMembers (heap_items turns.new) (turn_at place moment ++ heap_items turns.old) }
-    ensures ordered { IsHeap by_turn (heap_items turns.old) → IsHeap by_turn (heap_items turns.new) }
-    ensures room { heap_len turns.new ≤ heap_capacity turns.new }
+/// A moment outweighs all places.
+const MOMENT: u128 = 0x1_0000_0000_0000_0000;
+
+/// The turns of what stands in a list: the moment that comes next of each place, if one does.
+///
+/// They are a tournament. Of its nodes each but a leaf, at n, has two below it, at 2n and 2n + 1, and the root is at 1; each place has a leaf.
+#[derive(Drop)]
+pub struct Turns {
+    /// The moment of each place, or `NEVER`.
+    moments: Vec<u64>,
+    /// The leaf of each place.
+    leaves: Vec<usize>,
+    /// The place whose turn is first of those below each node.
+    firsts: Vec<usize>,
+}
+
+/// Which of two places has its turn first: by moment, and at the same moment the lower one.
+#[inline(always)]
+fn sooner(moments: &[u64], one: usize, other: usize) -> usize
+    requires one { one < length moments.now }
+    requires other { other < length moments.now }
+    ensures { result ≡ sooner moments.now one other }
 {
-    if let Some(moment) = moment {
-        let _ = turns.push(Reverse((moment, place)));
+    let first = moments[one] as u128 * MOMENT + one as u128;
+    let second = moments[other] as u128 * MOMENT + other as u128;
+    if second < first { other } else { one }
+}
+
+/// Finds which place is first at a node and at those above it.
+#[inline(always)]
+fn settle(moments: &[u64], firsts: &mut [usize], pending: usize)
+    requires pending { HasPending moments.now firsts.old pending }
+    ensures settled { HasPending moments.now firsts.new 0 }
+    ensures leaves { HasLeaves (length moments.now) firsts.old firsts.new }
+{
+    let mut node = pending;
+    'nodes: while node > 0 {
+        firsts[node] = sooner(moments, firsts[2 * node], firsts[2 * node + 1]);
+        node /= 2;
     }
 }
 
-/// The first turn of all, if there is one.
-#[inline(always)]
-pub(crate) fn first_turn(turns: &BinaryHeap<Turn>) -> Option<Turn>
-    ensures some { IfSome result (λ first. 0 < heap_len turns.now) }
-    ensures first { IfSome result (λ first. IsPermutation (heap_items turns.now) (first ∷ drop 1 (heap_items turns.now))) }
-    ensures greatest { IfSome result (λ first. IsHeap by_turn (heap_items turns.now) → IsUpperBound by_turn first (heap_items turns.now)) }
-    ensures none { IfNone result (heap_len turns.now ≡ 0) }
-{
-    match turns.peek() {
-        Some(first) => Some(*first),
-        None => None,
-    }
-}
-
-/// Gives the capture at a place its next turn in the place of the first turn of all, or takes that one away
-/// where the capture has no next record.
-#[inline(always)]
-pub(crate) fn turn_on(turns: &mut BinaryHeap<Turn>, moment: Option<u64>, place: usize)
-    requires some { 0 < heap_len turns.old }
-    requires room { heap_len turns.old ≤ heap_capacity turns.old }
-    ensures same { SameMembers (heap_items turns.new) (turn_at place moment ++ drop 1 (heap_items turns.old)) }
-    ensures ordered { IsHeap by_turn (heap_items turns.old) → IsHeap by_turn (heap_items turns.new) }
-    ensures room { heap_len turns.new ≤ heap_capacity turns.new }
-{
-    let mut first = turns.peek_mut().unwrap();
-    match moment {
-        Some(moment) => *first = Reverse((moment, place)),
-        None => {
-            PeekMut::pop(first);
+impl Turns {
+    /// No place yet.
+    pub fn new(alloc: Global) -> Turns
+        ensures { AreTurns [] result }
+    {
+        Turns {
+            moments: Vec::new(alloc),
+            leaves: Vec::new(alloc),
+            firsts: Vec::new(alloc),
         }
+    }
+
+    /// One place more. It shares the node of the first leaf.
+    pub fn add(&mut self, moment: Option<u64>) -> Result<(), NoMemory>
+        requires turns { (moments : List (Option ℕ)) × AreTurns moments self.old }
+        requires small { IfSome moment (λ m. m < 18446744073709551615) }
+        ensures { OnOk result ((moments : List (Option ℕ)) → AreTurns moments self.old → AreTurns (moments ++ moment ∷ []) self.new) }
+    {
+        let place = self.moments.len();
+        self.moments.push(moment.unwrap_or(NEVER))?;
+        self.leaves.push(place)?;
+        self.firsts.push(place)?;
+        self.firsts.push(place)?;
+        let beside = self.firsts[place];
+        self.firsts[2 * place] = beside;
+        self.leaves[beside] = 2 * place;
+        self.leaves[place] = 2 * place + 1;
+        settle(self.moments.as_slice(), self.firsts.as_mut_slice(), place);
+        Ok(())
+    }
+
+    /// The first turn of all, if there is one: its moment and its place.
+    #[inline(always)]
+    pub fn first(&self) -> Option<(u64, usize)>
+        requires turns { (moments : List (Option ℕ)) × AreTurns moments self.now }
+        ensures some { IfSome result (λ t. (moments : List (Option ℕ)) → AreTurns moments self.now → IsFirst moments t.0 t.1) }
+        ensures none { IfNone result ((moments : List (Option ℕ)) → AreTurns moments self.now → AllByRecursion (λ m. m ≡ None) moments) }
+    {
+        let place = *self.firsts.get(1)?;
+        let moment = self.moments[place];
+        if moment == NEVER {
+            return None;
+        }
+        Some((moment, place))
+    }
+
+    /// Gives a place its next turn, or takes it away.
+    #[inline(always)]
+    pub fn put(&mut self, place: usize, moment: Option<u64>)
+        requires turns { (moments : List (Option ℕ)) × AreTurns moments self.old }
+        requires place { place < length self.old.moments.items }
+        requires small { IfSome moment (λ m. m < 18446744073709551615) }
+        ensures { (moments : List (Option ℕ)) → AreTurns moments self.old → AreTurns (set moments place moment) self.new }
+    {
+        self.moments[place] = moment.unwrap_or(NEVER);
+        settle(
+            self.moments.as_slice(),
+            self.firsts.as_mut_slice(),
+            self.leaves[place] / 2,
+        );
     }
 }

@@ -2,13 +2,16 @@ use Rattle.std.proofs.Common.{◌≡◌, [], ◌∷◌, ◌++◌, length, map, s
 use Rattle.std.specs.List.{AllByRecursion}
 use Rattle.std.proofs.lemmas.List.{length-map, map-append}
 use Rattle.exb_merge.specs.declared.agenda.Seat.{Seat}
-use Rattle.exb_merge.specs.NetAgendas.{IsSeated, ReadApart, seat_seen}
-use Rattle.exb_merge.specs.Turns.{IsInTurn}
+use Rattle.exb_merge.specs.NetAgendas.{IsSeated, ReadApart, turn_in}
+use Rattle.exb_merge.specs.Turns.{AreTurns}
 use Rattle.exb_merge.proofs.NetReads.{apart_more}
-use Rattle.exb_merge.proofs.NetSteps.{own, shows, turn_in}
+use Rattle.exb_merge.proofs.NetSteps.{own}
 use Rattle.exb_merge.proofs.Places.{all_join}
-use Rattle.exb_merge.proofs.Turning.{in_turn_more}
+use Rattle.exb_merge.proofs.Turning.{turns_more}
 use Rattle.exb_merge.proofs.agenda.Agenda.add.Goals as goal
+
+pub add-requires-clause-turns : goal.add-requires-clause-turns
+add-requires-clause-turns c = (map turn_in c.args.self.now.seats.items, c.requires.room.1.turns)
 
 pub returns-clause-agenda : goal.returns-clause-agenda
 returns-clause-agenda c = λ given ids old new all programme.
@@ -17,10 +20,8 @@ returns-clause-agenda c = λ given ids old new all programme.
     let s : Seat = record { programme = c.args.programme; turn = c.turn-turn.result } in
     let items : c.push.new.self.items ≡ ss ++ s ∷ [] = c.in_ok-push.ensures.items in
     record {
-      each = subst (AllByRecursion (IsSeated ids)) (sym items) (all_join (IsSeated ids) ss (s ∷ []) all.each (record { programme = programme; turn = c.turn-turn.ensures }, tt));
+      each = subst (AllByRecursion (IsSeated ids)) (sym items) (all_join (IsSeated ids) ss (s ∷ []) all.each (record { programme = programme; turn = c.turn-turn.ensures.turn; small = c.turn-turn.ensures.small }, tt));
       apart = subst (λ ys. ReadApart (map own ys)) (sym items) (subst ReadApart (sym (map-append own ss (s ∷ []))) (apart_more given (map own ss) c.args.programme old new all.apart));
-      turns = subst (λ ys. IsInTurn (map seat_seen ys) c.put_turn.new.turns) (sym items)
-          (in_turn_more seat_seen turn_in shows ss s c.len-place.result a.turns c.reserve.new.self c.put_turn.new.turns (omega arith) all.turns c.reserve.ensures.items c.put_turn.ensures.same
-          c.put_turn.ensures.ordered c.put_turn.ensures.room);
+      turns = subst (λ ys. AreTurns (map turn_in ys) c.add.new.self) (sym items) (turns_more turn_in ss s c.add.new.self (c.in_ok-add.ensures (map turn_in ss) all.turns));
       few = (let long = ap length items in omega (arith, long, length-append ss (s ∷ []), length-map ss own, c.requires.few));
     }

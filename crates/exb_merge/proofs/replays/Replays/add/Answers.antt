@@ -1,17 +1,20 @@
-use Rattle.std.proofs.Common.{◌≡◌, [], ◌∷◌, ◌++◌, map, Err, sym, ap, subst, ◌∙◌, arith}
+use Rattle.std.proofs.Common.{◌≡◌, ℕ, List, [], ◌∷◌, ◌++◌, map, Err, sym, ap, subst, ◌∙◌, arith}
 use Rattle.std.specs.List.{AllByRecursion}
+use Rattle.std.specs.Prelude.{Option}
 use Rattle.exb_shelf.specs.Files.{bytes_of}
 use Rattle.exb_capture.specs.Counts.{after_fault}
 use Rattle.exb_capture.proofs.Replaying.{never_replayed}
 use Rattle.exb_merge.specs.declared.replays.Again.{Again}
 use Rattle.exb_merge.specs.declared.replays.CaptureFault.TheVariants.{Changed}
-use Rattle.exb_merge.specs.Replays.{Apart, AreReplays, IsOpened, seen}
+use Rattle.exb_merge.specs.Replays.{Apart, AreReplays, IsOpened, next_in}
 use Rattle.exb_merge.specs.Streams.{stream_of}
-use Rattle.exb_merge.specs.Turns.{IsInTurn}
-use Rattle.exb_merge.proofs.Adding.{apart_new, each_more, in_turn_more, one_more, opened_first, replay_first, replays_more, when_ok}
+use Rattle.exb_merge.specs.Turns.{AreTurns}
+use Rattle.exb_merge.proofs.Adding.{apart_new, each_more, fine, one_more, opened_first, replay_first, replays_more, when_ok}
 use Rattle.exb_merge.proofs.Counts.{not_opened, not_read, port_at}
 use Rattle.exb_merge.proofs.Moving.{changed_at, own_fault}
+use Rattle.exb_merge.proofs.Seen.{small_next}
 use Rattle.exb_merge.proofs.Told.{replaying_opened}
+use Rattle.exb_merge.proofs.Turning.{turns_more}
 use Rattle.exb_merge.proofs.replays.Replays.add.Goals as goal
 
 pub returns-in-Err-ahead-clause-never : goal.returns-in-Err-ahead-clause-never
@@ -25,6 +28,12 @@ returns-in-Err-ahead-clause-never g c = λ tells p at e bytes records there whol
     let fault = changed_at c.args.port p at c.in-Err-ahead.fault (sym c.fault_at-in-Err-ahead.ensures ∙ own_fault c.fault_at-in-Err-ahead.result (Changed p at) e) in
     never_replayed (bytes_of (file (ids opened.file.id).name)) records opened at k (c.in-Err-ahead.ensures.changed tells at (ap Err fault) k.given k.has)
 
+pub add-requires-clause-turns : goal.add-requires-clause-turns
+add-requires-clause-turns g c = (map next_in c.args.self.now.sources.items, c.requires.opened.turns)
+
+pub add-requires-clause-small : goal.add-requires-clause-small
+add-requires-clause-small g c = small_next c.in-Ok-ahead.next c.ahead.new.self c.in-Ok-ahead.ensures.found
+
 pub returns-clause-opened : goal.returns-clause-opened
 returns-clause-opened g c =
     let S = g.S.Shelf in
@@ -35,16 +44,17 @@ returns-clause-opened g c =
     let looked = c.ahead.new.self in
     let s : Again = one_more c.args.port c.args.told opened looked c.in-Ok-ahead.next c.in-Ok.ensures.told.0 c.in-Ok.ensures.begun c.ahead.ensures.same in
     let ids = S.ids c.ahead.new.shelf in
-    let items : c.push.new.self.items ≡ xs ++ s ∷ [] = when_ok c.push.result c.push.new.self.items (xs ++ s ∷ []) xs (sym c.is_err-2.ensures.value ∙ c.if-is_err-2.false) c.push.ensures.items in
+    let items : c.push.new.self.items ≡ xs ++ s ∷ [] = when_ok c.push.result c.push.new.self.items (xs ++ s ∷ []) xs (sym c.is_err.ensures.value ∙ c.if-is_err.false) c.push.ensures.items in
     let own = opened_first c.args.port c.args.told opened looked c.in-Ok-ahead.next c.in-Ok.ensures.told.0 c.in-Ok.ensures.begun c.ahead.ensures.same ids c.requires.room c.ahead.ensures.kept
     c.in-Ok-ahead.ensures.at c.in-Ok-ahead.ensures.left c.in-Ok-ahead.ensures.found in
+    let added : (moments : List (Option ℕ)) → AreTurns moments r.turns → AreTurns (moments ++ c.in-Ok-ahead.next ∷ []) c.add.new.self =
+    fine c.add.result (sym c.is_err-2.ensures.value ∙ c.if-is_err-2.false) c.add.ensures in
     record {
       each = subst (AllByRecursion (IsOpened ids)) (sym items)
           (each_more given (S.ids c.open.new.shelf) ids xs s c.args.name.now opened.file.id c.in-Ok.ensures.new c.open.ensures.opened c.ahead.ensures.moves c.requires.opened.each own);
       apart = subst Apart (sym items) (apart_new given xs s opened.file.id c.ahead.ensures.same.file.id c.in-Ok.ensures.new c.requires.port c.requires.opened.each c.requires.opened.apart);
-      turns = subst (λ ys. IsInTurn (map seen ys) c.put_turn.new.turns) (sym items)
-          (in_turn_more xs s c.len-place.result r.turns c.reserve.new.self c.put_turn.new.turns (omega arith) c.requires.opened.turns c.reserve.ensures.items c.put_turn.ensures.same c.put_turn.ensures.ordered
-          c.put_turn.ensures.room);
+      turns = subst (λ ys. AreTurns (map next_in ys) c.add.new.self) (sym items)
+          (turns_more next_in xs s c.add.new.self (added (map next_in xs) c.requires.opened.turns));
     }
 
 pub returns-clause-streams : goal.returns-clause-streams
@@ -57,7 +67,7 @@ returns-clause-streams g c = λ tells bytes records streams there whole told t.
     let looked = c.ahead.new.self in
     let s : Again = one_more c.args.port c.args.told opened looked c.in-Ok-ahead.next c.in-Ok.ensures.told.0 c.in-Ok.ensures.begun c.ahead.ensures.same in
     let ids = S.ids c.ahead.new.shelf in
-    let items : c.push.new.self.items ≡ xs ++ s ∷ [] = when_ok c.push.result c.push.new.self.items (xs ++ s ∷ []) xs (sym c.is_err-2.ensures.value ∙ c.if-is_err-2.false) c.push.ensures.items in
+    let items : c.push.new.self.items ≡ xs ++ s ∷ [] = when_ok c.push.result c.push.new.self.items (xs ++ s ∷ []) xs (sym c.is_err.ensures.value ∙ c.if-is_err.false) c.push.ensures.items in
     let own = replay_first c.args.port c.args.told opened looked c.in-Ok-ahead.next c.in-Ok.ensures.told.0 c.in-Ok.ensures.begun c.ahead.ensures.same (S.file c.args.shelf.now) (S.file c.open.new.shelf)
     (S.file c.ahead.new.shelf) given (S.ids c.open.new.shelf) ids c.args.name.now c.open.ensures.files c.ahead.ensures.files c.ahead.ensures.moves c.in-Ok.ensures.id c.ahead.ensures.before
     c.in-Ok.ensures.told.1 bytes records there whole told (c.in-Ok.ensures.given tells) (c.in-Ok-ahead.ensures.given tells) (c.in-Ok-ahead.ensures.end tells) in

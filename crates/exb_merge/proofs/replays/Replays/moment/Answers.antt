@@ -1,15 +1,18 @@
-use Rattle.std.proofs.Common.{refl}
-use Rattle.std.specs.BinaryHeap.{heap_len}
-use Rattle.exb_merge.proofs.Seen.{first_earliest, none_next, none_of}
+use Rattle.std.proofs.Common.{map}
+use Rattle.exb_merge.specs.Replays.{next_in}
+use Rattle.exb_merge.proofs.Seen.{first_earliest}
+use Rattle.exb_merge.proofs.Turning.{none_left}
 use Rattle.exb_merge.proofs.replays.Replays.moment.Goals as goal
+
+pub first-requires : goal.first-requires
+first-requires c = record { turns = (map next_in c.args.self.now.sources.items, c.requires.opened.1.turns) }
 
 pub returns-in-Some : goal.returns-in-Some
 returns-in-Some c =
-    let r = c.args.self.now in
-    let turns = c.requires.opened.1.turns in
-    first_earliest r.sources.items r.turns c.in-Some.field-0.now turns (c.in-Some.ensures.variant.0 refl) c.in-Some.ensures.lookup c.in-Some.ensures.greatest
+    let xs = c.args.self.now.sources.items in
+    first_earliest xs c.in-Some.moment c.in-Some.field-0-1 (c.in-Some.ensures.some (map next_in xs) c.requires.opened.1.turns)
 
 pub returns-in-None : goal.returns-in-None
 returns-in-None c =
-    let r = c.args.self.now in
-    none_next r.sources.items r.turns c.requires.opened.1.turns (none_of (heap_len r.turns) c.in-None.ensures.variant.1)
+    let xs = c.args.self.now.sources.items in
+    none_left next_in xs (c.in-None.ensures.none (map next_in xs) c.requires.opened.1.turns)

@@ -1,33 +1,36 @@
-use Rattle.std.proofs.Common.{◌≡◌, Err, drop, sym, ap, ◌∙◌, arith}
-use Rattle.std.specs.BinaryHeap.{heap_items}
+use Rattle.std.proofs.Common.{◌≡◌, Err, map, sym, ap, ◌∙◌, arith}
 use Rattle.exb_shelf.specs.Files.{bytes_of}
 use Rattle.exb_capture.proofs.Replaying.{never_replayed}
 use Rattle.exb_merge.specs.declared.replays.Again.{Again}
-use Rattle.exb_merge.specs.Replays.{IsOpened}
+use Rattle.exb_merge.specs.Replays.{IsOpened, next_in}
 use Rattle.exb_merge.specs.declared.replays.CaptureFault.TheVariants.{Changed}
 use Rattle.exb_merge.proofs.Counts.{not_read, port_at, turn_port, turn_within}
 use Rattle.exb_merge.proofs.Moving.{changed_at, opened_next, own_fault, rises_next}
-use Rattle.exb_merge.proofs.Playing.{at_taken, has_rest, in_turn_next, moves_taken, next_apart, next_come, next_each, next_earliest, next_ids, next_left, next_reads, next_rises, next_since, order_next}
-use Rattle.exb_merge.proofs.Seen.{is_there, none_earlier, none_next, own_comes, own_of, whose_turn}
+use Rattle.exb_merge.proofs.Playing.{at_taken, has_rest, moves_taken, next_apart, next_come, next_each, next_earliest, next_ids, next_left, next_reads, next_rises, next_since, order_next}
+use Rattle.exb_merge.proofs.Seen.{own_comes, own_of, small_next, whose_turn}
 use Rattle.exb_merge.proofs.Told.{none_told}
+use Rattle.exb_merge.proofs.Turning.{all_from, is_there, none_left, place_in, turns_next}
 use Rattle.exb_merge.proofs.replays.Replays.next.Goals as goal
+
+pub first-requires : goal.first-requires
+first-requires g c = record { turns = (map next_in c.args.self.now.sources.items, c.requires.opened.turns) }
 
 pub returns-in_default-clause-end : goal.returns-in_default-clause-end
 returns-in_default-clause-end g c =
     let r = c.args.self.now in
-    none_next r.sources.items r.turns c.requires.opened.turns c.in_default.ensures.none
+    none_left next_in r.sources.items (c.in_default.ensures.none (map next_in r.sources.items) c.requires.opened.turns)
 
 pub returns-in_default-clause-order : goal.returns-in_default-clause-order
 returns-in_default-clause-order g c = λ tells streams told.
     let S = g.S.Shelf in
     let r = c.args.self.now in
-    none_told (S.file c.args.shelf.now) (S.ids c.args.shelf.now) r.sources.items streams r.turns c.requires.opened.each told c.requires.opened.turns c.in_default.ensures.none
+    none_told (S.file c.args.shelf.now) (S.ids c.args.shelf.now) r.sources.items streams c.requires.opened.each told
+    (none_left next_in r.sources.items (c.in_default.ensures.none (map next_in r.sources.items) c.requires.opened.turns))
 
 pub index_mut-source-requires : goal.index_mut-source-requires
 index_mut-source-requires g c =
     let r = c.args.self.now in
-    let x = c.in-Some.field-0 in
-    let there = is_there r.sources.items r.turns (drop 1 (heap_items r.turns)) x.0.0 x.0.1 c.requires.opened.turns c.in-Some.ensures.first in
+    let there = is_there next_in r.sources.items c.in-Some.moment c.in-Some.place (c.in-Some.ensures.some (map next_in r.sources.items) c.requires.opened.turns) in
     omega (arith, there)
 
 pub take-requires-clause-found : goal.take-requires-clause-found
@@ -35,38 +38,34 @@ take-requires-clause-found g c =
     let S = g.S.Shelf in
     let ids = S.ids c.args.shelf.now in
     let r = c.args.self.now in
-    let x = c.in-Some.field-0 in
     let s = c.index_mut-source.result.now in
-    let h = whose_turn r.sources.items r.turns (drop 1 (heap_items r.turns)) x.0.0 x.0.1 c.requires.opened.turns c.in-Some.ensures.first s c.index_mut-source.ensures.value in
-    own_comes ids x.0.0 s h.next (own_of (IsOpened ids) r.sources.items x.0.1 s h.at c.requires.opened.each)
+    let h = whose_turn r.sources.items c.in-Some.moment c.in-Some.place (c.in-Some.ensures.some (map next_in r.sources.items) c.requires.opened.turns) s c.index_mut-source.ensures.value in
+    own_comes ids c.in-Some.moment s h.next (own_of (IsOpened ids) r.sources.items c.in-Some.place s h.at c.requires.opened.each)
 
 pub take-requires-clause-kept : goal.take-requires-clause-kept
 take-requires-clause-kept g c =
     let S = g.S.Shelf in
     let r = c.args.self.now in
-    let x = c.in-Some.field-0 in
     let s = c.index_mut-source.result.now in
-    let h = whose_turn r.sources.items r.turns (drop 1 (heap_items r.turns)) x.0.0 x.0.1 c.requires.opened.turns c.in-Some.ensures.first s c.index_mut-source.ensures.value in
-    (own_of (IsOpened (S.ids c.args.shelf.now)) r.sources.items x.0.1 s h.at c.requires.opened.each).kept
+    let h = whose_turn r.sources.items c.in-Some.moment c.in-Some.place (c.in-Some.ensures.some (map next_in r.sources.items) c.requires.opened.turns) s c.index_mut-source.ensures.value in
+    (own_of (IsOpened (S.ids c.args.shelf.now)) r.sources.items c.in-Some.place s h.at c.requires.opened.each).kept
 
 pub take-requires-clause-numbers : goal.take-requires-clause-numbers
 take-requires-clause-numbers g c =
     let S = g.S.Shelf in
     let r = c.args.self.now in
-    let x = c.in-Some.field-0 in
     let s = c.index_mut-source.result.now in
-    let h = whose_turn r.sources.items r.turns (drop 1 (heap_items r.turns)) x.0.0 x.0.1 c.requires.opened.turns c.in-Some.ensures.first s c.index_mut-source.ensures.value in
-    let o = own_of (IsOpened (S.ids c.args.shelf.now)) r.sources.items x.0.1 s h.at c.requires.opened.each in
+    let h = whose_turn r.sources.items c.in-Some.moment c.in-Some.place (c.in-Some.ensures.some (map next_in r.sources.items) c.requires.opened.turns) s c.index_mut-source.ensures.value in
+    let o = own_of (IsOpened (S.ids c.args.shelf.now)) r.sources.items c.in-Some.place s h.at c.requires.opened.each in
     omega (arith, o.numbers, o.small)
 
 pub take-requires-clause-first : goal.take-requires-clause-first
 take-requires-clause-first g c =
     let S = g.S.Shelf in
     let r = c.args.self.now in
-    let x = c.in-Some.field-0 in
     let s = c.index_mut-source.result.now in
-    let h = whose_turn r.sources.items r.turns (drop 1 (heap_items r.turns)) x.0.0 x.0.1 c.requires.opened.turns c.in-Some.ensures.first s c.index_mut-source.ensures.value in
-    (own_of (IsOpened (S.ids c.args.shelf.now)) r.sources.items x.0.1 s h.at c.requires.opened.each).first
+    let h = whose_turn r.sources.items c.in-Some.moment c.in-Some.place (c.in-Some.ensures.some (map next_in r.sources.items) c.requires.opened.turns) s c.index_mut-source.ensures.value in
+    (own_of (IsOpened (S.ids c.args.shelf.now)) r.sources.items c.in-Some.place s h.at c.requires.opened.each).first
 
 pub ahead-requires-clause-at : goal.ahead-requires-clause-at
 ahead-requires-clause-at g c =
@@ -74,11 +73,10 @@ ahead-requires-clause-at g c =
     let given = S.ids c.args.shelf.now in
     let r = c.args.self.now in
     let xs = r.sources.items in
-    let x = c.in-Some.field-0 in
-    let m = x.0.0 in
-    let place = x.0.1 in
+    let m = c.in-Some.moment in
+    let place = c.in-Some.place in
     let s = c.index_mut-source.result.now in
-    let h = whose_turn xs r.turns (drop 1 (heap_items r.turns)) m place c.requires.opened.turns c.in-Some.ensures.first s c.index_mut-source.ensures.value in
+    let h = whose_turn xs m place (c.in-Some.ensures.some (map next_in xs) c.requires.opened.turns) s c.index_mut-source.ensures.value in
     let taken = c.take.new.self in
     let own = own_of (IsOpened given) xs place s h.at c.requires.opened.each in
     at_taken given s taken.replay c.take.ensures.same c.take.ensures.got own.at
@@ -89,11 +87,10 @@ returns-in-Err-ahead-clause-never g c = λ tells p at e streams told.
     let given = S.ids c.args.shelf.now in
     let r = c.args.self.now in
     let xs = r.sources.items in
-    let x = c.in-Some.field-0 in
-    let m = x.0.0 in
-    let place = x.0.1 in
+    let m = c.in-Some.moment in
+    let place = c.in-Some.place in
     let s = c.index_mut-source.result.now in
-    let h = whose_turn xs r.turns (drop 1 (heap_items r.turns)) m place c.requires.opened.turns c.in-Some.ensures.first s c.index_mut-source.ensures.value in
+    let h = whose_turn xs m place (c.in-Some.ensures.some (map next_in xs) c.requires.opened.turns) s c.index_mut-source.ensures.value in
     let taken = c.take.new.self in
     let file = S.file c.args.shelf.now in
     let t = has_rest file given xs m place s h c.requires.opened.each taken.replay c.take.ensures.same c.in-Ok.ensures.given streams c.in-Ok.came.bytes c.in-Ok.ensures.bytes told in
@@ -107,14 +104,24 @@ returns-in-Err-ahead-clause-reads g c =
     let given = S.ids c.args.shelf.now in
     let r = c.args.self.now in
     let xs = r.sources.items in
-    let x = c.in-Some.field-0 in
-    let m = x.0.0 in
-    let place = x.0.1 in
+    let m = c.in-Some.moment in
+    let place = c.in-Some.place in
     let s = c.index_mut-source.result.now in
-    let h = whose_turn xs r.turns (drop 1 (heap_items r.turns)) m place c.requires.opened.turns c.in-Some.ensures.first s c.index_mut-source.ensures.value in
+    let h = whose_turn xs m place (c.in-Some.ensures.some (map next_in xs) c.requires.opened.turns) s c.index_mut-source.ensures.value in
     let taken = c.take.new.self in
     let ids = S.ids c.ahead.new.shelf in
     next_reads xs m place s h given ids (moves_taken given s taken.replay c.take.ensures.same ids c.ahead.ensures.moves)
+
+pub put-requires-clause-turns : goal.put-requires-clause-turns
+put-requires-clause-turns g c = (map next_in c.args.self.now.sources.items, c.requires.opened.turns)
+
+pub put-requires-clause-place : goal.put-requires-clause-place
+put-requires-clause-place g c =
+    let xs = c.args.self.now.sources.items in
+    place_in next_in xs c.args.self.now.turns c.in-Some.place c.requires.opened.turns (is_there next_in xs c.in-Some.moment c.in-Some.place (c.in-Some.ensures.some (map next_in xs) c.requires.opened.turns))
+
+pub put-requires-clause-small : goal.put-requires-clause-small
+put-requires-clause-small g c = small_next c.in-Ok-ahead.next c.ahead.new.self c.in-Ok-ahead.ensures.found
 
 pub returns-clause-opened : goal.returns-clause-opened
 returns-clause-opened g c =
@@ -122,11 +129,10 @@ returns-clause-opened g c =
     let given = S.ids c.args.shelf.now in
     let r = c.args.self.now in
     let xs = r.sources.items in
-    let x = c.in-Some.field-0 in
-    let m = x.0.0 in
-    let place = x.0.1 in
+    let m = c.in-Some.moment in
+    let place = c.in-Some.place in
     let s = c.index_mut-source.result.now in
-    let h = whose_turn xs r.turns (drop 1 (heap_items r.turns)) m place c.requires.opened.turns c.in-Some.ensures.first s c.index_mut-source.ensures.value in
+    let h = whose_turn xs m place (c.in-Some.ensures.some (map next_in xs) c.requires.opened.turns) s c.index_mut-source.ensures.value in
     let taken = c.take.new.self in
     let own = own_of (IsOpened given) xs place s h.at c.requires.opened.each in
     let looked = c.ahead.new.self in
@@ -140,8 +146,7 @@ returns-clause-opened g c =
     record {
       each = next_each xs m place s s' h given ids moves c.requires.opened.apart kept c.requires.opened.each;
       apart = next_apart xs m place s s' h c.take.ensures.port id c.requires.opened.apart;
-      turns = in_turn_next xs s' m place r.turns (drop 1 (heap_items r.turns)) c.turn_on.new.turns c.requires.opened.turns c.in-Some.ensures.first c.turn_on.ensures.same
-          (c.turn_on.ensures.ordered c.requires.opened.turns.ordered) c.turn_on.ensures.room;
+      turns = turns_next next_in xs place s' c.put.new.self (c.put.ensures (map next_in xs) c.requires.opened.turns);
     }
 
 pub returns-clause-come : goal.returns-clause-come
@@ -150,11 +155,10 @@ returns-clause-come g c =
     let given = S.ids c.args.shelf.now in
     let r = c.args.self.now in
     let xs = r.sources.items in
-    let x = c.in-Some.field-0 in
-    let m = x.0.0 in
-    let place = x.0.1 in
+    let m = c.in-Some.moment in
+    let place = c.in-Some.place in
     let s = c.index_mut-source.result.now in
-    let h = whose_turn xs r.turns (drop 1 (heap_items r.turns)) m place c.requires.opened.turns c.in-Some.ensures.first s c.index_mut-source.ensures.value in
+    let h = whose_turn xs m place (c.in-Some.ensures.some (map next_in xs) c.requires.opened.turns) s c.index_mut-source.ensures.value in
     let taken = c.take.new.self in
     let own = own_of (IsOpened given) xs place s h.at c.requires.opened.each in
     let looked = c.ahead.new.self in
@@ -171,13 +175,12 @@ returns-clause-earliest g c =
     let given = S.ids c.args.shelf.now in
     let r = c.args.self.now in
     let xs = r.sources.items in
-    let x = c.in-Some.field-0 in
-    let m = x.0.0 in
-    let place = x.0.1 in
+    let m = c.in-Some.moment in
+    let place = c.in-Some.place in
     let s = c.index_mut-source.result.now in
-    let h = whose_turn xs r.turns (drop 1 (heap_items r.turns)) m place c.requires.opened.turns c.in-Some.ensures.first s c.index_mut-source.ensures.value in
+    let h = whose_turn xs m place (c.in-Some.ensures.some (map next_in xs) c.requires.opened.turns) s c.index_mut-source.ensures.value in
     let taken = c.take.new.self in
-    next_earliest xs m place s h r.turns c.in-Ok.came.moment c.in-Ok.ensures.comes.2 c.requires.opened.turns (c.in-Some.ensures.greatest c.requires.opened.turns.ordered)
+    next_earliest xs m place s h c.in-Ok.came.moment c.in-Ok.ensures.comes.2 (c.in-Some.ensures.some (map next_in xs) c.requires.opened.turns)
 
 pub returns-clause-rises : goal.returns-clause-rises
 returns-clause-rises g c =
@@ -185,16 +188,15 @@ returns-clause-rises g c =
     let given = S.ids c.args.shelf.now in
     let r = c.args.self.now in
     let xs = r.sources.items in
-    let x = c.in-Some.field-0 in
-    let m = x.0.0 in
-    let place = x.0.1 in
+    let m = c.in-Some.moment in
+    let place = c.in-Some.place in
     let s = c.index_mut-source.result.now in
-    let h = whose_turn xs r.turns (drop 1 (heap_items r.turns)) m place c.requires.opened.turns c.in-Some.ensures.first s c.index_mut-source.ensures.value in
+    let h = whose_turn xs m place (c.in-Some.ensures.some (map next_in xs) c.requires.opened.turns) s c.index_mut-source.ensures.value in
     let taken = c.take.new.self in
     let looked = c.ahead.new.self in
     let s' : Again = record { port = taken.port; index = taken.index; next = c.in-Ok-ahead.next; replay = looked } in
-    let first = (c.in-Some.ensures.greatest c.requires.opened.turns.ordered) in
-    next_rises xs m place s s' h c.in-Ok.came.moment c.in-Ok.ensures.comes.2 (none_earlier xs (heap_items r.turns) m place c.requires.opened.turns.same first)
+    let first = c.in-Some.ensures.some (map next_in xs) c.requires.opened.turns in
+    next_rises xs m place s s' h c.in-Ok.came.moment c.in-Ok.ensures.comes.2 (all_from next_in xs m place first)
     (rises_next c.in-Ok-ahead.next m looked (c.ahead.ensures.before.least ∙ c.in-Ok.ensures.least) c.in-Ok-ahead.ensures.found)
 
 pub returns-clause-since : goal.returns-clause-since
@@ -203,11 +205,10 @@ returns-clause-since g c = λ second told.
     let given = S.ids c.args.shelf.now in
     let r = c.args.self.now in
     let xs = r.sources.items in
-    let x = c.in-Some.field-0 in
-    let m = x.0.0 in
-    let place = x.0.1 in
+    let m = c.in-Some.moment in
+    let place = c.in-Some.place in
     let s = c.index_mut-source.result.now in
-    let h = whose_turn xs r.turns (drop 1 (heap_items r.turns)) m place c.requires.opened.turns c.in-Some.ensures.first s c.index_mut-source.ensures.value in
+    let h = whose_turn xs m place (c.in-Some.ensures.some (map next_in xs) c.requires.opened.turns) s c.index_mut-source.ensures.value in
     let taken = c.take.new.self in
     next_since xs m place s h second c.in-Ok.came.moment c.in-Ok.ensures.comes.2 c.in-Ok.ensures.limits.1 told
 
@@ -217,11 +218,10 @@ returns-clause-left g c =
     let given = S.ids c.args.shelf.now in
     let r = c.args.self.now in
     let xs = r.sources.items in
-    let x = c.in-Some.field-0 in
-    let m = x.0.0 in
-    let place = x.0.1 in
+    let m = c.in-Some.moment in
+    let place = c.in-Some.place in
     let s = c.index_mut-source.result.now in
-    let h = whose_turn xs r.turns (drop 1 (heap_items r.turns)) m place c.requires.opened.turns c.in-Some.ensures.first s c.index_mut-source.ensures.value in
+    let h = whose_turn xs m place (c.in-Some.ensures.some (map next_in xs) c.requires.opened.turns) s c.index_mut-source.ensures.value in
     let taken = c.take.new.self in
     let looked = c.ahead.new.self in
     let s' : Again = record { port = taken.port; index = taken.index; next = c.in-Ok-ahead.next; replay = looked } in
@@ -233,11 +233,10 @@ returns-clause-order g c = λ tells streams told.
     let given = S.ids c.args.shelf.now in
     let r = c.args.self.now in
     let xs = r.sources.items in
-    let x = c.in-Some.field-0 in
-    let m = x.0.0 in
-    let place = x.0.1 in
+    let m = c.in-Some.moment in
+    let place = c.in-Some.place in
     let s = c.index_mut-source.result.now in
-    let h = whose_turn xs r.turns (drop 1 (heap_items r.turns)) m place c.requires.opened.turns c.in-Some.ensures.first s c.index_mut-source.ensures.value in
+    let h = whose_turn xs m place (c.in-Some.ensures.some (map next_in xs) c.requires.opened.turns) s c.index_mut-source.ensures.value in
     let taken = c.take.new.self in
     let own = own_of (IsOpened given) xs place s h.at c.requires.opened.each in
     let file = S.file c.args.shelf.now in
@@ -246,7 +245,7 @@ returns-clause-order g c = λ tells streams told.
     let comes = c.in-Ok.ensures.comes in
     let t = has_rest file given xs m place s h c.requires.opened.each taken.replay c.take.ensures.same c.in-Ok.ensures.given streams c.in-Ok.came.bytes c.in-Ok.ensures.bytes told in
     order_next file given xs m place s h c.requires.opened.each taken.replay c.take.ensures.same c.in-Ok.ensures.given (S.file c.ahead.new.shelf) (S.ids c.ahead.new.shelf) looked taken.port taken.index
-    c.in-Ok-ahead.next r.turns c.in-Ok.came streams c.requires.opened.apart c.requires.opened.turns (c.in-Some.ensures.greatest c.requires.opened.turns.ordered) comes.0 comes.1 comes.2
+    c.in-Ok-ahead.next c.in-Ok.came streams c.requires.opened.apart (c.in-Some.ensures.some (map next_in xs) c.requires.opened.turns) comes.0 comes.1 comes.2
     c.take.ensures.port (omega (arith, index)) (c.ahead.ensures.before.least ∙ c.in-Ok.ensures.least)
     (at_taken given s taken.replay c.take.ensures.same c.take.ensures.got own.at) c.ahead.ensures.moves c.ahead.ensures.files c.ahead.ensures.same (c.in-Ok-ahead.ensures.given tells)
     (c.in-Ok-ahead.ensures.end tells) told t
@@ -257,11 +256,10 @@ returns-clause-ids g c =
     let given = S.ids c.args.shelf.now in
     let r = c.args.self.now in
     let xs = r.sources.items in
-    let x = c.in-Some.field-0 in
-    let m = x.0.0 in
-    let place = x.0.1 in
+    let m = c.in-Some.moment in
+    let place = c.in-Some.place in
     let s = c.index_mut-source.result.now in
-    let h = whose_turn xs r.turns (drop 1 (heap_items r.turns)) m place c.requires.opened.turns c.in-Some.ensures.first s c.index_mut-source.ensures.value in
+    let h = whose_turn xs m place (c.in-Some.ensures.some (map next_in xs) c.requires.opened.turns) s c.index_mut-source.ensures.value in
     let taken = c.take.new.self in
     let looked = c.ahead.new.self in
     let s' : Again = record { port = taken.port; index = taken.index; next = c.in-Ok-ahead.next; replay = looked } in
@@ -273,11 +271,10 @@ returns-clause-reads g c =
     let given = S.ids c.args.shelf.now in
     let r = c.args.self.now in
     let xs = r.sources.items in
-    let x = c.in-Some.field-0 in
-    let m = x.0.0 in
-    let place = x.0.1 in
+    let m = c.in-Some.moment in
+    let place = c.in-Some.place in
     let s = c.index_mut-source.result.now in
-    let h = whose_turn xs r.turns (drop 1 (heap_items r.turns)) m place c.requires.opened.turns c.in-Some.ensures.first s c.index_mut-source.ensures.value in
+    let h = whose_turn xs m place (c.in-Some.ensures.some (map next_in xs) c.requires.opened.turns) s c.index_mut-source.ensures.value in
     let taken = c.take.new.self in
     let ids = S.ids c.ahead.new.shelf in
     next_reads xs m place s h given ids (moves_taken given s taken.replay c.take.ensures.same ids c.ahead.ensures.moves)
@@ -286,12 +283,11 @@ pub returns-in-Err-ahead-clause-port : goal.returns-in-Err-ahead-clause-port
 returns-in-Err-ahead-clause-port g c = λ p at e.
     let r = c.args.self.now in
     let xs = r.sources.items in
-    let x = c.in-Some.field-0 in
     let s = c.index_mut-source.result.now in
-    let h = whose_turn xs r.turns (drop 1 (heap_items r.turns)) x.0.0 x.0.1 c.requires.opened.turns c.in-Some.ensures.first s c.index_mut-source.ensures.value in
+    let h = whose_turn xs c.in-Some.moment c.in-Some.place (c.in-Some.ensures.some (map next_in xs) c.requires.opened.turns) s c.index_mut-source.ensures.value in
     let taken = c.take.new.self in
     let is = port_at taken.port p at c.in-Err-ahead.fault (sym c.fault_at.ensures ∙ own_fault c.fault_at.result (Changed p at) e) in
-    turn_port xs x.0.0 x.0.1 s h p (is ∙ c.take.ensures.port)
+    turn_port xs c.in-Some.moment c.in-Some.place s h p (is ∙ c.take.ensures.port)
 
 pub returns-in-Err-ahead-clause-counts : goal.returns-in-Err-ahead-clause-counts
 returns-in-Err-ahead-clause-counts g c = not_read c.take.new.self.port c.in-Err-ahead.fault c.fault_at.result _ _ c.fault_at.ensures c.in-Err-ahead.ensures.counts
@@ -300,11 +296,10 @@ pub returns-in-Err-ahead-clause-place : goal.returns-in-Err-ahead-clause-place
 returns-in-Err-ahead-clause-place g c = λ p at e.
     let r = c.args.self.now in
     let xs = r.sources.items in
-    let x = c.in-Some.field-0 in
     let s = c.index_mut-source.result.now in
-    let h = whose_turn xs r.turns (drop 1 (heap_items r.turns)) x.0.0 x.0.1 c.requires.opened.turns c.in-Some.ensures.first s c.index_mut-source.ensures.value in
+    let h = whose_turn xs c.in-Some.moment c.in-Some.place (c.in-Some.ensures.some (map next_in xs) c.requires.opened.turns) s c.index_mut-source.ensures.value in
     let taken = c.take.new.self in
     let told_at = sym c.fault_at.ensures ∙ own_fault c.fault_at.result (Changed p at) e in
     let low = c.in-Err-ahead.ensures.place at (ap Err (changed_at taken.port p at c.in-Err-ahead.fault told_at)) in
     let told : taken.replay.told.bytes ≡ s.replay.told.bytes = ap (λ t. t.bytes) c.take.ensures.same.told in
-    turn_within xs x.0.0 x.0.1 s h p at (port_at taken.port p at c.in-Err-ahead.fault told_at ∙ c.take.ensures.port) (omega (arith, low, told))
+    turn_within xs c.in-Some.moment c.in-Some.place s h p at (port_at taken.port p at c.in-Err-ahead.fault told_at ∙ c.take.ensures.port) (omega (arith, low, told))
