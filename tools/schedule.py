@@ -2,7 +2,7 @@
 """In which order tools/build proves crates, with how many processes each, and how long that takes by tools/seconds.txt.
 
     tools/schedule.py [PROCESSORS]     what is to be expected, crate by crate, of this repository on so many processors
-    tools/schedule.py --ci RT          `RT ci` where it is called, in this order (tools/build does so, on a copy)
+    tools/schedule.py --ci RT [--anew] `RT ci` where it is called, in this order (tools/build does so, on a copy)
 
 The toolchain's own order counts lines of code, shares the idle processors between all that could begin, and gives a crate its processes once, as
 its proof begins: one that begins beside two others has one until it ends, though what stands on it waits. Here the crates with the longest chain
@@ -196,9 +196,9 @@ class Lanes:
     def begin_some(self, tasks, left):
         """Begins what there are processors and memory for, and returns it."""
         ready = [it for it in left if all(other in self.given for other in tasks[it][0])]
-        proofs = {it for it in ready if it[1] == "proof"}
+        proofs = [it for it in ready if it[1] == "proof"]
         rest = {name: self.seconds_left(name) for name, kind, *_ in [*left, *self.running] if kind == "proof"}
-        names = sorted((key[0] for key in proofs), key=lambda it: -self.schedule.graph.chain[it])
+        names = sorted((name for name, _ in proofs), key=lambda it: -self.schedule.graph.chain[it])
         of_proofs = {name: found[:2] for (name, kind, *_), found in self.running.items() if kind == "proof"}
         wanted = [((name, "proof"), jobs, is_first) for name, jobs, is_first in self.schedule.begin(names, of_proofs, rest)]
         wanted += [(it, 1, False) for it in ready if it not in proofs]
@@ -252,7 +252,7 @@ def toolchain(file):
     return made if fits else None
 
 
-def ci(file):
+def ci(file, words):
     """`rt ci` here, in this order."""
     rt = toolchain(file)
     if rt is None:
@@ -264,7 +264,7 @@ def ci(file):
             return Lanes(Schedule(Graph(names, "."), len(os.sched_getaffinity(0))), 0.85 * rt.free()).run(tasks)
 
     rt.in_lanes = in_lanes
-    return rt.main(["ci"])
+    return rt.main(["ci", *words])
 
 
 def show(graph, processors):
@@ -281,10 +281,10 @@ def main():
     if words in (["--help"], ["-h"]):
         print(__doc__, end="")
         return 0
-    if len(words) == 2 and words[0] == "--ci":
-        return ci(words[1])
+    if words[:1] == ["--ci"] and len(words) > 1 and words[2:] in ([], ["--anew"]):
+        return ci(words[1], words[2:])
     if len(words) > 1 or not all(it.isdigit() and int(it) for it in words):
-        print("tools/schedule.py: usage: tools/schedule.py [PROCESSORS] | --ci RT", file=sys.stderr)
+        print("tools/schedule.py: usage: tools/schedule.py [PROCESSORS] | --ci RT [--anew]", file=sys.stderr)
         return 2
     sys.path.insert(0, HERE)
     import record

@@ -201,10 +201,15 @@ class InOurOrder(Launched):
         self.says(["tools/build"], 0, "exb_low kept (1 of 4", "exb_high kept", "exb_beside proved", "exbr proved (4 of 4")
         self.assertEqual(self.proved(), ["exb_beside", "exbr", "own"])
 
-    def test_anew_is_one_run_in_the_toolchains_order(self):
-        self.wide()
-        self.says(["tools/build", "--anew"], 0, "exbr proved (4 of 4")
-        self.assertEqual(self.proved(), ["own", "exb_low", "exb_high", "exb_beside", "exbr"])
+    def in_one_run_of_our_order(self):
+        found = self.proved()
+        self.assertEqual((found[0], sorted(found[1:3]), found[3:]), ("exb_low", ["exb_beside", "exb_high"], ["exbr"]))
+
+    def test_anew_is_one_run_that_takes_nothing(self):
+        it = self.wide()
+        it.write("kit/kept-exb_low", "")
+        self.says(["tools/build", "--anew"], 0, "exb_low proved (1 of 4", "exbr proved (4 of 4")
+        self.in_one_run_of_our_order()
 
     def test_a_kit_that_keeps_nothing_has_one_run_and_no_such_word(self):
         it = self.wide(KEEPS.replace("rt ci [--anew]", "rt ci"))
@@ -217,12 +222,14 @@ class InOurOrder(Launched):
     def test_where_nothing_is_shared_there_is_one_run(self):
         self.wide(KEEPS.replace('"doc"', '"none"'))
         self.says(["tools/build"], 0, "exbr proved (4 of 4")
-        self.assertEqual(self.proved(), ["own", "exb_low", "exb_high", "exb_beside", "exbr"])
+        self.in_one_run_of_our_order()
 
     def test_a_toolchain_without_that_scheduler_has_its_own_order(self):
-        self.wide(KEEPS.replace("in_lanes(tasks)", "in_lanes(tasks, more=1)"))
-        self.says(["tools/build"], 0, "exbr proved (4 of 4")
-        self.assertEqual(self.proved(), ["own", "exb_low", "exb_high", "exb_beside", "exbr"])
+        it = self.wide(KEEPS.replace("in_lanes(tasks)", "in_lanes(tasks, more=1)"))
+        for words in ([], ["--anew"]):
+            it.write("kit/calls", "")
+            self.says(["tools/build", *words], 0, "exbr proved (4 of 4")
+            self.assertEqual(self.proved(), ["own", "exb_low", "exb_high", "exb_beside", "exbr"])
 
     def test_what_fails_in_our_order_is_tried_again_in_the_toolchains(self):
         it = self.wide()

@@ -145,7 +145,7 @@ class Side(unittest.TestCase):
     def test_more_than_memory_runs_alone(self):
         lanes, tasks = self.tasks("one 10:\ntwo 10:\n", memory={"one": 900})
         lanes.run(tasks)
-        self.assertEqual((self.most, sorted(self.order)), (1, [("one", 1), ("two", 2)]))
+        self.assertEqual((self.most, self.order), (1, [("one", 1), ("two", 4)]))
 
     def test_what_a_call_raises_ends_the_run(self):
         lanes, tasks = self.tasks(WIDE, fails="high")
