@@ -1,10 +1,13 @@
 #!/usr/bin/env python3
-"""Turns a trace into a capture for Wireshark: `tools/trace_to_pcapng.py out-trace.txt trace.pcapng`.
+"""Turns a trace into a capture for Wireshark.
+
+    tools/trace_to_pcapng.py out-trace.txt trace.pcapng     (or exbr-trace-to-pcapng, as ./install puts it there)
 
 Each `in` and `out` line becomes a packet. Its interface is the place of the line (`b 1`, `x1 up`, `x1 3`), its direction is that of
 the line, and the journal's lines of a step stand as comments at the packet that the step begins with. A trace has no times: here each
 line takes a microsecond, a beat goes on to the next millisecond, and a tick takes its seconds.
 """
+import os
 import struct
 import sys
 
@@ -71,12 +74,19 @@ def capture_of(packets):
 
 
 def main():
-    if len(sys.argv) != 3:
-        sys.exit("usage: trace_to_pcapng.py TRACE CAPTURE")
-    with open(sys.argv[1], encoding="ascii") as trace:
-        packets = packets_of(trace.read().splitlines())
-    with open(sys.argv[2], "wb") as out:
-        out.write(capture_of(packets))
+    words, name = sys.argv[1:], os.path.basename(sys.argv[0])
+    if words in (["--help"], ["-h"]):
+        print(__doc__, end="")
+        return
+    if len(words) != 2:
+        sys.exit(f"usage: {name} TRACE CAPTURE")
+    try:
+        with open(words[0], encoding="ascii") as trace:
+            packets = packets_of(trace.read().splitlines())
+        with open(words[1], "wb") as out:
+            out.write(capture_of(packets))
+    except OSError as error:
+        sys.exit(f"{name}: {error.filename}: {error.strerror}")
 
 
 if __name__ == "__main__":

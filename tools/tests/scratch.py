@@ -46,7 +46,7 @@ FILES = {
     "kit/rt": RT,
     "kit/kit": "kit one\n",
 }
-PARTS = ["exbr", ".ci/run", "tools/sources", "tools/program", "tools/build", "tools/dist", "tools/gate", "tools/record.py", "tools/seconds.txt"]
+PARTS = ["exbr", ".ci/run", "tools/sources", "tools/program", "tools/build", "tools/dist", "tools/gate", "tools/record.py", "tools/schedule.py", "tools/seconds.txt"]
 
 
 def can_run():

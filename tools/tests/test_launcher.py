@@ -1,40 +1,84 @@
 """What ./exbr, tools/program, tools/build, tools/dist and .ci/run do and say, with dist/ as it must be and with a changed byte in it,
 in its record, or in a source; with the toolchain in the path, without it, and with another one."""
 import os
+import subprocess
+import time
 import unittest
 
 from scratch import Scratch, can_run
 
-# A toolchain that tells the second run of a crate that it is kept.
-WIDE = """#!/bin/sh
-kit=$(dirname "$0")
-case $1 in
-version) cat "$kit/kit" ;;
-doc) echo "$kit/START-HERE.md" ;;
-help) echo "rt ci [--anew]" ;;
-ci)
-    echo $2 $(ls crates) >>"$kit/calls"
-    for name in exb_low exb_high exb_beside exbr; do
-        [ -d crates/$name ] || continue
-        [ $name != exb_high ] || [ -d crates/exbr ] || { # first
-            :
-        }
-        if grep -q wrong crates/$name/src/*; then
-            echo "rt: $name NOT PROVED"
-            echo "0 passed, 1 failed"
-            exit 1
-        fi
-        if [ "$2" != --anew ] && [ -e "$kit/kept-$name" ]; then
-            echo "rt: $name is kept: an earlier run proved the same"
-        else
-            echo "rt: $name proved"
-            touch "$kit/kept-$name"
-        fi
-    done
-    [ ! -d crates/exbr ] || { mkdir -p crates/exbr/out; cat /bin/echo crates/exbr/src/main.rt >crates/exbr/out/exbr; chmod +x crates/exbr/out/exbr; }
-    echo "4 passed, 0 failed"
-    ;;
-esac
+# A toolchain that keeps what it proves, with a scheduler of its own that proves one crate after another. It tells in kit/calls what it proved,
+# with how many processes, and as which process.
+KEEPS = """#!/usr/bin/env python3
+import contextlib, os, sys, time
+
+KIT = os.path.dirname(os.path.realpath(__file__))
+HELP = "rt ci [--anew]"
+
+
+def note(line):
+    with open(f"{KIT}/calls", "a") as it:
+        it.write(f"{line}\\n")
+
+
+def free():
+    return 8_000_000_000
+
+
+ending = contextlib.nullcontext
+
+
+def in_lanes(tasks):
+    note("one after another")
+    given = {}
+    for key, task in tasks.items():
+        given[key] = task[3](given, 1)
+    return given
+
+
+def prove(name, below, anew, given, jobs):
+    kept = f"{KIT}/kept-{name}"
+    if not all(given[it, "proof"] for it in below):
+        return False
+    if os.path.exists(kept) and not anew:
+        print(f"rt: {name} is kept: an earlier run proved the same", flush=True)
+        return True
+    note(f"{name} by {jobs}, process {os.getpid()}")
+    with contextlib.suppress(FileNotFoundError):
+        with open(f"{KIT}/pause-{name}") as it:
+            time.sleep(float(it.read()))
+    found = "".join(open(f"crates/{name}/src/{it}").read() for it in os.listdir(f"crates/{name}/src"))
+    print(f"rt: {name} {'NOT PROVED' if 'wrong' in found else 'proved'}", flush=True)
+    if "wrong" not in found:
+        open(kept, "w").close()
+    return "wrong" not in found
+
+
+def ci(anew):
+    tasks = {}
+    with open("crates.txt") as it:
+        below = {line.split(":")[0]: line.split(":")[1].split() for line in it if line[0] != "#"}
+    for name, others in below.items():
+        after = [(it, "proof") for it in others]
+        tasks[name, "proof"] = (after, 1, 1_000_000_000, lambda given, jobs, name=name: prove(name, below[name], anew, given, jobs))
+        tasks[name, "tests"] = (after, 0, 1_000_000_000, lambda given, jobs: True)
+    given = in_lanes(tasks)
+    if all(given.values()):
+        os.makedirs("crates/exbr/out", exist_ok=True)
+        os.system("cat /bin/echo crates/exbr/src/main.rt >crates/exbr/out/exbr; chmod +x crates/exbr/out/exbr")
+    print(f"{sum(given.values())} passed")
+    return 0 if all(given.values()) else 1
+
+
+def main(words):
+    if words[0] == "ci":
+        return ci("--anew" in words)
+    print({"version": "kit one", "doc": f"{KIT}/START-HERE.md", "help": HELP}.get(words[0], ""))
+    return 0
+
+
+if __name__ == "__main__":
+    sys.exit(main(sys.argv[1:]))
 """
 
 
@@ -115,53 +159,99 @@ class AsItMustBe(Launched):
         self.says(["exbr", "--build", "--other"], 2, "takes --anew or nothing")
 
 
-class TwoRuns(Launched):
-    """Crates of which half stand beside the longest chain: that chain is proved by a run of its own, beside the run of all."""
+class InOurOrder(Launched):
+    """A kit that keeps what it proves: its scheduler is replaced in a first run, and the second is its own and takes all."""
 
-    def wide(self, rt=None):
+    def wide(self, rt=KEEPS):
         if len(os.sched_getaffinity(0)) < 3:
-            self.skipTest("two runs take three processors")
+            self.skipTest("an order of our own takes three processors")
         it = self.it
         it.write("crates.txt", "exb_low:\nexb_high: exb_low\nexb_beside: exb_low\nexbr: exb_high exb_beside exb_low\nexb_tests: exb_low\n")
-        it.write("tools/seconds.txt", "exb_low 10\nexb_high 60\nexb_beside 40\nexbr 10\n")
+        it.write("tools/seconds.txt", "exb_low 10\nexb_high 600\nexb_beside 40\nexbr 10\n")
         for name in ("exb_high", "exb_beside"):
             it.write(f"crates/{name}/src/lib.rt", f"{name}\n")
-        it.write("kit/rt", (rt or WIDE))
+        it.write("kit/rt", rt)
         return it
 
-    def test_the_chain_is_proved_beside_all(self):
+    def proved(self):
+        """The crates that were proved, in order, with `own` where the toolchain's own scheduler ran."""
+        lines = self.it.read("kit/calls").splitlines()
+        return ["own" if it.startswith("one") else it.split()[0] for it in lines]
+
+    def test_each_crate_is_proved_once_and_the_toolchain_has_the_last_word(self):
         it = self.wide()
-        self.says(["tools/build"], 0, "4 crates", "exb_low proved (1 of 4", "exb_high proved (2 of 4", "exb_beside proved", "exbr proved (4 of 4")
-        self.assertEqual(sorted(it.read("kit/calls").splitlines()), ["exb_beside exb_high exb_low exbr", "exb_high exb_low"])
+        self.says(["tools/build"], 0, "4 crates", "exb_low proved (1 of 4", "exb_high proved", "exb_beside proved", "exbr proved (4 of 4")
+        found = self.proved()
+        self.assertEqual((found[0], sorted(found[1:3]), found[3:]), ("exb_low", ["exb_beside", "exb_high"], ["exbr", "own"]))
         self.assertIn("exb_high proved", it.read("crates/exbr/out/build-first.log"))
         self.assertIn("exb_high is kept", it.read("crates/exbr/out/build.log"))
+        self.assertEqual(it.run("exbr", "x", has_rt=False), (0, "x\n", ""))
 
-    def test_anew_is_one_run(self):
+    def test_the_longest_chain_has_more_processes(self):
         it = self.wide()
-        self.says(["tools/build", "--anew"], 0, "exbr proved (4 of 4")
-        self.assertEqual(it.read("kit/calls").splitlines(), ["--anew exb_beside exb_high exb_low exbr"])
+        self.says(["tools/build"], 0, "exbr proved (4 of 4")
+        jobs = {line.split()[0]: int(line.split()[2].rstrip(",")) for line in it.read("kit/calls").splitlines() if " by " in line}
+        self.assertGreater(jobs["exb_high"], 2)
+        self.assertEqual(jobs["exb_beside"], 1)
+
+    def test_what_was_kept_is_taken(self):
+        it = self.wide()
+        it.write("kit/kept-exb_low", "")
+        it.write("kit/kept-exb_high", "")
+        self.says(["tools/build"], 0, "exb_low kept (1 of 4", "exb_high kept", "exb_beside proved", "exbr proved (4 of 4")
+        self.assertEqual(self.proved(), ["exb_beside", "exbr", "own"])
+
+    def in_one_run_of_our_order(self):
+        found = self.proved()
+        self.assertEqual((found[0], sorted(found[1:3]), found[3:]), ("exb_low", ["exb_beside", "exb_high"], ["exbr"]))
+
+    def test_anew_is_one_run_that_takes_nothing(self):
+        it = self.wide()
+        it.write("kit/kept-exb_low", "")
+        self.says(["tools/build", "--anew"], 0, "exb_low proved (1 of 4", "exbr proved (4 of 4")
+        self.in_one_run_of_our_order()
 
     def test_a_kit_that_keeps_nothing_has_one_run_and_no_such_word(self):
-        it = self.wide(WIDE.replace("rt ci [--anew]", "rt ci"))
+        it = self.wide(KEEPS.replace("rt ci [--anew]", "rt ci"))
         for words in ([], ["--anew"]):
             it.write("kit/calls", "")
             self.says(["tools/build", *words], 0, "(4 of 4")
-            self.assertEqual(it.read("kit/calls").splitlines(), ["exb_beside exb_high exb_low exbr"])
+            self.assertEqual(self.proved()[0], "own")
+            self.assertNotIn("own", self.proved()[1:])
 
     def test_where_nothing_is_shared_there_is_one_run(self):
-        it = self.wide(WIDE.replace("doc)", "none)"))
+        self.wide(KEEPS.replace('"doc"', '"none"'))
         self.says(["tools/build"], 0, "exbr proved (4 of 4")
-        self.assertEqual(it.read("kit/calls").splitlines(), ["exb_beside exb_high exb_low exbr"])
+        self.in_one_run_of_our_order()
 
-    def test_what_fails_in_the_first_run_fails_in_that_of_all(self):
+    def test_a_toolchain_without_that_scheduler_has_its_own_order(self):
+        it = self.wide(KEEPS.replace("in_lanes(tasks)", "in_lanes(tasks, more=1)"))
+        for words in ([], ["--anew"]):
+            it.write("kit/calls", "")
+            self.says(["tools/build", *words], 0, "exbr proved (4 of 4")
+            self.assertEqual(self.proved(), ["own", "exb_low", "exb_high", "exb_beside", "exbr"])
+
+    def test_what_fails_in_our_order_is_tried_again_in_the_toolchains(self):
         it = self.wide()
-        it.write("crates/exb_low/src/lib.rt", "wrong\n")
-        self.says(["tools/build"], 1, "the program could not be proved and built", "build.log says why")
-        self.assertIn("exb_low NOT PROVED", it.read("crates/exbr/out/build.log"))
+        it.write("crates/exb_high/src/lib.rt", "wrong\n")
+        self.says(["tools/build"], 1, "exb_beside proved (2 of 4", "the program could not be proved and built", "build.log says why")
+        self.assertEqual(sorted(self.proved()), ["exb_beside", "exb_high", "exb_high", "exb_low", "own"])
+        self.assertIn("exb_high NOT PROVED", it.read("crates/exbr/out/build.log"))
 
-    def test_the_first_run_ends_with_the_other(self):
-        it = self.wide(WIDE.replace("# first", "sleep 600"))
-        self.says(["tools/build"], 0, "exbr proved (4 of 4")
+    def test_what_it_started_ends_with_it(self):
+        it = self.wide()
+        it.write("kit/pause-exb_low", "600")
+        env = {"PATH": f"{it.at('kit')}:{it.at('bin')}:/usr/bin:/bin", "HOME": it.top, "LC_ALL": "C.UTF-8"}
+        ran = subprocess.Popen([it.at("tools/build")], env=env, stdin=subprocess.DEVNULL, stderr=subprocess.DEVNULL)
+        self.addCleanup(ran.kill)
+        until = time.monotonic() + 30
+        while not it.calls() and time.monotonic() < until:
+            time.sleep(0.05)
+        proof = int(it.read("kit/calls").split()[-1])
+        ran.terminate()
+        self.assertEqual(ran.wait(30), 143)
+        self.assertFalse(os.path.exists(f"/proc/{proof}"))
+        self.assertEqual(self.proved(), ["exb_low"])
 
 
 class AByteIsAnother(Launched):
@@ -256,7 +346,7 @@ class Words(Launched):
         self.says(["tools/dist"], 2, "usage:")
         self.says(["tools/dist", "check", "--program", "/nowhere"], 2, "there is no /nowhere")
         self.says([".ci/run", "--bad"], 2, "tools/gate")
-        for name in ("tools/sources", "tools/program", "tools/build", "tools/dist", "tools/gate"):
+        for name in ("tools/sources", "tools/program", "tools/build", "tools/schedule.py", "tools/dist", "tools/gate"):
             self.says([name, "--help"], 0, name)
 
     def test_crates_below(self):
