@@ -135,6 +135,35 @@ COMMANDS = [
      "x1.2 100/64/8100000A 102/60/08000000;"),
 ]
 
+# What is set of ports: the VLAN of their frames, what they let in, whether they are isolated, and whether they are there.
+RULES = [
+    # The VLAN of frames without a tag.
+    (THREE + "port = [{name = 'x1.1', pvid = 4094}]\nvlan = [{vid = 1, untagged = ['x1.3']}, {vid = 4094, tagged = ['x1.2']}]\n",
+     "x1.1 100 60 FFFFFFFFFFFF0200000000010800;x1.3 101 60 FFFFFFFFFFFF0200000000030800",
+     "up x1.1; up x1.2; up x1.3; settled; relay x1.1 1; settled; tick 1; relay x1.3 1; settled; x1.2 100/64/81000FFE;"),
+    # Tagged frames alone, and of the port's own VLANs alone.
+    (THREE + "port = [{name = 'x1.1', pvid = 4094, accept = 'tagged', filter = true}]\n"
+     "vlan = [{vid = 7, tagged = ['x1.2']}, {vid = 4094, tagged = ['x1.1-2']}]\n",
+     "x1.1 100 60 FFFFFFFFFFFF0200000000010800;x1.1 101 64 FFFFFFFFFFFF02000000000181000007;x1.1 102 64 FFFFFFFFFFFF02000000000181000FFE;"
+     "x1.3 103 64 FFFFFFFFFFFF02000000000381000007",
+     "up x1.1; up x1.2; up x1.3; settled; relay x1.1 1; settled; tick 1; relay x1.1 2; settled; tick 1; relay x1.1 3; settled; tick 1; relay x1.3 1; settled; "
+     "x1.2 102/64/81000FFE 103/64/81000007;"),
+    # A port that is no longer isolated, and two others that stay so.
+    ("bridge = {ports = 2}\nextender = [{number = 1, on = 'b1', ports = 3}]\n"
+     "port = [{name = 'b2', isolated = true}, {name = 'x1.1', isolated = true}, {name = 'x1.3', isolated = true}]\n"
+     "command = [{at = 0, op = 'isolate', port = 'x1.1', isolated = false}]\n",
+     "x1.1 100 60 FFFFFFFFFFFF0200000000010800;x1.3 101 60 FFFFFFFFFFFF0200000000030800",
+     "up x1.1; up x1.2; up x1.3; settled; commit 1; settled; relay x1.1 1; settled; tick 1; relay x1.3 1; settled; "
+     "b2 100/60/08000000; x1.1 101/60/08000000; x1.2 100/60/08000000 101/60/08000000; x1.3 100/60/08000000;"),
+    # An up and a down count once, however often they came before.
+    ("bridge = {ports = 2}\nextender = [{number = 1, on = 'b1', ports = 3}]\n"
+     "command = [{at = 0, op = 'down', port = 'x1.1'}, {at = 0, op = 'down', port = 'x1.1'}, {at = 0, op = 'down', port = 'x1.2'}, "
+     "{at = 0, op = 'up', port = 'x1.1'}, {at = 0, op = 'up', port = 'x1.1'}, {at = 0, op = 'up', port = 'x1.2'}, {at = 0, op = 'down', port = 'x1.1'}]\n",
+     "b2 100 60 FFFFFFFFFFFF0200000000010800",
+     "up x1.1; up x1.2; up x1.3; settled; " + "".join(f"commit {number}; settled; " for number in range(1, 8)) + "relay b2 1; settled; "
+     "x1.2 100/60/08000000; x1.3 100/60/08000000;"),
+]
+
 # Numbers run out, and a time that falls is raised.
 NUMBERS = [
     # A third set finds no group of two; a refused command never counts.
@@ -204,6 +233,12 @@ VLANS = [
     ("command = [{at = 0, op = 'member', vid = 7, port = 'b1', kind = 'tagged'}]\n", 7, "b1", ""),
     ("command = [{at = 0, op = 'member', vid = 7, port = 'b1', kind = 'untagged'}]\n", 7, "", "b1"),
     ("vlan = [{vid = 7, tagged = ['b1', 'b3']}]\ncommand = [{at = 0, op = 'unmember', vid = 7, port = 'b1'}]\n", 7, "b3", ""),
+    # A VLAN without its last member has none, and another one keeps its own.
+    *(("vlan = [{vid = 2, tagged = ['b3']}, {vid = 3, untagged = ['b3']}]\ncommand = [{at = 0, op = 'unmember', vid = 2, port = 'b3'}]\n", vid, "", untagged)
+      for vid, untagged in ((2, ""), (3, "b3"))),
+    # A member that joins again has the other kind.
+    ("vlan = [{vid = 7, tagged = ['b1', 'b3']}]\ncommand = [{at = 0, op = 'member', vid = 7, port = 'b1', kind = 'untagged'}]\n", 7, "b3", "b1"),
+    ("vlan = [{vid = 7, untagged = ['b1', 'b3']}]\ncommand = [{at = 0, op = 'member', vid = 7, port = 'b1', kind = 'tagged'}]\n", 7, "b1", "b3"),
 ]
 
 
@@ -219,7 +254,7 @@ def heard(tables, vid, tagged, untagged):
     return SITE + tables, f"b1 100 64 {head};x2.2 101 64 {head}", f"up x2.1; up x2.2; settled; {commit}relay b1 1; settled; tick 1; relay x2.2 1; settled;{left}"
 
 
-OUTCOMES = [*FRAMES, *LEARNING, *ISOLATION, *COMMANDS, *NUMBERS, *(heard(*it) for it in VLANS)]
+OUTCOMES = [*FRAMES, *LEARNING, *ISOLATION, *COMMANDS, *RULES, *NUMBERS, *(heard(*it) for it in VLANS)]
 
 
 def records_of(frames):
