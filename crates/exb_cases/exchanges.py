@@ -200,6 +200,12 @@ CHANGES = [
      "x1 lay 4096=2 4097=1; commit 1; |"),
 ]
 
+# A member is retagged, and of the request's acknowledgement and its answer, twice, nothing comes: both ends send again at the third beat.
+CHANGES.append(
+    (TWO + "vlan = [{vid = 10, tagged = ['x1.1-2']}, {vid = 20, untagged = ['x1.2']}]\n"
+     "command = [{at = 0, op = 'member', vid = 10, port = 'x1.2', kind = 'untagged', fate = 'PLLL'}]\n",
+     "x1 lay 4096=1; beat 11 x1 lay 4096=1; commit 1; x1 clear 4097; |"))
+
 # The same, with the opening before it.
 WHOLE = [
     # A channel is given again once the port that had it is down.
