@@ -228,6 +228,10 @@ CHANGES += [
     (THREE + f"static = [{{vid = 1, {ENTRY}, ports = ['x1.1']}}, {{vid = 1, {OTHER}, ports = ['x1.1', 'x1.3']}}]\n"
      f"command = [{{at = 0, op = 'static', vid = 1, {ENTRY}, ports = ['x1.1-2']}}, {{at = 0, op = 'down', port = 'x1.1'}}]\n",
      "x1 lay 4097=3; commit 1; x1 clear 4096; | x1 lay 4096=6 4100=2 4101=4; commit 2; x1 clear 4097 4098 4099; x1 delete 1; |"),
+    # Those of a file come as they stand there, and not by their VLANs.
+    (THREE + f"vlan = [{{vid = 2, last = 3, untagged = ['*']}}]\nstatic = [{{vid = 3, {ENTRY}, ports = ['x1.1-2']}}, {{vid = 2, {ENTRY}, ports = ['x1.1', 'x1.3']}}]\n"
+     "command = [{at = 0, op = 'down', port = 'x1.1'}]\n",
+     "x1 lay 4096=6 4100=2 4101=4; commit 1; x1 clear 4097 4098 4099; x1 delete 1; |"),
     # Those that stay keep their order.
     (THREE + f"static = [{{vid = 1, {ENTRY}, ports = ['x1.1']}}, {{vid = 1, {OTHER}, ports = ['x1.1-2']}}, {{vid = 1, {THIRD}, ports = ['x1.1', 'x1.3']}}]\n"
      f"command = [{{at = 0, op = 'unstatic', vid = 1, {ENTRY}}}, {{at = 0, op = 'down', port = 'x1.1'}}]\n",
