@@ -1,5 +1,6 @@
 //! Tests of files: captures, whole and in pieces, checked and read again, and shelves. What the built program shows of files stands in
-//! `crates/exb_cases`. A table is one text with a row a line, `>` before what must come of it. Nothing stands on this crate.
+//! `crates/exb_cases`. A table is one text with a row a line, `>` before what must come of it, and `#` before
+//! a comment. Nothing stands on this crate.
 #![tactic(auto)]
 
 #[cfg(test)]

@@ -18,13 +18,13 @@ const TIME: Option<u64> = Some(100_000_000_000);
 
 const LATER: Option<u64> = Some(100_000_000_001);
 
-/// What was told: so many bytes, and the time of the first record, `-` for none; how the capture is changed when it is read again, as in `scans`; and what comes
-/// of it. The same file; one that ends in a record, and between two; that goes on; that breaks the grammar, with the first byte behind what was told, and only
-/// later; whose first record comes early, with its last byte; and one where it comes later, which is no other file.
-const AGAIN: &str =
-    "133 100000000000 0 D4C3B2A1 133 >100000000000 60; 100000000000 0; 101000001000 1; end\n\
+/// What was told: so many bytes, and the time of the first record, `-` for none; how the capture is changed when it is read again, as in
+/// `scans`; and what comes of it.
+const AGAIN: &str = "# The same file.\n\
+     133 100000000000 0 D4C3B2A1 133 >100000000000 60; 100000000000 0; 101000001000 1; end\n\
      116 100000000000 0 D4C3B2A1 116 >100000000000 60; 100000000000 0; end\n\
      24 - 0 D4C3B2A1 24 >end\n\
+     # It ends in a record, and between two.\n\
      100 100000000000 0 D4C3B2A1 99 >Changed { at: 24 }\n\
      133 100000000000 0 D4C3B2A1 132 >100000000000 60; 100000000000 0; Changed { at: 116 }\n\
      133 100000000000 0 D4C3B2A1 116 >100000000000 60; 100000000000 0; Changed { at: 116 }\n\
@@ -32,16 +32,20 @@ const AGAIN: &str =
      133 100000000000 0 D4C3B2A1 24 >Changed { at: 24 }\n\
      133 100000000000 0 D4C3B2A1 23 >Changed { at: 0 }\n\
      133 100000000000 0 D4C3B2A1 0 >Changed { at: 0 }\n\
+     # It goes on.\n\
      116 100000000000 0 D4C3B2A1 133 >100000000000 60; 100000000000 0; Changed { at: 116 }\n\
      100 100000000000 0 D4C3B2A1 101 >100000000000 60; Changed { at: 100 }\n\
      24 - 0 D4C3B2A1 100 >Changed { at: 24 }\n\
+     # It breaks the grammar.\n\
      133 100000000000 0 0A0D0D0A 133 >Changed { at: 8 }\n\
      133 100000000000 4 02000300 133 >Changed { at: 4 }\n\
      133 100000000000 20 69000000 133 >Changed { at: 20 }\n\
      133 100000000000 28 40420F00 133 >Changed { at: 28 }\n\
      133 100000000000 108 FFFFFFFF 133 >100000000000 60; Changed { at: 108 }\n\
+     # It breaks it with the first byte behind what was told, and only later.\n\
      39 - 28 40420F00 100 >Changed { at: 28 }\n\
      38 - 28 40420F00 100 >Changed { at: 38 }\n\
+     # Its first record comes early, with its last byte.\n\
      133 100000000001 0 D4C3B2A1 133 >Changed { at: 24 }\n\
      133 - 0 D4C3B2A1 133 >Changed { at: 24 }\n\
      100 100000000001 0 D4C3B2A1 100 >Changed { at: 24 }\n\
@@ -49,6 +53,7 @@ const AGAIN: &str =
      133 100000000001 0 D4C3B2A1 101 >Changed { at: 24 }\n\
      99 100000000001 0 D4C3B2A1 133 >Changed { at: 99 }\n\
      98 100000000001 0 D4C3B2A1 133 >Changed { at: 98 }\n\
+     # It comes later, and that is no other file.\n\
      100 99999999999 0 D4C3B2A1 100 >100000000000 60; end";
 
 // Puts a text behind another.
@@ -170,6 +175,9 @@ fn judge_file(rt: &impl Abort, alloc: Global, scanned: Scanned, file: &[u8], row
 
 // The same of a row of changes.
 fn judge_again(rt: &impl Abort, alloc: Global, row: &str) {
+    if row.starts_with("#") {
+        return;
+    }
     let mut words = row.split_whitespace();
     let scanned = told_of(rt, &mut words);
     let file = changed(rt, alloc, &mut words);
@@ -183,13 +191,13 @@ fn a_change_shows_at_its_byte(rt: HostRuntime) {
     }
 }
 
-/// What was told of a capture of pcapng, how many bytes of it there are when it is read again, and what comes of it. Where its first record comes early, the change
-/// shows where its block begins, but where the file ends with it or is told to end before it does.
+/// What was told of a capture of pcapng, how many bytes of it there are when it is read again, and what comes of it.
 const BLOCKS_AGAIN: &str = "156 100000000000 156 >100000000000 60; end\n\
      140 100000000000 140 >100000000000 60; end\n\
      140 100000000000 139 >Changed { at: 48 }\n\
      156 100000000000 140 >100000000000 60; Changed { at: 140 }\n\
      140 100000000000 156 >100000000000 60; Changed { at: 140 }\n\
+     # Its first record comes early: where its block begins, but where the file ends with it or is told to end before it does.\n\
      140 100000000001 140 >Changed { at: 48 }\n\
      139 100000000001 140 >Changed { at: 139 }\n\
      156 100000000001 140 >Changed { at: 140 }\n\
@@ -206,6 +214,9 @@ fn front_of(rt: &impl Abort, alloc: Global, size: u64) -> Vec<u8> {
 
 // Asserts what comes of such a front, by a row.
 fn judge_front(rt: &impl Abort, alloc: Global, row: &str) {
+    if row.starts_with("#") {
+        return;
+    }
     let mut words = row.split_whitespace();
     let scanned = told_of(rt, &mut words);
     let file = front_of(rt, alloc, number(rt, words.next()));

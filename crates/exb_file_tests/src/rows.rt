@@ -15,8 +15,11 @@ pub(crate) fn judge(rt: &impl Abort, alloc: Global, file: &[u8], sizes: &[usize]
     }
 }
 
-// The same of the row of a table, behind a head.
+// The same of the row of a table, behind a head. One that begins with `#` is a comment.
 fn judge_row(rt: &impl Abort, alloc: Global, head: &str, sizes: &[usize], row: &str) {
+    if row.starts_with("#") {
+        return;
+    }
     let (tail, wanted) = row.split_once('>').expect(rt, "what is read");
     let text = format!(in alloc; "{head}{tail}").expect(rt, "memory");
     let file = bytes_of(rt, alloc, text.as_str());

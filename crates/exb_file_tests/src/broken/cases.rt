@@ -47,44 +47,52 @@ pub(super) const MICROSECOND_HEAD: &str = "D4C3B2A1 0200 0400 00000000 00000000 
 
 pub(super) const NANOSECOND_HEAD: &str = "4D3CB2A1 0200 0400 00000000 00000000 FFFF0000 01000000 ";
 
-/// Headers with each field at a limit, and beyond. Magics that are none, where a file that begins as pcapng is read as that; versions, which are tried before
-/// the link type, and both behind the length of the header; link types; and whatever zone, accuracy and length of a frame the header has.
-pub(super) const HEADERS: &str = ">NotPcap\n\
+/// Headers with each field at a limit, and beyond.
+pub(super) const HEADERS: &str =
+    "# Magics that are none; a file that begins as pcapng is read as that.\n\
+     >NotPcap\n\
      00>NotPcap\n\
      D4C3B2>NotPcap\n\
      00000000 20x00>NotPcap\n\
      0A0D0D0A 20x00>Magic(8)\n\
      A1B2CD34 0002 0004 00000000 00000000 0000FFFF 00000001>NotPcap\n\
      34CDB2A1 0200 0400 00000000 00000000 FFFF0000 01000000>NotPcap\n\
+     # Versions, which are tried before the link type, and both behind the length of the header.\n\
      D4C3B2A1 0200 0300 00000000 00000000 FFFF0000 01000000>Version\n\
      D4C3B2A1 0100 0400 00000000 00000000 FFFF0000 01000000>Version\n\
      D4C3B2A1 0004 0002 00000000 00000000 FFFF0000 00000001>Version\n\
      D4C3B2A1 0000 0000 00000000 00000000 FFFF0000 69000000>Version\n\
      D4C3B2A1 19x00>Cut(0)\n\
+     # Link types.\n\
      D4C3B2A1 0200 0400 00000000 00000000 FFFF0000 00000000>LinkType\n\
      D4C3B2A1 0200 0400 00000000 00000000 FFFF0000 69000000>LinkType\n\
      D4C3B2A1 0200 0400 00000000 00000000 FFFF0000 01000010>LinkType\n\
      D4C3B2A1 0200 0400 00000000 00000000 FFFF0000 00000001>LinkType\n\
      D4C3B2A1 0200 0400 00000000 00000000 FFFF0000 FFFFFFFF 01>LinkType\n\
+     # Whatever zone, accuracy and length of a frame the header has.\n\
      D4C3B2A1 0200 0400 FFFFFFFF FFFFFFFF 00000000 01000000 00000000 00000000 00000000 00000000>0 0;\n\
      D4C3B2A1 0200 0400 00000080 01000000 FFFFFFFF 01000000 00000000 00000000 00000000 00000000>0 0;";
 
-/// Records behind a header for microseconds by a little-endian machine. Times, which are tried before a length, and both before the frame; the longest frame,
-/// one that is a byte short, and one that is a byte longer; the original length, which is not looked at; and a fault in the second record, behind which none is looked for.
-pub(super) const MICROSECONDS: &str = "00000000 00000000 00000000 00000000>0 0;\n\
+/// Records behind a header for microseconds by a little-endian machine.
+pub(super) const MICROSECONDS: &str = "# Times.\n\
+     00000000 00000000 00000000 00000000>0 0;\n\
      FFFFFFFF 3F420F00 00000000 00000000>4294967295999999000 0;\n\
      FFFFFFFF 40420F00 00000000 00000000>Time(28)\n\
      00000000 FFFFFFFF 00000000 00000000>Time(28)\n\
+     # A time is tried before a length, and both before the frame.\n\
      00000000 40420F00 FFFFFFFF 00000000>Time(28)\n\
      00000000 00000000 01000400 00000000>Length(32)\n\
      00000000 00000000 FFFFFFFF 00000000>Length(32)\n\
      00000000 40420F00 01000000 00000000>Time(28)\n\
+     # The longest frame, one that is a byte short, and one that is a byte longer.\n\
      01000000 00000000 00000400 00000000 262144x55>1000000000 262144;\n\
      01000000 00000000 00000400 00000000 262143x55>Cut(24)\n\
      01000000 00000000 01000400 00000000 262145x55>Length(32)\n\
      01000000 00000000 00000400 00000000 262145x55>1000000000 262144; Cut(262184)\n\
+     # The original length is not looked at.\n\
      00000000 00000000 01000000 00000000 55>0 1;\n\
      00000000 00000000 01000000 FFFFFFFF 55>0 1;\n\
+     # A fault in the second record, and none is looked for behind it.\n\
      01000000 00000000 02000000 02000000 5555 02000000 40420F00 00000000 00000000>1000000000 2; Time(46)\n\
      01000000 00000000 02000000 02000000 5555 02000000 00000000 01000400 00000000 55>1000000000 2; Length(50)\n\
      01000000 00000000 02000000 02000000 5555 02000000 00000000 01000000 00000000 55 03>1000000000 2; 2000000000 1; Cut(59)\n\
