@@ -9,45 +9,44 @@ use exb_model::text::Text;
 use std::alloc::Global;
 use std::process::Abort;
 
-/// A row a line: files by their letters, a blank before the grammar, the limit, and behind `>` what is answered: by port the lengths of its frames, or the
-/// fault.
+/// A row a line: the grammar, the limit, files by their letters, and behind `>` what is answered: by port the lengths of its frames, or the fault.
 ///
 /// `a` is a classic capture of 100 bytes with a frame of 60, `b` one of 61 bytes with frames of 0 and 5, `c` is `a` without its last byte, `h` a
 /// header of 24 bytes, `n` pcapng of 28 bytes without a frame, `t` the first three bytes of that, `z` has no bytes, and `-` is not there.
-const ROWS: &str = " either 0>\n\
-      classic 0>\n\
-     a either 100>0: 60;\n\
-     a either 99>Large\n\
-     a classic 100>0: 60;\n\
-     a classic 99>Large\n\
-     ahb either 185>0: 60;1:;2: 0 5;\n\
-     ahb either 184>Large\n\
-     ahb classic 185>0: 60;1:;2: 0 5;\n\
-     ahb classic 184>Large\n\
-     a- either 100>Missing f1\n\
-     -c either 1000>Missing f0\n\
-     h- classic 24>Missing f1\n\
-     cb- either 1000>0 Cut 24\n\
-     ac- either 199>1 Cut 24\n\
-     ac- either 198>Large\n\
-     ac- classic 199>1 Cut 24\n\
-     ac- classic 198>Large\n\
-     z either 9>0 NotPcap 0\n\
-     z classic 9>0 NotPcap 0\n\
-     az either 100>1 NotPcap 0\n\
-     az classic 100>1 NotPcap 0\n\
-     ah either 100>Large\n\
-     ah classic 100>Large\n\
-     n either 28>0:;\n\
-     n either 27>Large\n\
-     n classic 28>0 NotPcap 0\n\
-     n classic 1>0 NotPcap 0\n\
-     n classic 0>Large\n\
-     an- classic 1000>1 NotPcap 0\n\
-     t either 3>0 NotPcap 0\n\
-     t either 2>Large\n\
-     t classic 2>0 NotPcap 0\n\
-     t classic 0>Large";
+const ROWS: &str = "either 0 >\n\
+     classic 0 >\n\
+     either 100 a>0: 60;\n\
+     either 99 a>Large\n\
+     classic 100 a>0: 60;\n\
+     classic 99 a>Large\n\
+     either 185 ahb>0: 60;1:;2: 0 5;\n\
+     either 184 ahb>Large\n\
+     classic 185 ahb>0: 60;1:;2: 0 5;\n\
+     classic 184 ahb>Large\n\
+     either 100 a->Missing f1\n\
+     either 1000 -c>Missing f0\n\
+     classic 24 h->Missing f1\n\
+     either 1000 cb->0 Cut 24\n\
+     either 199 ac->1 Cut 24\n\
+     either 198 ac->Large\n\
+     classic 199 ac->1 Cut 24\n\
+     classic 198 ac->Large\n\
+     either 9 z>0 NotPcap 0\n\
+     classic 9 z>0 NotPcap 0\n\
+     either 100 az>1 NotPcap 0\n\
+     classic 100 az>1 NotPcap 0\n\
+     either 100 ah>Large\n\
+     classic 100 ah>Large\n\
+     either 28 n>0:;\n\
+     either 27 n>Large\n\
+     classic 28 n>0 NotPcap 0\n\
+     classic 1 n>0 NotPcap 0\n\
+     classic 0 n>Large\n\
+     classic 1000 an->1 NotPcap 0\n\
+     either 3 t>0 NotPcap 0\n\
+     either 2 t>Large\n\
+     classic 2 t>0 NotPcap 0\n\
+     classic 0 t>Large";
 
 /// A section of pcapng without a block.
 const SECTION: [u8; 28] = [
@@ -208,8 +207,8 @@ fn grammar_of(word: &str) -> Grammar {
 // Asserts what is answered of the files of a row, however much is read at once.
 fn judge_row(rt: &impl Abort, alloc: Global, row: &str) {
     let (given, wanted) = apart(rt, row, '>');
-    let (letters, given) = apart(rt, given, ' ');
-    let (grammar, limit) = apart(rt, given, ' ');
+    let (grammar, given) = apart(rt, given, ' ');
+    let (limit, letters) = apart(rt, given, ' ');
     let grammar = grammar_of(grammar);
     let limit = limit.parse::<u32>().expect(rt, "a limit");
     for bytes in &CUTS {
