@@ -155,7 +155,7 @@ class Driver:
 def cases():
     """A topology, steps, and what must be told, of each case."""
     with open(TABLE, encoding="utf-8") as it:
-        text = re.search(r'const CASES: &str = "([^"]*)";', it.read())[1]
+        text = re.search(r'const CASES: &str =\s*"([^"]*)";', it.read())[1]
     text = re.sub(r"\\\n *", "", text).replace("\\n", "\n")
     return [re.fullmatch(r"([^>]*)>([^\n]*)\n(.*)", case, re.DOTALL).groups() for case in text.split("%")]
 

@@ -65,10 +65,13 @@ const RECORD: &str = "64000000 00000000 3C000000 3C000000";
 #[test]
 fn heads_are_written_as_they_must(rt: HostRuntime) {
     let head = bytes_of(&rt, rt.alloc(), HEAD);
-    holds(&rt, head.as_slice() == header_text(), "the file's head");
+    let written = header_text();
+    let is_head = head.as_slice() == written.as_slice();
+    holds(&rt, is_head, "the file's head");
     let record = bytes_of(&rt, rt.alloc(), RECORD);
     let written = record_text(100_000_000_000, 60);
-    holds(&rt, record.as_slice() == written, "the record's head");
+    let is_head = record.as_slice() == written.as_slice();
+    holds(&rt, is_head, "the record's head");
 }
 
 // Puts a record with a frame of 100,000 bytes behind what a file holds.
