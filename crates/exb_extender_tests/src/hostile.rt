@@ -33,6 +33,7 @@ enum State {
 /// - `answer BYTES`: it is acknowledged and answered, with these bytes behind type and serial
 /// - `again BYTES`: it is acknowledged, and that is answered again
 /// - what a step tells of a frame that goes on
+#[derive(Clone, Copy)]
 struct Case<'a> {
     state: State,
     /// The side that it comes from, as in a step.

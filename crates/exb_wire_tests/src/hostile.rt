@@ -23,6 +23,7 @@ use std::process::Abort;
 
 /// A good spelling and what is read of it, by places from 0. It stands in a line for each field, behind a comment or none, with `%` before each
 /// further case.
+#[derive(Clone, Copy)]
 struct Case<'a> {
     good: &'a str,
     /// What is read where it is cut before a place: `PLACE VERDICT|`, up to the next entry's place. It isn't cut where there is none.

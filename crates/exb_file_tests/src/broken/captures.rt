@@ -9,6 +9,7 @@ use std::alloc::Global;
 use std::process::Abort;
 
 /// A good capture, what is read of it, and the verdicts on what is made of it (`CAPTURES`).
+#[derive(Clone, Copy)]
 struct Case<'a> {
     capture: &'a str,
     told: &'a str,
