@@ -142,9 +142,30 @@ fn mark(rt: &impl Abort, world: &mut World) {
     world.step(Step::Mark).expect(rt, "memory");
 }
 
-/// All settles, and is marked.
-pub(crate) fn rest(rt: &impl Abort, world: &mut World) {
+// How many rounds a settling may take: 64 for each verdict that isn't Pass, each planned exchange, and one more.
+fn bound_of(rt: &impl Abort, world: &World) -> u64 {
+    let planned = world.planned().expect(rt, "memory");
+    let all = world.fate_left().saturating_add(planned);
+    all.saturating_add(1).saturating_mul(64)
+}
+
+// All settles; how many rounds that took.
+fn settled(rt: &impl Abort, world: &mut World) -> u64 {
     assert!(rt; world.fate_left() < MANY);
-    settle(world).expect(rt, "memory");
+    settle(world).expect(rt, "memory")
+}
+
+// All settles within its bound, and in as many beats as it says.
+fn settle_in_bound(rt: &impl Abort, world: &mut World) {
+    let bound = bound_of(rt, world);
+    let before = world.beats();
+    let made = settled(rt, world);
+    assert!(rt; made <= bound);
+    assert!(rt; world.beats().saturating_sub(before) == made);
+}
+
+/// All settles within its bound, and is marked.
+pub(crate) fn rest(rt: &impl Abort, world: &mut World) {
+    settle_in_bound(rt, world);
     mark(rt, world);
 }
