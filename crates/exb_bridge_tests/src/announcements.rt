@@ -30,8 +30,10 @@ fn hear(rt: &impl Abort, control: &mut Control, out: &mut Outbox, ports: u8) -> 
 // What comes of an announcement of three ports, and then of one of two.
 fn expect_heard(rt: &impl Abort, alloc: Global, control: &mut Control) {
     let mut out = Outbox::new(alloc);
-    assert!(rt; hear(rt, control, &mut out, 3) == (0, 4));
-    assert!(rt; hear(rt, control, &mut out, 2) == (1, 3));
+    let (asked, planned) = hear(rt, control, &mut out, 3);
+    assert!(rt; asked == 0 && planned == 4);
+    let (asked, planned) = hear(rt, control, &mut out, 2);
+    assert!(rt; asked == 1 && planned == 3);
 }
 
 // The same at a control of this setup, which goes by a call, since a block's end is far longer to prove where it lets a control go.
