@@ -21,6 +21,7 @@ import bridge
 import campuses
 import changes
 import examples
+import exchanges
 import fates
 import generated
 import net_cases
@@ -312,7 +313,7 @@ def outputs_that_are_read(cases):
 
 def main():
     print(f"the plain bridge comes to the {outcomes.agree()} rows of outcomes.py")
-    print(f"{stepped.agree()} cases of exb_schedule_tests come to the same")
+    print(f"{exchanges.agree()} rows of exchanges.py and {stepped.agree()} cases of exb_schedule_tests come to the same over links")
     cases = Cases()
     for part in (examples.play, frames, vlans, counters, files, *trees.PARTS, *changes.PARTS, *generated.PARTS, *fates.PARTS, *seeds.PARTS,
                  *words.PARTS, *pcapng.PARTS, *audits.PARTS, faults, outputs_that_are_read):

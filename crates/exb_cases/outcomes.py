@@ -135,6 +135,35 @@ COMMANDS = [
      "x1.2 100/64/8100000A 102/60/08000000;"),
 ]
 
+# What is set of ports: the VLAN of their frames, what they let in, whether they are isolated, and whether they are there.
+RULES = [
+    # The VLAN of frames without a tag.
+    (THREE + "port = [{name = 'x1.1', pvid = 4094}]\nvlan = [{vid = 1, untagged = ['x1.3']}, {vid = 4094, tagged = ['x1.2']}]\n",
+     "x1.1 100 60 FFFFFFFFFFFF0200000000010800;x1.3 101 60 FFFFFFFFFFFF0200000000030800",
+     "up x1.1; up x1.2; up x1.3; settled; relay x1.1 1; settled; tick 1; relay x1.3 1; settled; x1.2 100/64/81000FFE;"),
+    # Tagged frames alone, and of the port's own VLANs alone.
+    (THREE + "port = [{name = 'x1.1', pvid = 4094, accept = 'tagged', filter = true}]\n"
+     "vlan = [{vid = 7, tagged = ['x1.2']}, {vid = 4094, tagged = ['x1.1-2']}]\n",
+     "x1.1 100 60 FFFFFFFFFFFF0200000000010800;x1.1 101 64 FFFFFFFFFFFF02000000000181000007;x1.1 102 64 FFFFFFFFFFFF02000000000181000FFE;"
+     "x1.3 103 64 FFFFFFFFFFFF02000000000381000007",
+     "up x1.1; up x1.2; up x1.3; settled; relay x1.1 1; settled; tick 1; relay x1.1 2; settled; tick 1; relay x1.1 3; settled; tick 1; relay x1.3 1; settled; "
+     "x1.2 102/64/81000FFE 103/64/81000007;"),
+    # A port that is no longer isolated, and two others that stay so.
+    ("bridge = {ports = 2}\nextender = [{number = 1, on = 'b1', ports = 3}]\n"
+     "port = [{name = 'b2', isolated = true}, {name = 'x1.1', isolated = true}, {name = 'x1.3', isolated = true}]\n"
+     "command = [{at = 0, op = 'isolate', port = 'x1.1', isolated = false}]\n",
+     "x1.1 100 60 FFFFFFFFFFFF0200000000010800;x1.3 101 60 FFFFFFFFFFFF0200000000030800",
+     "up x1.1; up x1.2; up x1.3; settled; commit 1; settled; relay x1.1 1; settled; tick 1; relay x1.3 1; settled; "
+     "b2 100/60/08000000; x1.1 101/60/08000000; x1.2 100/60/08000000 101/60/08000000; x1.3 100/60/08000000;"),
+    # An up and a down count once, however often they came before.
+    ("bridge = {ports = 2}\nextender = [{number = 1, on = 'b1', ports = 3}]\n"
+     "command = [{at = 0, op = 'down', port = 'x1.1'}, {at = 0, op = 'down', port = 'x1.1'}, {at = 0, op = 'down', port = 'x1.2'}, "
+     "{at = 0, op = 'up', port = 'x1.1'}, {at = 0, op = 'up', port = 'x1.1'}, {at = 0, op = 'up', port = 'x1.2'}, {at = 0, op = 'down', port = 'x1.1'}]\n",
+     "b2 100 60 FFFFFFFFFFFF0200000000010800",
+     "up x1.1; up x1.2; up x1.3; settled; " + "".join(f"commit {number}; settled; " for number in range(1, 8)) + "relay b2 1; settled; "
+     "x1.2 100/60/08000000; x1.3 100/60/08000000;"),
+]
+
 # Numbers run out, and a time that falls is raised.
 NUMBERS = [
     # A third set finds no group of two; a refused command never counts.
@@ -204,8 +233,89 @@ VLANS = [
     ("command = [{at = 0, op = 'member', vid = 7, port = 'b1', kind = 'tagged'}]\n", 7, "b1", ""),
     ("command = [{at = 0, op = 'member', vid = 7, port = 'b1', kind = 'untagged'}]\n", 7, "", "b1"),
     ("vlan = [{vid = 7, tagged = ['b1', 'b3']}]\ncommand = [{at = 0, op = 'unmember', vid = 7, port = 'b1'}]\n", 7, "b3", ""),
+    # A VLAN without its last member has none, and another one keeps its own.
+    *(("vlan = [{vid = 2, tagged = ['b3']}, {vid = 3, untagged = ['b3']}]\ncommand = [{at = 0, op = 'unmember', vid = 2, port = 'b3'}]\n", vid, "", untagged)
+      for vid, untagged in ((2, ""), (3, "b3"))),
+    # A member that joins again has the other kind.
+    ("vlan = [{vid = 7, tagged = ['b1', 'b3']}]\ncommand = [{at = 0, op = 'member', vid = 7, port = 'b1', kind = 'untagged'}]\n", 7, "b3", "b1"),
+    ("vlan = [{vid = 7, untagged = ['b1', 'b3']}]\ncommand = [{at = 0, op = 'member', vid = 7, port = 'b1', kind = 'tagged'}]\n", 7, "b1", "b3"),
 ]
 
+
+# What a topology says of ports and of static entries, and what its commands change.
+UP = "up x2.1; up x2.2; settled; "
+F1, F2 = "FFFFFFFFFFFF0200000000010800", "FFFFFFFFFFFF0200000000020800"
+TO_1 = "0200000000010200000000020800"
+SAID = [
+    # A port of which nothing is said beside its name lets all in, in VLAN 1 and in those of others, and isn't isolated.
+    (SITE + "vlan = [{vid = 1, untagged = ['*']}, {vid = 7, tagged = ['b1']}]\nport = [{name = 'b3'}, {name = 'b4', isolated = true}]\n",
+     f"b3 100 60 {F1};b3 101 64 FFFFFFFFFFFF020000000001810000010800;b3 102 64 FFFFFFFFFFFF020000000001810000070800",
+     UP + "relay b3 1; settled; tick 1; relay b3 2; settled; tick 1; relay b3 3; settled; b1 100/60/08000000 101/60/08000000 102/64/81000007; "
+     + " ".join(f"{port} 100/60/08000000 101/60/08000000;" for port in ("b4", "b5", "x2.1", "x2.2"))),
+    # All that can be said of one: what has a tag is let in where the port is a member, and isn't heard by another isolated port. A command that
+    # lets in all shows the VLAN of what has none.
+    (SITE + "vlan = [{vid = 8, tagged = ['b1']}, {vid = 9, tagged = ['x2.1', 'b1', 'b4']}]\n"
+     "port = [{name = 'x2.1', pvid = 9, accept = 'tagged', filter = true, isolated = true}, {name = 'b4', isolated = true}]\n"
+     "command = [{at = 3, op = 'accept', port = 'x2.1', accept = 'all'}]\n",
+     f"x2.1 100 60 {F1};x2.1 101 64 FFFFFFFFFFFF020000000001810000080800;x2.1 102 64 FFFFFFFFFFFF020000000001810000090800;x2.1 103 60 {F1}",
+     UP + "relay x2.1 1; settled; tick 1; relay x2.1 2; settled; tick 1; relay x2.1 3; settled; tick 1; commit 1; settled; relay x2.1 4; settled; "
+     "b1 102/64/81000009 103/64/81000009;"),
+    # One for what has no tag, or a priority tag.
+    (SITE + "vlan = [{vid = 1, untagged = ['b1', 'b3']}]\nport = [{name = 'b1', accept = 'untagged'}]\n",
+     f"b1 100 64 FFFFFFFFFFFF020000000001810000010800;b1 101 60 {F1};b1 102 64 FFFFFFFFFFFF0200000000018100A0000800",
+     UP + "relay b1 1; settled; tick 1; relay b1 2; settled; tick 1; relay b1 3; settled; b3 101/60/08000000 102/60/08000000;"),
+    # Two ports, each as it is said.
+    (SITE + "vlan = [{vid = 1, untagged = ['b5']}, {vid = 2, tagged = ['b3']}]\nport = [{name = 'b4', accept = 'all'}, {name = 'b1', pvid = 2}]\n",
+     f"b1 100 60 {F1};b4 101 60 {F2}",
+     UP + "relay b1 1; settled; tick 1; relay b4 1; settled; b3 100/64/81000002; b5 101/60/08000000;"),
+    # An address in letters of either size and with either mark between, for two ports and for none.
+    (SITE + "vlan = [{vid = 3, untagged = ['*']}]\nstatic = [{vid = 3, mac = '02-0a-B0-00-ff-01', ports = ['b3-4']}]\n",
+     "b1 100 64 020AB000FF01020000000001810000030800",
+     UP + "relay b1 1; settled; b3 100/60/08000000; b4 100/60/08000000;"),
+    (SITE + "vlan = [{vid = 3, untagged = ['*']}]\nstatic = [{vid = 3, mac = '02:0A:b0:00:FF:01', ports = []}]\n",
+     "b1 100 64 020AB000FF01020000000001810000030800",
+     UP + "relay b1 1; settled;"),
+    # The same address in two VLANs, the later one first.
+    (SITE + "static = [{vid = 3, mac = '02-00-00-00-00-02', ports = ['b3']}, {vid = 2, mac = '02-00-00-00-00-02', ports = ['b4']}]\n"
+     "vlan = [{vid = 2, last = 3, untagged = ['*']}]\n",
+     "b1 100 64 020000000002020000000001810000030800;b1 101 64 020000000002020000000001810000020800",
+     UP + "relay b1 1; settled; tick 1; relay b1 2; settled; b3 100/60/08000000; b4 101/60/08000000;"),
+    # Commands: the VLAN of what has no tag.
+    (SITE + "vlan = [{vid = 7, tagged = ['b1']}]\ncommand = [{at = 2, op = 'pvid', vid = 7, port = 'x2.2'}]\n",
+     f"x2.2 100 60 {F1};x2.2 103 60 {F1}",
+     UP + "relay x2.2 1; settled; tick 2; commit 1; settled; tick 1; relay x2.2 2; settled; b1 103/64/81000007;"),
+    # What is let in.
+    (SITE + "vlan = [{vid = 1, untagged = ['b1']}]\ncommand = [{at = 2, op = 'accept', port = 'x2.2', accept = 'untagged'}]\n",
+     f"x2.2 100 64 FFFFFFFFFFFF020000000001810000010800;x2.2 103 64 FFFFFFFFFFFF020000000001810000010800;x2.2 104 60 {F1}",
+     UP + "relay x2.2 1; settled; tick 2; commit 1; settled; tick 1; relay x2.2 2; settled; tick 1; relay x2.2 3; settled; "
+     "b1 100/60/08000000 104/60/08000000;"),
+    # Whether VLANs of others are.
+    (SITE + "vlan = [{vid = 7, tagged = ['b1']}]\n"
+     "command = [{at = 2, op = 'filter', port = 'x2.2', filter = true}, {at = 3, op = 'filter', port = 'x2.2', filter = false}]\n",
+     "x2.2 100 64 FFFFFFFFFFFF020000000001810000070800;x2.2 102 64 FFFFFFFFFFFF020000000001810000070800;"
+     "x2.2 103 64 FFFFFFFFFFFF020000000001810000070800",
+     UP + "relay x2.2 1; settled; tick 2; commit 1; settled; relay x2.2 2; settled; tick 1; commit 2; settled; relay x2.2 3; settled; "
+     "b1 100/64/81000007 103/64/81000007;"),
+    # Whether a port is isolated.
+    (SITE + "vlan = [{vid = 1, untagged = ['b3', 'b4']}]\nport = [{name = 'b3', isolated = true}]\n"
+     "command = [{at = 2, op = 'isolate', port = 'x2.2', isolated = true}]\n",
+     f"x2.2 100 60 {F1};x2.2 103 60 {F1}",
+     UP + "relay x2.2 1; settled; tick 2; commit 1; settled; tick 1; relay x2.2 2; settled; b3 100/60/08000000; b4 100/60/08000000 103/60/08000000;"),
+    # A static entry for all ports, where a station was heard, and its end.
+    (SITE + "vlan = [{vid = 7, untagged = ['*']}]\ncommand = [{at = 2, op = 'static', vid = 7, mac = '02-00-00-00-00-01', ports = ['*']}, "
+     "{at = 4, op = 'unstatic', vid = 7, mac = '02-00-00-00-00-01'}]\n",
+     "b1 100 64 020000000002020000000001810000070800;b3 101 64 020000000001020000000002810000070800;b3 103 64 020000000001020000000002810000070800;"
+     "b3 105 64 020000000001020000000002810000070800",
+     UP + "relay b1 1; settled; tick 1; relay b3 1; settled; tick 1; commit 1; settled; tick 1; relay b3 2; settled; tick 1; commit 2; settled; "
+     "tick 1; relay b3 3; settled; b1 101/60/08000000 103/60/08000000 105/60/08000000; b3 100/60/08000000; "
+     + " ".join(f"{port} 100/60/08000000 103/60/08000000;" for port in ("b4", "b5", "x2.1", "x2.2"))),
+    # A port that goes down, over a link that delivers, loses, doubles and delays, and up at the last second of a command.
+    (SITE + "vlan = [{vid = 1, untagged = ['x2.1', 'b3']}]\ncommand = [{at = 2, op = 'down', port = 'x2.1', fate = 'PLTD'}, "
+     "{at = 4294967295, op = 'up', port = 'x2.1'}]\n",
+     f"b1 0 60 {F1};b1 3 60 {F1}",
+     UP + "relay b1 1; settled; tick 2; commit 1; settled; tick 1; relay b1 2; settled; tick 4294967292; commit 2; settled; "
+     "b3 0/60/08000000 3/60/08000000; x2.1 0/60/08000000;"),
+]
 
 def heard(tables, vid, tagged, untagged):
     """The row of two broadcasts with a tag, at b1 and at x2.2: each leaves at all members but where it came, with a tag or without."""
@@ -219,7 +329,7 @@ def heard(tables, vid, tagged, untagged):
     return SITE + tables, f"b1 100 64 {head};x2.2 101 64 {head}", f"up x2.1; up x2.2; settled; {commit}relay b1 1; settled; tick 1; relay x2.2 1; settled;{left}"
 
 
-OUTCOMES = [*FRAMES, *LEARNING, *ISOLATION, *COMMANDS, *NUMBERS, *(heard(*it) for it in VLANS)]
+OUTCOMES = [*FRAMES, *LEARNING, *ISOLATION, *COMMANDS, *RULES, *NUMBERS, *SAID, *(heard(*it) for it in VLANS)]
 
 
 def records_of(frames):

@@ -3,12 +3,10 @@ import os
 import re
 import sys
 
-from bridge import SECOND, name_of, number_of
+from bridge import name_of, number_of
 from world.extender import UP
 from world.machine import DOWN, World
-from disturbed import control_in
-from seeded import letters
-from world.schedule import directions, is_free, settle_and_mark
+from world.schedule import is_free, settle_and_mark
 
 TABLE = os.path.join(os.path.dirname(os.path.abspath(__file__)), "..", "exb_schedule_tests", "src", "worlds.rt")
 
@@ -45,7 +43,7 @@ class Driver:
 
     def __init__(self, topology):
         self.world, self.log = Recorded(topology), []
-        self.given, self.seconds, self.armed, self.told, self.lines = 0, 0, 0, 0, 0
+        self.given, self.armed, self.told = 0, 0, 0
         self.left, self.logged = [], {port: 0 for port in self.world.left}
 
     def note_left(self):
@@ -55,7 +53,7 @@ class Driver:
             self.logged[port] = len(frames)
 
     def forget(self):
-        self.told, self.lines, self.left = len(self.world.journal), len(self.world.trace), []
+        self.told, self.left = len(self.world.journal), []
 
     # Words on a link: its extender, the way, and the position among the control words.
 
@@ -85,32 +83,6 @@ class Driver:
         key, place, _ = self.control(link, way, at)
         self.world.lose(*key, place)
 
-    # Rounds.
-
-    def pass_through(self, key, doubled):
-        """The words that stand on a direction: all, each control word delivered twice, or the free control words alone."""
-        words = self.world.links[key]
-        count = len(words) if doubled else sum(stamp is None for _, stamp in words)
-        for _ in range(count):
-            if words and is_free(words, 0):
-                if doubled:
-                    self.world.keep(*key, 0)
-                self.world.take(*key, 0)
-            elif doubled:
-                self.world.take(*key, 0)
-
-    def rounds(self, is_over, doubled):
-        for _ in range(10_000):
-            if is_over():
-                return
-            for key in directions(self.world):
-                self.pass_through(key, doubled)
-            self.world.beat()
-        sys.exit("it goes on and on")
-
-    def is_decided(self):
-        return self.world.journal[self.told:] and self.world.journal[-1].split()[0] in ("commit", "refuse")
-
     def planned(self):
         """The announcements and answers that are still to come: those that come to a twin which is played to its end."""
         world = self.world.twin()
@@ -131,30 +103,21 @@ class Driver:
         world = self.world
         if verb == "arrive":
             port, index, frame = words
-            world.arrive(number_of(port), int(index), self.seconds * SECOND, bytes.fromhex(frame))
+            world.arrive(number_of(port), int(index), 0, bytes.fromhex(frame))
         elif verb in ("control", "keep"):
             self.deliver(*words, keep=verb == "keep")
         elif verb in ("carry", "lose"):
             getattr(self, verb)(*words)
-        elif verb in ("beat", "mark"):
-            getattr(world, verb)()
-        elif verb == "tick":
-            self.seconds += int(words[0])
-            world.tick(int(words[0]))
+        elif verb == "beat":
+            world.beat()
         elif verb == "give":
             world.command(world.bridge.commands[self.given])
             self.given += 1
-        elif verb in ("arm", "draw"):
-            plan = words[0] * int(words[1]) if verb == "arm" else letters(*map(int, words))
-            self.armed += len(plan)
-            world.fate += plan
-        elif verb == "decide":
-            self.rounds(self.is_decided, False)
+        elif verb == "arm":
+            self.armed += int(words[0])
+            world.fate += "P" * int(words[0])
         elif verb == "settle":
             settle_and_mark(world)
-        elif verb == "doubled":
-            self.rounds(world.settled, True)
-            world.mark()
         else:
             self.tell(verb, words)
 
@@ -163,17 +126,12 @@ class Driver:
         if verb == "tell":
             self.log += world.journal[self.told:] + [f"{name_of(port)} {frame.hex().upper()}" for port, frame in self.left]
             self.forget()
-        elif verb == "trace":
-            self.log += world.trace[self.lines:]
         elif verb == "skip":
             self.forget()
         elif verb == "bare":
             pass
         elif verb == "asked":
             self.log.append(f"asked {self.armed - len(world.fate)}")
-        elif verb == "heard":
-            lines = "".join(f"{line}\n" for line in world.trace[self.lines:])
-            self.log.append(f"heard {control_in(lines.encode())}")
         elif verb == "planned":
             self.log.append(f"planned {self.planned()}")
         elif verb == "free":
@@ -197,7 +155,7 @@ class Driver:
 def cases():
     """A topology, steps, and what must be told, of each case."""
     with open(TABLE, encoding="utf-8") as it:
-        text = re.search(r'const CASES: &str = "([^"]*)";', it.read())[1]
+        text = re.search(r'const CASES: &str =\s*"([^"]*)";', it.read())[1]
     text = re.sub(r"\\\n *", "", text).replace("\\n", "\n")
     return [re.fullmatch(r"([^>]*)>([^\n]*)\n(.*)", case, re.DOTALL).groups() for case in text.split("%")]
 

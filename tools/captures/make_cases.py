@@ -179,20 +179,17 @@ def front(file, place):
     return text + ("%s(%d)" % fault if fault else "More")
 
 
-def table(name, entries):
-    """A table of Rattle."""
-    lines = [f"pub(super) const {name}: [(&str, &str); {len(entries)}] = ["]
-    for given, wanted in entries:
-        lines.append(f'    (\n        "{given}",\n        "{wanted}",\n    ),')
-    return "\n".join(lines) + "\n];\n"
+def text(lines):
+    """Lines as a literal of Rattle."""
+    return '"' + "\\n\\\n     ".join(lines) + '"'
 
 
 def judged(name, head, rows):
-    """The table of these blocks behind a header."""
-    return table(name, [(blocks, told(bytes_of(head + " " + blocks))) for blocks in rows])
+    """A text with a line for these blocks behind a header."""
+    lines = [f"{blocks}>{told(bytes_of(head + ' ' + blocks))}" for blocks in rows]
+    return f"pub(super) const {name}: &str = {text(lines)};\n"
 
 
-# A table and a test for each, since a table's proof grows faster than its text.
 TABLES = [
     ("SIZES", "Sizes, and what isn't all there", SIZES),
     ("SECTIONS", "Section headers", SECTIONS),
@@ -207,7 +204,7 @@ TABLES = [
 def main():
     row = bytes_of(ROW)
     parts = [
-        "//! Files of pcapng in hexadecimal digits, and what is read of them, as `tools/captures/make_cases.py` writes them.\n",
+        "//! Files of pcapng in hexadecimal digits, and what is read of them, as `tools/captures/make_cases.py` writes them: a row a line.\n",
         f"/// A section header, little-endian.\npub(super) const HEAD: &str = \"{HEAD}\";\n",
         f"/// The same, big-endian.\npub(super) const BIG_HEAD: &str = \"{BIG}\";\n",
         f"/// One frame of 60 bytes at 100 seconds: 140 bytes.\npub(crate) const ROW: &str =\n    \"{ROW}\";\n",
@@ -215,9 +212,7 @@ def main():
         "/// A time of 5 in each unit.\n" + judged("LITTLE", HEAD, UNITS),
         "/// The same behind the big-endian header.\n" + judged("TWINS", BIG, BIG_BLOCKS),
         "/// A length to which the row's file is cut, and what is answered before the end.\n"
-        + f"pub(super) const FRONTS: [(usize, &str); {len(range(0, 141, 4))}] = [\n"
-        + "".join(f'    ({place}, "{front(row, place)}"),\n' for place in range(0, 141, 4))
-        + "];\n",
+        + f"pub(super) const FRONTS: &str = {text([f'{place}>{front(row, place)}' for place in range(0, 141, 4)])};\n",
     ]
     TARGET.parent.mkdir(exist_ok=True)
     TARGET.write_text("\n".join(parts))

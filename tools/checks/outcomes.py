@@ -1,5 +1,5 @@
-"""Runs beside the plain bridge in Python: small inputs of which is said what comes of them (crates/exb_cases/outcomes.py), and generated ones
-(crates/exb_cases/trials.py); and beside the tree over links, which a seed plays (crates/exb_cases/seeded.py). What is printed, and each file byte
+"""Runs beside the plain bridge in Python: small inputs of which is said what comes of them (crates/exb_cases/outcomes.py) or what is asked of extenders
+(crates/exb_cases/exchanges.py), and generated ones (crates/exb_cases/trials.py); and beside the tree over links, which a seed plays (crates/exb_cases/seeded.py). What is printed, and each file byte
 for byte."""
 import os
 import sys
@@ -49,6 +49,15 @@ def row(program, topology, frames, wanted):
         left = {bridge.number_of(name[4:-5]): captured.read(data)[0] for name, data in written.items() if name.endswith(".pcap")}
         told = outcomes.told(written["out-journal.txt"].decode().splitlines(), left)
     assert told == wanted, f"{told}, where {wanted} is wanted"
+
+
+def exchange(program, row):
+    """Plays a row by what a bridge asks, tells and sends, with its trace."""
+    import exchanges
+    import outcomes
+    ran, after = played(program, ["run", "topology.toml", "--trace", "--counters"], outcomes.files_of(*row[:2]))
+    assert ran[0] == 0, f"{ran}, where status 0 is wanted"
+    exchanges.agrees(row, after)
 
 
 def trial(program, number, extenders):
@@ -106,12 +115,14 @@ def outcomes(program):
     """Each row, each trial and each seed, by its number."""
     try:
         import disturbed
+        import exchanges
         import outcomes as tables
         import seeded
         import trials
     except ImportError:
         return [Test("outcomes", "all rows and trials", skipped)]
     found = [Test("outcomes", f"row {at}", lambda it=it: row(program, *it)) for at, it in enumerate([*tables.OUTCOMES, *tables.SUMMARY], 1)]
+    found += [Test("outcomes", f"exchange {at}", lambda it=it: exchange(program, it)) for at, it in enumerate(exchanges.table(), 1)]
     for first, sizes in trials.TRIALS:
         found += [Test("outcomes", f"trial {first + size} of {size} extenders", lambda it=(first + size, size): trial(program, *it)) for size in sizes]
     found += over_links(program)

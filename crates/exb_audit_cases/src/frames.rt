@@ -9,46 +9,44 @@ use exb_model::text::Text;
 use std::alloc::Global;
 use std::process::Abort;
 
-/// Files by their letters, the grammar, the limit, and what is answered: by port the lengths of its frames, or the fault.
+/// A row a line: the grammar, the limit, files by their letters, and behind `>` what is answered: by port the lengths of its frames, or the fault.
 ///
 /// `a` is a classic capture of 100 bytes with a frame of 60, `b` one of 61 bytes with frames of 0 and 5, `c` is `a` without its last byte, `h` a
 /// header of 24 bytes, `n` pcapng of 28 bytes without a frame, `t` the first three bytes of that, `z` has no bytes, and `-` is not there.
-const ROWS: [(&str, Grammar, u32, &str); 34] = [
-    ("", Grammar::Either, 0, ""),
-    ("", Grammar::Classic, 0, ""),
-    ("a", Grammar::Either, 100, "0: 60;"),
-    ("a", Grammar::Either, 99, "Large"),
-    ("a", Grammar::Classic, 100, "0: 60;"),
-    ("a", Grammar::Classic, 99, "Large"),
-    ("ahb", Grammar::Either, 185, "0: 60;1:;2: 0 5;"),
-    ("ahb", Grammar::Either, 184, "Large"),
-    ("ahb", Grammar::Classic, 185, "0: 60;1:;2: 0 5;"),
-    ("ahb", Grammar::Classic, 184, "Large"),
-    ("a-", Grammar::Either, 100, "Missing f1"),
-    ("-c", Grammar::Either, 1_000, "Missing f0"),
-    ("h-", Grammar::Classic, 24, "Missing f1"),
-    ("cb-", Grammar::Either, 1_000, "0 Cut 24"),
-    ("ac-", Grammar::Either, 199, "1 Cut 24"),
-    ("ac-", Grammar::Either, 198, "Large"),
-    ("ac-", Grammar::Classic, 199, "1 Cut 24"),
-    ("ac-", Grammar::Classic, 198, "Large"),
-    ("z", Grammar::Either, 9, "0 NotPcap 0"),
-    ("z", Grammar::Classic, 9, "0 NotPcap 0"),
-    ("az", Grammar::Either, 100, "1 NotPcap 0"),
-    ("az", Grammar::Classic, 100, "1 NotPcap 0"),
-    ("ah", Grammar::Either, 100, "Large"),
-    ("ah", Grammar::Classic, 100, "Large"),
-    ("n", Grammar::Either, 28, "0:;"),
-    ("n", Grammar::Either, 27, "Large"),
-    ("n", Grammar::Classic, 28, "0 NotPcap 0"),
-    ("n", Grammar::Classic, 1, "0 NotPcap 0"),
-    ("n", Grammar::Classic, 0, "Large"),
-    ("an-", Grammar::Classic, 1_000, "1 NotPcap 0"),
-    ("t", Grammar::Either, 3, "0 NotPcap 0"),
-    ("t", Grammar::Either, 2, "Large"),
-    ("t", Grammar::Classic, 2, "0 NotPcap 0"),
-    ("t", Grammar::Classic, 0, "Large"),
-];
+const ROWS: &str = "either 0 >\n\
+     classic 0 >\n\
+     either 100 a>0: 60;\n\
+     either 99 a>Large\n\
+     classic 100 a>0: 60;\n\
+     classic 99 a>Large\n\
+     either 185 ahb>0: 60;1:;2: 0 5;\n\
+     either 184 ahb>Large\n\
+     classic 185 ahb>0: 60;1:;2: 0 5;\n\
+     classic 184 ahb>Large\n\
+     either 100 a->Missing f1\n\
+     either 1000 -c>Missing f0\n\
+     classic 24 h->Missing f1\n\
+     either 1000 cb->0 Cut 24\n\
+     either 199 ac->1 Cut 24\n\
+     either 198 ac->Large\n\
+     classic 199 ac->1 Cut 24\n\
+     classic 198 ac->Large\n\
+     either 9 z>0 NotPcap 0\n\
+     classic 9 z>0 NotPcap 0\n\
+     either 100 az>1 NotPcap 0\n\
+     classic 100 az>1 NotPcap 0\n\
+     either 100 ah>Large\n\
+     classic 100 ah>Large\n\
+     either 28 n>0:;\n\
+     either 27 n>Large\n\
+     classic 28 n>0 NotPcap 0\n\
+     classic 1 n>0 NotPcap 0\n\
+     classic 0 n>Large\n\
+     classic 1000 an->1 NotPcap 0\n\
+     either 3 t>0 NotPcap 0\n\
+     either 2 t>Large\n\
+     classic 2 t>0 NotPcap 0\n\
+     classic 0 t>Large";
 
 /// A section of pcapng without a block.
 const SECTION: [u8; 28] = [
@@ -193,38 +191,71 @@ fn frames_text(
     answer_text(rt, alloc, &answer)
 }
 
-#[test]
-fn frames_are_read_or_the_first_fault_is_told(rt: HostRuntime) {
-    for (letters, grammar, limit, wanted) in &ROWS {
-        for bytes in &CUTS {
-            let how = Disturbance::Slow { bytes: *bytes };
-            let text = frames_text(&rt, rt.alloc(), letters, *grammar, *limit, how);
-            same(&rt, text.as_str(), wanted, letters, *limit as usize);
-        }
+// What stands before a mark, and what behind it.
+fn apart<'a>(rt: &impl Abort, text: &'a str, mark: char) -> (&'a str, &'a str) {
+    text.split_once(mark).expect(rt, "a part of a row")
+}
+
+// The grammar of a word.
+fn grammar_of(word: &str) -> Grammar {
+    match word {
+        "either" => Grammar::Either,
+        _ => Grammar::Classic,
     }
 }
 
-/// Files, the grammar, and how many calls of the shelf reading them takes: an open and two reads each, and an open and a read more where the
-/// first byte is looked at.
-const CALLS: [(&str, Grammar, usize, &str); 2] = [
-    ("ab", Grammar::Either, 6, "0: 60;1: 0 5;"),
-    ("ab", Grammar::Classic, 10, "0: 60;1: 0 5;"),
-];
+// Asserts what is answered of the files of a row, however much is read at once.
+fn judge_row(rt: &impl Abort, alloc: Global, row: &str) {
+    let (given, wanted) = apart(rt, row, '>');
+    let (grammar, given) = apart(rt, given, ' ');
+    let (limit, letters) = apart(rt, given, ' ');
+    let grammar = grammar_of(grammar);
+    let limit = limit.parse::<u32>().expect(rt, "a limit");
+    for bytes in &CUTS {
+        let how = Disturbance::Slow { bytes: *bytes };
+        let text = frames_text(rt, alloc, letters, grammar, limit, how);
+        same(rt, text.as_str(), wanted, row, *bytes);
+    }
+}
 
 #[test]
-fn each_call_may_fail(rt: HostRuntime) {
-    for (letters, grammar, calls, wanted) in &CALLS {
-        for at in 1..=*calls {
-            let fails = Disturbance::Fails { at };
-            let text = frames_text(&rt, rt.alloc(), letters, *grammar, 1_000, fails);
-            same(&rt, text.as_str(), "Read", letters, at);
-            let wants = Disturbance::WantsMemory { at };
-            let text = frames_text(&rt, rt.alloc(), letters, *grammar, 1_000, wants);
-            same(&rt, text.as_str(), "Memory", letters, at);
-        }
-        let at = calls.saturating_add(1);
-        let later = Disturbance::Fails { at };
-        let text = frames_text(&rt, rt.alloc(), letters, *grammar, 1_000, later);
-        same(&rt, text.as_str(), wanted, letters, at);
+fn frames_are_read_or_the_first_fault_is_told(rt: HostRuntime) {
+    for row in ROWS.lines() {
+        judge_row(&rt, rt.alloc(), row);
     }
+}
+
+// Asserts what is answered of two files, where such a call is disturbed so.
+fn expect_both(rt: &impl Abort, alloc: Global, grammar: Grammar, how: Disturbance, wanted: &str) {
+    let text = frames_text(rt, alloc, "ab", grammar, 1_000, how);
+    same(rt, text.as_str(), wanted, "two files", 1_000);
+}
+
+// Asserts it where each of so many calls fails, or wants memory, and where the next one would.
+fn judge_calls(rt: &impl Abort, alloc: Global, grammar: Grammar, calls: usize) {
+    for at in 1..=calls {
+        expect_both(rt, alloc, grammar, Disturbance::Fails { at }, "Read");
+        expect_both(
+            rt,
+            alloc,
+            grammar,
+            Disturbance::WantsMemory { at },
+            "Memory",
+        );
+    }
+    let at = calls.saturating_add(1);
+    expect_both(
+        rt,
+        alloc,
+        grammar,
+        Disturbance::Fails { at },
+        "0: 60;1: 0 5;",
+    );
+}
+
+// Each file takes an open and two reads, and an open and a read more where its first byte is looked at.
+#[test]
+fn each_call_may_fail(rt: HostRuntime) {
+    judge_calls(&rt, rt.alloc(), Grammar::Either, 6);
+    judge_calls(&rt, rt.alloc(), Grammar::Classic, 10);
 }

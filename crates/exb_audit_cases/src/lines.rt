@@ -12,47 +12,45 @@ enum Kind {
     Trace,
 }
 
-/// A text, and how many lines are read of it, or its fault.
-const ROWS: [(Kind, &str, &str); 38] = [
-    (Kind::Journal, "", "0"),
-    (Kind::Journal, "settled\n", "1"),
-    (Kind::Journal, "settled", "Bad 1"),
-    (Kind::Journal, "\n", "Bad 1"),
-    (Kind::Journal, "x", "Bad 1"),
-    (Kind::Journal, "x\nsettled\n", "Bad 1"),
-    (Kind::Journal, "tick 5\nsettled\n", "2"),
-    (Kind::Journal, "tick 5\nsettled", "Bad 2"),
-    (Kind::Journal, "tick 5\nsettle\nsettled\n", "Bad 2"),
-    (Kind::Journal, "tick 5\n\nsettled\n", "Bad 2"),
-    (Kind::Journal, "tick 5\nsettled\n\n", "Bad 3"),
-    (Kind::Journal, "tick 5\nsettled\nx", "Bad 3"),
-    (Kind::Journal, "settle\nsettle", "Bad 1"),
-    (Kind::Journal, "settled\r\n", "Bad 1"),
-    (Kind::Journal, "tick 05\n", "Bad 1"),
-    (Kind::Journal, "tick 99999999999999999999999\n", "1"),
-    (Kind::Journal, "up x1.1\nnoup x64.64 groups 2 1\n", "2"),
-    (Kind::Journal, "up x65.1\n", "Bad 1"),
-    (Kind::Journal, "relay b1 1\nignore x1.64 2\n", "2"),
-    (Kind::Journal, "relay b1 1 \n", "Bad 1"),
-    (Kind::Journal, "commit 1\nrefuse 2 channels 3 2\n", "2"),
-    (Kind::Journal, "= settled\n", "Bad 1"),
-    (Kind::Trace, "", "0"),
-    (Kind::Trace, "beat\n", "1"),
-    (Kind::Trace, "beat", "Bad 1"),
-    (Kind::Trace, "\n", "Bad 1"),
-    (Kind::Trace, "beat\nbeat\nbeat", "Bad 3"),
-    (Kind::Trace, "beat\nout x1 up 00ff\nin b 64 00ff\n", "3"),
-    (Kind::Trace, "beat\nout x1 up 00fF\nin b 64 00ff\n", "Bad 2"),
-    (Kind::Trace, "in b 1 \n", "1"),
-    (Kind::Trace, "in b 1\n", "Bad 1"),
-    (Kind::Trace, "in b 0 00\n", "Bad 1"),
-    (Kind::Trace, "in b up 00\n", "Bad 1"),
-    (Kind::Trace, "in x1 1 000\n", "Bad 1"),
-    (Kind::Trace, "= settled\n= tick 1\n", "2"),
-    (Kind::Trace, "= settle\n", "Bad 1"),
-    (Kind::Trace, "=settled\n", "Bad 1"),
-    (Kind::Trace, "settled\n", "Bad 1"),
-];
+/// A row a line: which text is read, the text with `/` for the end of each line, and behind `>` how many lines are read of it, or its fault.
+const ROWS: &str = "journal >0\n\
+     journal settled/>1\n\
+     journal settled>Bad 1\n\
+     journal />Bad 1\n\
+     journal x>Bad 1\n\
+     journal x/settled/>Bad 1\n\
+     journal tick 5/settled/>2\n\
+     journal tick 5/settled>Bad 2\n\
+     journal tick 5/settle/settled/>Bad 2\n\
+     journal tick 5//settled/>Bad 2\n\
+     journal tick 5/settled//>Bad 3\n\
+     journal tick 5/settled/x>Bad 3\n\
+     journal settle/settle>Bad 1\n\
+     journal settled\r/>Bad 1\n\
+     journal tick 05/>Bad 1\n\
+     journal tick 99999999999999999999999/>1\n\
+     journal up x1.1/noup x64.64 groups 2 1/>2\n\
+     journal up x65.1/>Bad 1\n\
+     journal relay b1 1/ignore x1.64 2/>2\n\
+     journal relay b1 1 />Bad 1\n\
+     journal commit 1/refuse 2 channels 3 2/>2\n\
+     journal = settled/>Bad 1\n\
+     trace >0\n\
+     trace beat/>1\n\
+     trace beat>Bad 1\n\
+     trace />Bad 1\n\
+     trace beat/beat/beat>Bad 3\n\
+     trace beat/out x1 up 00ff/in b 64 00ff/>3\n\
+     trace beat/out x1 up 00fF/in b 64 00ff/>Bad 2\n\
+     trace in b 1 />1\n\
+     trace in b 1/>Bad 1\n\
+     trace in b 0 00/>Bad 1\n\
+     trace in b up 00/>Bad 1\n\
+     trace in x1 1 000/>Bad 1\n\
+     trace = settled/= tick 1/>2\n\
+     trace = settle/>Bad 1\n\
+     trace =settled/>Bad 1\n\
+     trace settled/>Bad 1";
 
 // What is answered, by how many lines were read.
 fn answer_text(rt: &impl Abort, alloc: Global, answer: Result<usize, LinesFault>) -> String {
@@ -97,37 +95,76 @@ fn lines_text(
     answer_text(rt, alloc, count_lines(alloc, &mut shelf, kind, limit))
 }
 
-#[test]
-fn lines_are_read_or_the_first_bad_one_is_told(rt: HostRuntime) {
-    for (kind, text, wanted) in &ROWS {
-        for bytes in &CUTS {
-            let how = Disturbance::Slow { bytes: *bytes };
-            let given = lines_text(&rt, rt.alloc(), *kind, text.as_bytes(), 1_000, how);
-            same(&rt, given.as_str(), wanted, text, *bytes);
-        }
+// What stands before a mark, and what behind it.
+fn apart<'a>(rt: &impl Abort, text: &'a str, mark: char) -> (&'a str, &'a str) {
+    text.split_once(mark).expect(rt, "a part of a row")
+}
+
+// A text in which `/` stands for the end of each line.
+fn text_of(rt: &impl Abort, alloc: Global, told: &str) -> Vec<u8> {
+    let mut text = Vec::new(alloc);
+    for byte in told.as_bytes() {
+        let byte = if *byte == b'/' { b'\n' } else { *byte };
+        text.push(byte).expect(rt, "memory");
+    }
+    text
+}
+
+// The kind of a word.
+fn kind_of(word: &str) -> Kind {
+    match word {
+        "journal" => Kind::Journal,
+        _ => Kind::Trace,
     }
 }
 
-/// A text, how many bytes may be read, and what is answered.
-const LIMITED: [(&str, u32, &str); 8] = [
-    ("", 0, "0"),
-    ("x", 0, "Large"),
-    ("beat\n", 5, "1"),
-    ("beat\n", 4, "Large"),
-    ("x\nbeat\n", 7, "Bad 1"),
-    ("x\nbeat\n", 6, "Large"),
-    ("beat\nbea", 8, "Bad 2"),
-    ("beat\nbea", 7, "Large"),
-];
+// Asserts what is answered of a text, however much is read at once.
+fn judge_text(rt: &impl Abort, alloc: Global, kind: Kind, text: &[u8], limit: u32, wanted: &str) {
+    for bytes in &CUTS {
+        let how = Disturbance::Slow { bytes: *bytes };
+        let given = lines_text(rt, alloc, kind, text, limit, how);
+        same(rt, given.as_str(), wanted, "a text", *bytes);
+    }
+}
+
+// The same of a row.
+fn judge_row(rt: &impl Abort, alloc: Global, row: &str) {
+    let (given, wanted) = apart(rt, row, '>');
+    let (kind, told) = apart(rt, given, ' ');
+    let text = text_of(rt, alloc, told);
+    judge_text(rt, alloc, kind_of(kind), text.as_slice(), 1_000, wanted);
+}
+
+#[test]
+fn lines_are_read_or_the_first_bad_one_is_told(rt: HostRuntime) {
+    for row in ROWS.lines() {
+        judge_row(&rt, rt.alloc(), row);
+    }
+}
+
+/// How many bytes may be read, a trace, and what is answered.
+const LIMITED: &str = "0 >0\n\
+     0 x>Large\n\
+     5 beat/>1\n\
+     4 beat/>Large\n\
+     7 x/beat/>Bad 1\n\
+     6 x/beat/>Large\n\
+     8 beat/bea>Bad 2\n\
+     7 beat/bea>Large";
+
+// Asserts it of a row.
+fn judge_limit(rt: &impl Abort, alloc: Global, row: &str) {
+    let (given, wanted) = apart(rt, row, '>');
+    let (limit, told) = apart(rt, given, ' ');
+    let limit = limit.parse::<u32>().expect(rt, "a limit");
+    let text = text_of(rt, alloc, told);
+    judge_text(rt, alloc, Kind::Trace, text.as_slice(), limit, wanted);
+}
 
 #[test]
 fn a_text_that_is_too_large_is_that_before_all(rt: HostRuntime) {
-    for (text, limit, wanted) in &LIMITED {
-        for bytes in &CUTS {
-            let how = Disturbance::Slow { bytes: *bytes };
-            let given = lines_text(&rt, rt.alloc(), Kind::Trace, text.as_bytes(), *limit, how);
-            same(&rt, given.as_str(), wanted, text, *limit as usize);
-        }
+    for row in LIMITED.lines() {
+        judge_limit(&rt, rt.alloc(), row);
     }
 }
 

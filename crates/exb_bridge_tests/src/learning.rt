@@ -1,27 +1,18 @@
-//! What is learned, aged and forgotten, second by second.
+//! What is learned, aged and forgotten, second by second: an ageing time, and behind `:` steps with a semicolon between them. An address is named by
+//! its VLAN and its last byte, a port by its number.
+//!
+//! - `see V A P`: an address is seen at a port; `tick S`: seconds go by; `forget P`: a port is forgotten
+//! - `find V A P`: an address is found at a port; `miss V A`: it isn't found; `held N`: so many entries are held
 ghost use Rattle.std.specs.Prelude.{◌≡◌, false};
 ghost use Rattle.exb_model.specs.Frames.{is_group};
 
-use crate::site::port;
 use exb_learn::Learned;
 use exb_model::address::Mac;
+use exb_model::port::PortId;
 use exb_model::vlan::Vid;
 use std::alloc::Global;
 use std::process::Abort;
-
-/// A step with a learned table, or what must be found in it. An address is named by its VLAN and its last byte.
-enum Step {
-    /// An address is seen at the port with this number.
-    See(u16, u8, u16),
-    /// Seconds go by.
-    Tick(u32),
-    /// The port with this number is forgotten.
-    Forget(u16),
-    /// An address is looked up: the number of the port at which it was seen.
-    Look(u16, u8, Option<u16>),
-    /// How many entries are held.
-    Held(u64),
-}
+use std::str::SplitWhitespace;
 
 fn address(last: u8) -> Mac
     ensures { is_group result.0 ≡ false }
@@ -29,112 +20,91 @@ fn address(last: u8) -> Mac
     Mac([2, 0, 0, 0, 0, last])
 }
 
-fn vid(rt: &impl Abort, number: u16) -> Vid {
-    Vid::new(number).expect(rt, "a VLAN from 1 to 4094")
+// The next word, which is a number below 256.
+fn byte(rt: &impl Abort, words: &mut SplitWhitespace<'_>) -> u8 {
+    let word = words.next().expect(rt, "a word");
+    word.parse::<u8>().expect(rt, "a number below 256")
+}
+
+fn vid(rt: &impl Abort, words: &mut SplitWhitespace<'_>) -> Vid {
+    Vid::new(u16::from(byte(rt, words))).expect(rt, "a VLAN from 1 to 4094")
+}
+
+fn port(rt: &impl Abort, words: &mut SplitWhitespace<'_>) -> PortId {
+    PortId::new(u16::from(byte(rt, words))).expect(rt, "a port below 4160")
 }
 
 // An address is seen.
-fn see(rt: &impl Abort, learned: &mut Learned, vid: Vid, last: u8, at: u16) {
+fn see(rt: &impl Abort, learned: &mut Learned, words: &mut SplitWhitespace<'_>) {
+    let vid = vid(rt, words);
+    let last = byte(rt, words);
     learned.reserve().expect(rt, "memory");
-    learned.see(vid, address(last), port(rt, at));
+    learned.see(vid, address(last), port(rt, words));
 }
 
 // Seconds go by.
-fn tick(rt: &impl Abort, learned: &mut Learned, seconds: u32) {
+fn tick(rt: &impl Abort, learned: &mut Learned, seconds: u8) {
     assert!(rt; learned.clock() < 1000);
-    learned.tick(seconds);
+    learned.tick(u32::from(seconds));
 }
 
 // The number of the port at which an address was seen.
-fn look(learned: &Learned, vid: Vid, last: u8) -> Option<u16> {
-    match learned.look(vid, address(last)) {
+fn look(rt: &impl Abort, learned: &Learned, words: &mut SplitWhitespace<'_>) -> Option<u16> {
+    let vid = vid(rt, words);
+    match learned.look(vid, address(byte(rt, words))) {
         Some(port) => Some(port.number()),
         None => None,
     }
 }
 
+// Whether the table is as a step wants it.
+fn is_so(rt: &impl Abort, learned: &Learned, verb: &str, words: &mut SplitWhitespace<'_>) -> bool {
+    match verb {
+        "find" => look(rt, learned, words) == Some(port(rt, words).number()),
+        "miss" => look(rt, learned, words).is_none(),
+        _ => learned.held() == u64::from(byte(rt, words)),
+    }
+}
+
 // Does a step; whether what it looks for is found.
-fn does(rt: &impl Abort, learned: &mut Learned, step: &Step) -> bool {
-    match step {
-        Step::See(number, last, at) => see(rt, learned, vid(rt, *number), *last, *at),
-        Step::Tick(seconds) => tick(rt, learned, *seconds),
-        Step::Forget(number) => learned.forget(port(rt, *number)),
-        Step::Look(number, last, wanted) => {
-            return look(learned, vid(rt, *number), *last) == *wanted;
-        }
-        Step::Held(wanted) => return learned.held() == *wanted,
+fn does(rt: &impl Abort, learned: &mut Learned, step: &str) -> bool {
+    let mut words = step.split_whitespace();
+    let verb = words.next().expect(rt, "a step");
+    match verb {
+        "see" => see(rt, learned, &mut words),
+        "tick" => tick(rt, learned, byte(rt, &mut words)),
+        "forget" => learned.forget(port(rt, &mut words)),
+        _ => return is_so(rt, learned, verb, &mut words),
     }
     true
 }
 
 // Does the steps one after another.
-fn walk(rt: &impl Abort, learned: &mut Learned, steps: &[Step]) {
-    let mut done = 0u32;
-    for step in steps {
-        done = done.saturating_add(1);
-        assert!(rt; does(rt, learned, step), "step {done}");
+fn walk(rt: &impl Abort, learned: &mut Learned, steps: &str) {
+    for step in steps.split(';') {
+        assert!(rt; does(rt, learned, step), "{step}of {steps}");
     }
 }
 
-// Does the steps with an empty table of this ageing time.
-fn play(rt: &impl Abort, alloc: Global, ageing: u32, steps: &[Step]) {
+// Does the steps of a case with an empty table of its ageing time.
+fn play(rt: &impl Abort, alloc: Global, case: &str) {
+    let (ageing, steps) = case.split_once(':').expect(rt, "steps");
+    let ageing = ageing.parse::<u32>().expect(rt, "an ageing time");
     let mut learned = Learned::new(alloc, ageing);
     walk(rt, &mut learned, steps);
+    drop(learned);
 }
 
-const TO_THE_LAST_SECOND: &[Step] = &[
-    Step::Look(1, 1, None),
-    Step::See(1, 1, 64),
-    Step::Tick(9),
-    Step::Look(1, 1, Some(64)),
-    Step::Look(2, 1, None),
-    Step::Tick(1),
-    Step::Look(1, 1, None),
-];
-
-const MOVED: &[Step] = &[
-    Step::See(1, 1, 64),
-    Step::See(1, 1, 65),
-    Step::Forget(64),
-    Step::Look(1, 1, Some(65)),
-    Step::Forget(65),
-    Step::Look(1, 1, None),
-];
-
-const NOTHING: &[Step] = &[Step::See(1, 1, 64), Step::Held(0), Step::Look(1, 1, None)];
-
-const HELD: &[Step] = &[
-    Step::See(1, 1, 64),
-    Step::Tick(4),
-    Step::See(1, 2, 65),
-    Step::See(2, 1, 64),
-    Step::Held(3),
-    Step::Tick(6),
-    Step::Held(2),
-    Step::See(1, 2, 66),
-    Step::Tick(9),
-    Step::Held(1),
-    Step::Look(1, 2, Some(66)),
-    Step::Forget(66),
-    Step::Held(0),
-];
+/// A case a line: an address is found up to the last second; a later sighting moves it, and a down forgets it; with ageing time 0 nothing is learned;
+/// dead entries, those that moved and those of a port that is forgotten are not held.
+const CASES: &str = "10:miss 1 1; see 1 1 64; tick 9; find 1 1 64; miss 2 1; tick 1; miss 1 1\n\
+     10:see 1 1 64; see 1 1 65; forget 64; find 1 1 65; forget 65; miss 1 1\n\
+     0:see 1 1 64; held 0; miss 1 1\n\
+     10:see 1 1 64; tick 4; see 1 2 65; see 2 1 64; held 3; tick 6; held 2; see 1 2 66; tick 9; held 1; find 1 2 66; forget 66; held 0\n";
 
 #[test]
-fn an_address_is_found_up_to_the_last_live_second(rt: HostRuntime) {
-    play(&rt, rt.alloc(), 10, TO_THE_LAST_SECOND);
-}
-
-#[test]
-fn a_later_sighting_moves_the_address_and_a_down_forgets_it(rt: HostRuntime) {
-    play(&rt, rt.alloc(), 10, MOVED);
-}
-
-#[test]
-fn with_ageing_0_nothing_is_learned(rt: HostRuntime) {
-    play(&rt, rt.alloc(), 0, NOTHING);
-}
-
-#[test]
-fn dead_entries_are_not_held(rt: HostRuntime) {
-    play(&rt, rt.alloc(), 10, HELD);
+fn addresses_are_learned_and_forgotten_as_they_must(rt: HostRuntime) {
+    for case in CASES.lines() {
+        play(&rt, rt.alloc(), case);
+    }
 }

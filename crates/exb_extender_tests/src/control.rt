@@ -1,5 +1,5 @@
 //! Announcements, acknowledgements and answers.
-use crate::drive::{Step, judge};
+use crate::drive::judge;
 use crate::fixture::Fixture;
 use crate::words::{bytes_of, put_bytes, same};
 use exb_extender::{Extender, Sends, Side};
@@ -8,125 +8,79 @@ use std::process::Abort;
 
 /// It announces itself at the first beat and each sixteenth after, until it is opened. Its answer goes out again at the
 /// third, sixth and ninth beat.
-const ANNOUNCES: [Step; 19] = [
-    (
-        "beat 1",
-        "first 88CC020704024542010001040307757006020078FE0502454201030000;",
-    ),
-    ("beat 15", ""),
-    (
-        "beat 1",
-        "first 88CC020704024542010001040307757006020078FE0502454201030000;",
-    ),
-    ("beat 15", ""),
-    (
-        "beat 1",
-        "first 88CC020704024542010001040307757006020078FE0502454201030000;",
-    ),
-    ("idle", "true"),
-    (
-        "hear 0100000000000000010000",
-        "first 894014020001; second 89401002000181000000000000000100020003;",
-    ),
-    ("idle", "false"),
-    ("beat 2", ""),
-    ("beat 1", "second 89401002000181000000000000000100020003;"),
-    ("beat 2", ""),
-    ("beat 1", "second 89401002000181000000000000000100020003;"),
-    ("beat 2", ""),
-    ("beat 1", "second 89401002000181000000000000000100020003;"),
-    ("beat 2", ""),
-    ("idle", "false"),
-    ("beat 1", ""),
-    ("idle", "true"),
-    ("beat 40", ""),
-];
+const ANNOUNCES: &str = "beat 1>first 88CC020704024542010001040307757006020078FE0502454201030000;\n\
+     beat 15>\n\
+     beat 1>first 88CC020704024542010001040307757006020078FE0502454201030000;\n\
+     beat 15>\n\
+     beat 1>first 88CC020704024542010001040307757006020078FE0502454201030000;\n\
+     idle>true\n\
+     hear 0100000000000000010000>first 894014020001; second 89401002000181000000000000000100020003;\n\
+     idle>false\n\
+     beat 2>\n\
+     beat 1>second 89401002000181000000000000000100020003;\n\
+     beat 2>\n\
+     beat 1>second 89401002000181000000000000000100020003;\n\
+     beat 2>\n\
+     beat 1>second 89401002000181000000000000000100020003;\n\
+     beat 2>\n\
+     idle>false\n\
+     beat 1>\n\
+     idle>true\n\
+     beat 40>";
 
 /// The acknowledgement of its sequence alone ends an answer.
-const ACKNOWLEDGED: [Step; 6] = [
-    (
-        "hear 0100000000000000010000",
-        "first 894014020001; second 89401002000181000000000000000100020003;",
-    ),
-    ("acked 2", ""),
-    ("idle", "false"),
-    ("acked 1", ""),
-    ("idle", "true"),
-    ("beat 40", ""),
-];
+const ACKNOWLEDGED: &str =
+    "hear 0100000000000000010000>first 894014020001; second 89401002000181000000000000000100020003;\n\
+     acked 2>\n\
+     idle>false\n\
+     acked 1>\n\
+     idle>true\n\
+     beat 40>";
 
 /// The next serial is executed, the last answered again, and any other acknowledged alone.
-const SERIALS: [Step; 6] = [
-    (
-        "hear 0100000000000000010000",
-        "first 894014020001; second 89401002000181000000000000000100020003;",
-    ),
-    (
-        "hear 020000000000000002000401000001",
-        "first 894014020002; second 894010020002820000000000000002000100;",
-    ),
-    (
-        "hear 020000000000000002000401000001",
-        "first 894014020003; second 894010020003820000000000000002000100;",
-    ),
-    ("hear 030000000000000004000101", "first 894014020004;"),
-    // Port 1 is created once more, which is refused.
-    (
-        "hear 020000000000000003000401000002",
-        "first 894014020005; second 894010020004820000000000000003000103;",
-    ),
-    ("hear 0100000000000000010000", "first 894014020006;"),
-];
+const SERIALS: &str =
+    "hear 0100000000000000010000>first 894014020001; second 89401002000181000000000000000100020003;\n\
+     hear 020000000000000002000401000001>first 894014020002; second 894010020002820000000000000002000100;\n\
+     hear 020000000000000002000401000001>first 894014020003; second 894010020003820000000000000002000100;\n\
+     hear 030000000000000004000101>first 894014020004;\n\
+     # Port 1 is created once more, which is refused.\n\
+     hear 020000000000000003000401000002>first 894014020005; second 894010020004820000000000000003000103;\n\
+     hear 0100000000000000010000>first 894014020006;";
 
 /// What is no request of the control protocol.
-const OTHERS: [Step; 9] = [
-    // An answer, and bytes that are no message, are acknowledged alone.
-    ("hear 81000000000000000100020003", "first 894014020001;"),
-    ("hear 0800000000000000010000", "first 894014020002;"),
-    // The same sequence again is acknowledged, and its payload not looked at.
-    ("repeat 0100000000000000010000", "first 894014020002;"),
-    // Another subtype isn't acknowledged.
-    (
-        "down 29 0180C200000E0245420000008940100300090100000000000000010000",
-        "",
-    ),
-    // An announcement, a version and an operation that ECP doesn't have, and a frame of ECP that is cut.
-    ("down 18 0180C200000E02454200000088CC10020009", ""),
-    ("down 18 0180C200000E024542000000894020020009", ""),
-    ("down 18 0180C200000E024542000000894018020009", ""),
-    ("down 17 0180C200000E0245420000008940100200", ""),
-    ("idle", "true"),
-];
+const OTHERS: &str = "# An answer, and bytes that are no message, are acknowledged alone.\n\
+     hear 81000000000000000100020003>first 894014020001;\n\
+     hear 0800000000000000010000>first 894014020002;\n\
+     # The same sequence again is acknowledged, and its payload not looked at.\n\
+     repeat 0100000000000000010000>first 894014020002;\n\
+     # Another subtype isn't acknowledged.\n\
+     down 29 0180C200000E0245420000008940100300090100000000000000010000>\n\
+     # An announcement, a version and an operation that ECP doesn't have, and a frame of ECP that is cut.\n\
+     down 18 0180C200000E02454200000088CC10020009>\n\
+     down 18 0180C200000E024542000000894020020009>\n\
+     down 18 0180C200000E024542000000894018020009>\n\
+     down 17 0180C200000E0245420000008940100200>\n\
+     idle>true";
 
 /// An E-CID twice in a message is refused whole, so a word of that group goes nowhere.
-const TWICE: [Step; 4] = [
-    (
-        "hear 0100000000000000010000",
-        "first 894014020001; second 89401002000181000000000000000100020003;",
-    ),
-    (
-        "hear 020000000000000002000401000001",
-        "first 894014020002; second 894010020002820000000000000002000100;",
-    ),
-    (
-        "hear 06000000000000000300141000000000000000000110000000000000000001",
-        "first 894014020003; second 894010020003860000000000000003000103;",
-    ),
-    ("down 60 FFFFFFFFFFFF020000000001893F000010000000", ""),
-];
+const TWICE: &str =
+    "hear 0100000000000000010000>first 894014020001; second 89401002000181000000000000000100020003;\n\
+     hear 020000000000000002000401000001>first 894014020002; second 894010020002820000000000000002000100;\n\
+     hear 06000000000000000300141000000000000000000110000000000000000001>first 894014020003; second 894010020003860000000000000003000103;\n\
+     down 60 FFFFFFFFFFFF020000000001893F000010000000>";
 
 // Asserts that each step of a new extender is told as it must be.
-fn judge_new(rt: &impl Abort, alloc: Global, steps: &[Step]) {
+fn judge_new(rt: &impl Abort, alloc: Global, steps: &str) {
     judge(rt, alloc, &mut Fixture::new(rt, alloc), steps);
 }
 
 #[test]
 fn control_frames_are_answered_as_they_must(rt: HostRuntime) {
-    judge_new(&rt, rt.alloc(), &ANNOUNCES);
-    judge_new(&rt, rt.alloc(), &ACKNOWLEDGED);
-    judge_new(&rt, rt.alloc(), &SERIALS);
-    judge_new(&rt, rt.alloc(), &OTHERS);
-    judge_new(&rt, rt.alloc(), &TWICE);
+    judge_new(&rt, rt.alloc(), ANNOUNCES);
+    judge_new(&rt, rt.alloc(), ACKNOWLEDGED);
+    judge_new(&rt, rt.alloc(), SERIALS);
+    judge_new(&rt, rt.alloc(), OTHERS);
+    judge_new(&rt, rt.alloc(), TWICE);
 }
 
 // Asserts the bytes of a frame of the extender's own.

@@ -147,13 +147,19 @@ fn step(rt: &impl Abort, alloc: Global, fixture: &mut Fixture, step: &str) -> St
     sent_text(rt, alloc, fixture)
 }
 
-/// A step and how it is told.
-pub(crate) type Step = (&'static str, &'static str);
+// Asserts that a step is told as its row says behind `>`. A row that begins with `#` is a comment.
+fn judge_step(rt: &impl Abort, alloc: Global, fixture: &mut Fixture, row: &str) {
+    if row.starts_with("#") {
+        return;
+    }
+    let (words, wanted) = row.split_once('>').expect(rt, "what is told");
+    let told = step(rt, alloc, fixture, words);
+    same(rt, told.as_str().trim_end(), wanted, words);
+}
 
-/// Asserts that each step, one after another, is told as it must be.
-pub(crate) fn judge(rt: &impl Abort, alloc: Global, fixture: &mut Fixture, steps: &[Step]) {
-    for (words, wanted) in steps {
-        let told = step(rt, alloc, fixture, words);
-        same(rt, told.as_str().trim_end(), wanted, words);
+/// Asserts that each step, one a line, is told as it must be.
+pub(crate) fn judge(rt: &impl Abort, alloc: Global, fixture: &mut Fixture, steps: &str) {
+    for row in steps.lines() {
+        judge_step(rt, alloc, fixture, row);
     }
 }

@@ -2,7 +2,7 @@
 //! each stands in the tables. Whatever came, what isn't asked for stays as it was, and the next request is answered.
 mod cases;
 
-use crate::drive::{Step, frame_step, hear, judge, sent_text};
+use crate::drive::{frame_step, hear, judge, sent_text};
 use crate::fixture::Fixture;
 use crate::forwarding::{LAID, UNCHANNELLED};
 use crate::words::{bytes_of, put, put_bytes, same};
@@ -24,7 +24,8 @@ enum State {
     Unchannelled,
 }
 
-/// A frame that comes in a state, and what becomes of it:
+/// A frame that comes in a state, and what becomes of it. It stands in five lines, behind a comment or none, with `%` before each further case:
+/// state, side and frame; and a line for each field behind these. What becomes of a frame is one of these:
 ///
 /// - `nothing`
 /// - `stops`: it acknowledges what the extender sends
@@ -32,18 +33,62 @@ enum State {
 /// - `answer BYTES`: it is acknowledged and answered, with these bytes behind type and serial
 /// - `again BYTES`: it is acknowledged, and that is answered again
 /// - what a step tells of a frame that goes on
-struct Case {
+#[derive(Clone, Copy)]
+struct Case<'a> {
     state: State,
     /// The side that it comes from, as in a step.
-    from: &'static str,
-    frame: &'static str,
-    told: &'static str,
+    from: &'a str,
+    frame: &'a str,
+    told: &'a str,
     /// What becomes of it where it is cut before a place: `PLACE VERDICT|`, up to the next entry's place. `same` is as whole.
-    cut: &'static str,
+    cut: &'a str,
     /// The same with a bit turned: `FIRST-LAST.BITS VERDICT|`; the first entry that has the place and the bit counts.
-    turned: &'static str,
+    turned: &'a str,
     /// The same with zeros behind it, up to a length: `LENGTH VERDICT|`, up to the next entry's length.
-    longer: &'static str,
+    longer: &'a str,
+}
+
+// The state with a name.
+fn state_of(name: &str) -> State {
+    match name {
+        "PowerOn" => State::PowerOn,
+        "Opened" => State::Opened,
+        "Ports" => State::Ports,
+        "Rows" => State::Rows,
+        _ => State::Unchannelled,
+    }
+}
+
+// What stands before a mark, and what behind it.
+fn apart<'a>(rt: &impl Abort, text: &'a str, mark: char) -> (&'a str, &'a str) {
+    text.split_once(mark).expect(rt, "a case")
+}
+
+// What stands behind a comment, if there is one.
+fn bare(text: &str) -> &str {
+    match text.split_once('\n') {
+        Some((first, rest)) if first.starts_with("#") => rest,
+        _ => text,
+    }
+}
+
+// The case of its lines.
+fn case_of<'a>(rt: &impl Abort, text: &'a str) -> Case<'a> {
+    let (head, rest) = apart(rt, bare(text), '\n');
+    let (state, head) = apart(rt, head, ' ');
+    let (from, frame) = apart(rt, head, ' ');
+    let (told, rest) = apart(rt, rest, '\n');
+    let (cut, rest) = apart(rt, rest, '\n');
+    let (turned, longer) = apart(rt, rest, '\n');
+    Case {
+        state: state_of(state),
+        from,
+        frame,
+        told,
+        cut,
+        turned,
+        longer,
+    }
 }
 
 // How many requests lead to a state. Each was executed and answered.
@@ -57,37 +102,46 @@ fn requests(state: State) -> u8 {
     }
 }
 
-// The bridge's next requests come.
-fn lay(rt: &impl Abort, alloc: Global, fixture: &mut Fixture, steps: &[Step]) {
-    for (words, _told) in steps {
-        let (_hear, payload) = words.split_once(' ').expect(rt, "bytes");
-        hear(rt, alloc, fixture, payload, false);
+// The bridge's next request comes, by the row of a step.
+fn lay(rt: &impl Abort, alloc: Global, fixture: &mut Fixture, row: &str) {
+    let (words, _told) = apart(rt, row, '>');
+    let (_hear, payload) = apart(rt, words, ' ');
+    hear(rt, alloc, fixture, payload, false);
+}
+
+// The first so many of these requests come.
+fn lay_first(rt: &impl Abort, alloc: Global, fixture: &mut Fixture, rows: &str, count: u8) {
+    let mut left = count;
+    for row in rows.lines() {
+        if left > 0 {
+            lay(rt, alloc, fixture, row);
+        }
+        left = left.saturating_sub(1);
     }
 }
 
 // An extender in that state.
 fn fixture_in(rt: &impl Abort, alloc: Global, state: State) -> Fixture {
     let mut fixture = Fixture::new(rt, alloc);
-    let laid = LAID.get(..requests(state) as usize).unwrap_or(&LAID);
-    lay(rt, alloc, &mut fixture, laid);
+    lay_first(rt, alloc, &mut fixture, LAID, requests(state));
     if let State::Unchannelled = state {
-        lay(rt, alloc, &mut fixture, &[UNCHANNELLED[0]]);
+        lay_first(rt, alloc, &mut fixture, UNCHANNELLED, 1);
     }
     fixture
 }
 
-const GROUP: &str = "down 20 FFFFFFFFFFFF020000000001893F000010000000";
-
-const CHANNEL: &str = "down 20 FFFFFFFFFFFF020000000001893F000000020000";
-
-// A word that goes by the tables of a state.
-fn word_in(state: State) -> Step {
+// A word that goes by the tables of a state: of channel 2, or of the group.
+fn word_in(state: State) -> &'static str {
     match state {
-        State::PowerOn => (CHANNEL, ""),
-        State::Opened => (CHANNEL, ""),
-        State::Ports => (CHANNEL, "2 stripped;"),
-        State::Rows => (GROUP, "1 stripped; 2 stripped; 3;"),
-        State::Unchannelled => (GROUP, "1 stripped; 2 stripped;"),
+        State::PowerOn => "down 20 FFFFFFFFFFFF020000000001893F000000020000>",
+        State::Opened => "down 20 FFFFFFFFFFFF020000000001893F000000020000>",
+        State::Ports => "down 20 FFFFFFFFFFFF020000000001893F000000020000>2 stripped;",
+        State::Rows => {
+            "down 20 FFFFFFFFFFFF020000000001893F000010000000>1 stripped; 2 stripped; 3;"
+        }
+        State::Unchannelled => {
+            "down 20 FFFFFFFFFFFF020000000001893F000010000000>1 stripped; 2 stripped;"
+        }
     }
 }
 
@@ -187,7 +241,7 @@ fn judge_next(rt: &impl Abort, alloc: Global, fixture: &mut Fixture, state: Stat
 
 // Asserts that the tables are as they were.
 fn judge_tables(rt: &impl Abort, alloc: Global, fixture: &mut Fixture, state: State) {
-    judge(rt, alloc, fixture, &[word_in(state)]);
+    judge(rt, alloc, fixture, word_in(state));
 }
 
 // Asserts what is as it was: what waits for an acknowledgement, the tables unless a request was done, and what was executed.
@@ -206,7 +260,7 @@ fn judge_frame(
     rt: &impl Abort,
     alloc: Global,
     fixture: &mut Fixture,
-    case: &Case,
+    case: &Case<'_>,
     frame: &[u8],
     verdict: &str,
 ) {
@@ -226,7 +280,7 @@ fn resolved<'a>(told: &'a str, verdict: &'a str) -> &'a str {
 }
 
 // Asserts what becomes of a frame that comes in the case's state from its side, and what comes after it.
-fn judge_in(rt: &impl Abort, alloc: Global, case: &Case, frame: &[u8], verdict: Option<&str>) {
+fn judge_in(rt: &impl Abort, alloc: Global, case: &Case<'_>, frame: &[u8], verdict: Option<&str>) {
     let verdict = resolved(case.told, verdict.expect(rt, "a verdict"));
     let mut fixture = fixture_in(rt, alloc, case.state);
     judge_frame(rt, alloc, &mut fixture, case, frame, verdict);
@@ -237,7 +291,13 @@ fn judge_in(rt: &impl Abort, alloc: Global, case: &Case, frame: &[u8], verdict: 
 const LENGTHS: [usize; 6] = [9216, 9217, 9224, 9225, 9232, 65535];
 
 // Asserts what becomes of a frame with zeros behind it up to a length.
-fn judge_length(rt: &impl Abort, alloc: Global, case: &Case, frame: &mut Vec<u8>, length: usize) {
+fn judge_length(
+    rt: &impl Abort,
+    alloc: Global,
+    case: &Case<'_>,
+    frame: &mut Vec<u8>,
+    length: usize,
+) {
     frame.resize(length, 0).expect(rt, "memory");
     let verdict = verdict_at(case.longer, length).expect(rt, "a table");
     judge_in(rt, alloc, case, frame.as_slice(), verdict);
@@ -254,14 +314,20 @@ fn judge_longer(rt: &impl Abort, alloc: Global, case: &Case) {
 }
 
 // Asserts what becomes of a frame that is cut before a place.
-fn judge_cut(rt: &impl Abort, alloc: Global, case: &Case, frame: &[u8], place: usize) {
+fn judge_cut(rt: &impl Abort, alloc: Global, case: &Case<'_>, frame: &[u8], place: usize) {
     let front = frame.get(..place).unwrap_or(&[]);
     let verdict = verdict_at(case.cut, place).expect(rt, "a table");
     judge_in(rt, alloc, case, front, verdict);
 }
 
 // Asserts what becomes of a frame with each bit of a byte turned.
-fn judge_turned(rt: &impl Abort, alloc: Global, case: &Case, frame: &mut Vec<u8>, place: usize) {
+fn judge_turned(
+    rt: &impl Abort,
+    alloc: Global,
+    case: &Case<'_>,
+    frame: &mut Vec<u8>,
+    place: usize,
+) {
     for bit in &BITS {
         turn(frame, place, *bit);
         let verdict = verdict_of_bit(case.turned, place, *bit).expect(rt, "a table");
@@ -280,18 +346,24 @@ fn judge_case(rt: &impl Abort, alloc: Global, case: &Case) {
     }
 }
 
+// The same of a case by its lines.
+fn judge_text(rt: &impl Abort, alloc: Global, text: &str) {
+    let case = case_of(rt, text.trim_end());
+    judge_case(rt, alloc, &case);
+    judge_longer(rt, alloc, &case);
+}
+
 // Asserts what becomes of frames.
-fn judge_all(rt: &impl Abort, alloc: Global, cases: &[Case]) {
-    for case in cases {
-        judge_case(rt, alloc, case);
-        judge_longer(rt, alloc, case);
+fn judge_all(rt: &impl Abort, alloc: Global, cases: &str) {
+    for text in cases.split('%') {
+        judge_text(rt, alloc, text);
     }
 }
 
 #[test]
 fn cut_and_turned_frames_are_met_as_they_must(rt: HostRuntime) {
-    judge_all(&rt, rt.alloc(), &CONTROL);
-    judge_all(&rt, rt.alloc(), &WORDS);
-    judge_all(&rt, rt.alloc(), &FROM_BELOW);
-    judge_all(&rt, rt.alloc(), &FROM_STATIONS);
+    judge_all(&rt, rt.alloc(), CONTROL);
+    judge_all(&rt, rt.alloc(), WORDS);
+    judge_all(&rt, rt.alloc(), FROM_BELOW);
+    judge_all(&rt, rt.alloc(), FROM_STATIONS);
 }

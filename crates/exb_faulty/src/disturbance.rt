@@ -19,7 +19,7 @@ pub struct Call {
 }
 
 /// Which calls are disturbed, by their numbers from 1, and how.
-#[derive(Clone, Copy, Debug, PartialEq, Eq)]
+#[derive(Clone, Copy, Debug)]
 pub enum Disturbance {
     /// None is.
     Quiet,

@@ -11,11 +11,6 @@ pub(crate) fn same_at(rt: &impl Abort, given: &str, wanted: &str, of: &str, plac
     assert_eq!(rt; given, wanted, "of {of} at {place}");
 }
 
-/// Asserts a status.
-pub(crate) fn same_status(rt: &impl Abort, given: u8, wanted: u8, of: &str) {
-    assert_eq!(rt; given, wanted, "of {of}");
-}
-
 /// Asserts a fact.
 pub(crate) fn holds(rt: &impl Abort, fact: bool, of: &str) {
     assert!(rt; fact, "{of}");

@@ -1,5 +1,6 @@
-//! Tests of files: captures, whole and in pieces, texts, topologies and shelves. The topologies are texts behind a driver;
-//! files that are cut or broken are tables of their own. Nothing stands on this crate.
+//! Tests of files: captures, whole and in pieces, checked and read again, and shelves. What the built program shows of files stands in
+//! `crates/exb_cases`. A table is one text with a row a line, `>` before what must come of it, and `#` before
+//! a comment. Nothing stands on this crate.
 #![tactic(auto)]
 
 #[cfg(test)]
@@ -17,10 +18,8 @@ mod reading;
 #[cfg(test)]
 mod replays;
 #[cfg(test)]
+mod rows;
+#[cfg(test)]
 mod scans;
 #[cfg(test)]
 mod shelves;
-#[cfg(test)]
-mod texts;
-#[cfg(test)]
-mod topologies;

@@ -108,24 +108,16 @@ impl<'a> Told<'a> {
         false
     }
 
-    // Puts what is answered of the file in these pieces, where it is asked behind each.
-    fn put_pieces(&mut self, rt: &impl Abort, reader: &mut Reader<Capture>, pieces: &[&[u8]]) {
-        for piece in pieces {
-            feed_whole(rt, reader, piece);
-            if !self.put_answers(rt, reader, false) {
-                return;
-            }
-        }
-        let open = self.put_answers(rt, reader, true);
-        holds(rt, !open, "an answer at the end");
-    }
-
-    // Puts what is answered of the file in pieces of so many bytes, where the end is told with the last of them.
+    // Puts what is answered of the file in pieces of so many bytes, where it is asked behind each, and once more when the end is told.
     fn put_sized(&mut self, rt: &impl Abort, reader: &mut Reader<Capture>, size: usize) {
         let mut left = self.file;
         for _piece in 0..9_999u32 {
-            if !self.put_answers(rt, reader, left.is_empty()) {
+            if !self.put_answers(rt, reader, false) {
                 return;
+            }
+            if left.is_empty() {
+                let open = self.put_answers(rt, reader, true);
+                return holds(rt, !open, "an answer at the end");
             }
             left = feed(rt, reader, left, size);
         }
@@ -172,13 +164,6 @@ pub(crate) fn whole_text(rt: &impl Abort, alloc: Global, file: &[u8]) -> String 
         same(rt, text.as_str(), plain.as_str(), "a classic file");
     }
     text
-}
-
-/// What is answered of a file in these pieces.
-pub(crate) fn pieces_text(rt: &impl Abort, alloc: Global, file: &[u8], pieces: &[&[u8]]) -> String {
-    let mut told = Told::new(alloc, file);
-    told.put_pieces(rt, &mut piece_reader(rt, alloc), pieces);
-    told.text
 }
 
 /// What is answered of a file in pieces of so many bytes.

@@ -6,123 +6,55 @@ ghost use Rattle.exb_capture.specs.Replaying.{IsKept};
 use crate::compare::{same, same_at};
 use crate::hostile::bytes_of;
 use crate::pcapng::ROW;
-use crate::scans::{CUTS, Change, MAGIC, capture, changed, name_of, shelf_with};
+use crate::scans::{CUTS, capture, changed, number, shelf_with};
 use exb_capture::{Replay, ReplayFault, Scanned, scan};
 use exb_faulty::{Disturbance, FaultyShelf};
 use exb_model::bytes::Bytes;
 use std::alloc::Global;
 use std::process::Abort;
-
-/// What was told: so many bytes, and the time of the first record. How the capture is changed when it is read again, and what comes
-/// of it.
-type Again = (u64, Option<u64>, Change, &'static str);
+use std::str::SplitWhitespace;
 
 const TIME: Option<u64> = Some(100_000_000_000);
 
 const LATER: Option<u64> = Some(100_000_000_001);
 
-const AGAIN: [Again; 28] = [
-    // The same file.
-    (
-        133,
-        TIME,
-        (0, MAGIC, 133),
-        "100000000000 60; 100000000000 0; 101000001000 1; end",
-    ),
-    (
-        116,
-        TIME,
-        (0, MAGIC, 116),
-        "100000000000 60; 100000000000 0; end",
-    ),
-    (24, None, (0, MAGIC, 24), "end"),
-    // It ends in a record, and between two.
-    (100, TIME, (0, MAGIC, 99), "Changed { at: 24 }"),
-    (
-        133,
-        TIME,
-        (0, MAGIC, 132),
-        "100000000000 60; 100000000000 0; Changed { at: 116 }",
-    ),
-    (
-        133,
-        TIME,
-        (0, MAGIC, 116),
-        "100000000000 60; 100000000000 0; Changed { at: 116 }",
-    ),
-    (
-        133,
-        TIME,
-        (0, MAGIC, 100),
-        "100000000000 60; Changed { at: 100 }",
-    ),
-    (133, TIME, (0, MAGIC, 24), "Changed { at: 24 }"),
-    (133, TIME, (0, MAGIC, 23), "Changed { at: 0 }"),
-    (133, TIME, (0, MAGIC, 0), "Changed { at: 0 }"),
-    // It goes on.
-    (
-        116,
-        TIME,
-        (0, MAGIC, 133),
-        "100000000000 60; 100000000000 0; Changed { at: 116 }",
-    ),
-    (
-        100,
-        TIME,
-        (0, MAGIC, 101),
-        "100000000000 60; Changed { at: 100 }",
-    ),
-    (24, None, (0, MAGIC, 100), "Changed { at: 24 }"),
-    // It breaks the grammar.
-    (
-        133,
-        TIME,
-        (0, [0x0A, 0x0D, 0x0D, 0x0A], 133),
-        "Changed { at: 8 }",
-    ),
-    (133, TIME, (4, [2, 0, 3, 0], 133), "Changed { at: 4 }"),
-    (133, TIME, (20, [105, 0, 0, 0], 133), "Changed { at: 20 }"),
-    (
-        133,
-        TIME,
-        (28, [0x40, 0x42, 0x0F, 0], 133),
-        "Changed { at: 28 }",
-    ),
-    (
-        133,
-        TIME,
-        (108, [0xFF; 4], 133),
-        "100000000000 60; Changed { at: 108 }",
-    ),
-    // It breaks it with the first byte behind what was told, and only later.
-    (
-        39,
-        None,
-        (28, [0x40, 0x42, 0x0F, 0], 100),
-        "Changed { at: 28 }",
-    ),
-    (
-        38,
-        None,
-        (28, [0x40, 0x42, 0x0F, 0], 100),
-        "Changed { at: 38 }",
-    ),
-    // Its first record comes early, with its last byte.
-    (133, LATER, (0, MAGIC, 133), "Changed { at: 24 }"),
-    (133, None, (0, MAGIC, 133), "Changed { at: 24 }"),
-    (100, LATER, (0, MAGIC, 100), "Changed { at: 24 }"),
-    (133, LATER, (0, MAGIC, 100), "Changed { at: 100 }"),
-    (133, LATER, (0, MAGIC, 101), "Changed { at: 24 }"),
-    (99, LATER, (0, MAGIC, 133), "Changed { at: 99 }"),
-    (98, LATER, (0, MAGIC, 133), "Changed { at: 98 }"),
-    // It comes later, and that is no other file.
-    (
-        100,
-        Some(99_999_999_999),
-        (0, MAGIC, 100),
-        "100000000000 60; end",
-    ),
-];
+/// What was told: so many bytes, and the time of the first record, `-` for none; how the capture is changed when it is read again, as in
+/// `scans`; and what comes of it.
+const AGAIN: &str = "# The same file.\n\
+     133 100000000000 0 D4C3B2A1 133 >100000000000 60; 100000000000 0; 101000001000 1; end\n\
+     116 100000000000 0 D4C3B2A1 116 >100000000000 60; 100000000000 0; end\n\
+     24 - 0 D4C3B2A1 24 >end\n\
+     # It ends in a record, and between two.\n\
+     100 100000000000 0 D4C3B2A1 99 >Changed { at: 24 }\n\
+     133 100000000000 0 D4C3B2A1 132 >100000000000 60; 100000000000 0; Changed { at: 116 }\n\
+     133 100000000000 0 D4C3B2A1 116 >100000000000 60; 100000000000 0; Changed { at: 116 }\n\
+     133 100000000000 0 D4C3B2A1 100 >100000000000 60; Changed { at: 100 }\n\
+     133 100000000000 0 D4C3B2A1 24 >Changed { at: 24 }\n\
+     133 100000000000 0 D4C3B2A1 23 >Changed { at: 0 }\n\
+     133 100000000000 0 D4C3B2A1 0 >Changed { at: 0 }\n\
+     # It goes on.\n\
+     116 100000000000 0 D4C3B2A1 133 >100000000000 60; 100000000000 0; Changed { at: 116 }\n\
+     100 100000000000 0 D4C3B2A1 101 >100000000000 60; Changed { at: 100 }\n\
+     24 - 0 D4C3B2A1 100 >Changed { at: 24 }\n\
+     # It breaks the grammar.\n\
+     133 100000000000 0 0A0D0D0A 133 >Changed { at: 8 }\n\
+     133 100000000000 4 02000300 133 >Changed { at: 4 }\n\
+     133 100000000000 20 69000000 133 >Changed { at: 20 }\n\
+     133 100000000000 28 40420F00 133 >Changed { at: 28 }\n\
+     133 100000000000 108 FFFFFFFF 133 >100000000000 60; Changed { at: 108 }\n\
+     # It breaks it with the first byte behind what was told, and only later.\n\
+     39 - 28 40420F00 100 >Changed { at: 28 }\n\
+     38 - 28 40420F00 100 >Changed { at: 38 }\n\
+     # Its first record comes early, with its last byte.\n\
+     133 100000000001 0 D4C3B2A1 133 >Changed { at: 24 }\n\
+     133 - 0 D4C3B2A1 133 >Changed { at: 24 }\n\
+     100 100000000001 0 D4C3B2A1 100 >Changed { at: 24 }\n\
+     133 100000000001 0 D4C3B2A1 100 >Changed { at: 100 }\n\
+     133 100000000001 0 D4C3B2A1 101 >Changed { at: 24 }\n\
+     99 100000000001 0 D4C3B2A1 133 >Changed { at: 99 }\n\
+     98 100000000001 0 D4C3B2A1 133 >Changed { at: 98 }\n\
+     # It comes later, and that is no other file.\n\
+     100 99999999999 0 D4C3B2A1 100 >100000000000 60; end";
 
 // Puts a text behind another.
 fn put(rt: &impl Abort, text: &mut String, more: &str) {
@@ -221,89 +153,80 @@ fn a_capture_that_was_checked_is_played_as_it_stands(rt: HostRuntime) {
     }
 }
 
-// Asserts what comes of a file that is changed so, where at most so many bytes are read at once.
-fn judge_cut(
-    rt: &impl Abort,
-    alloc: Global,
-    again: &Again,
-    file: &[u8],
-    scanned: Scanned,
-    most: usize,
-) {
-    let (_bytes, _first, change, wanted) = again;
-    let text = played(rt, alloc, file, Disturbance::Slow { bytes: most }, scanned);
-    let name = name_of(rt, alloc, change, most);
-    same(rt, text.as_str(), wanted, name.as_str());
+// What was told of a capture, by the words of a row.
+fn told_of(rt: &impl Abort, words: &mut SplitWhitespace<'_>) -> Scanned {
+    let bytes = number(rt, words.next());
+    let first = words.next().expect(rt, "a time, or none");
+    Scanned {
+        bytes,
+        records: 0,
+        first: first.parse::<u64>().ok(),
+    }
 }
 
-// The same however much is read at once.
-fn judge_again(rt: &impl Abort, alloc: Global, again: &Again) {
-    let (bytes, first, change, _wanted) = again;
-    let file = changed(rt, alloc, change);
-    let scanned = Scanned {
-        bytes: *bytes,
-        records: 0,
-        first: *first,
-    };
+// Asserts that of a file of which this was told comes what a row says, however much is read at once.
+fn judge_file(rt: &impl Abort, alloc: Global, scanned: Scanned, file: &[u8], row: &str) {
+    let (_told, wanted) = row.split_once('>').expect(rt, "what comes of it");
     for most in &CUTS {
-        judge_cut(rt, alloc, again, file.as_slice(), scanned, *most);
+        let text = played(rt, alloc, file, Disturbance::Slow { bytes: *most }, scanned);
+        same_at(rt, text.as_str(), wanted, row, *most);
     }
+}
+
+// The same of a row of changes.
+fn judge_again(rt: &impl Abort, alloc: Global, row: &str) {
+    if row.starts_with("#") {
+        return;
+    }
+    let mut words = row.split_whitespace();
+    let scanned = told_of(rt, &mut words);
+    let file = changed(rt, alloc, &mut words);
+    judge_file(rt, alloc, scanned, file.as_slice(), row);
 }
 
 #[test]
 fn a_change_shows_at_its_byte(rt: HostRuntime) {
-    for again in &AGAIN {
-        judge_again(&rt, rt.alloc(), again);
+    for row in AGAIN.lines() {
+        judge_again(&rt, rt.alloc(), row);
     }
 }
 
 /// What was told of a capture of pcapng, how many bytes of it there are when it is read again, and what comes of it.
-const BLOCKS_AGAIN: [(u64, Option<u64>, usize, &str); 10] = [
-    (156, TIME, 156, "100000000000 60; end"),
-    (140, TIME, 140, "100000000000 60; end"),
-    (140, TIME, 139, "Changed { at: 48 }"),
-    (156, TIME, 140, "100000000000 60; Changed { at: 140 }"),
-    (140, TIME, 156, "100000000000 60; Changed { at: 140 }"),
-    // Its first record comes early: where its block begins, but where the file ends with it or is told to end before it does.
-    (140, LATER, 140, "Changed { at: 48 }"),
-    (139, LATER, 140, "Changed { at: 139 }"),
-    (156, LATER, 140, "Changed { at: 140 }"),
-    (172, LATER, 156, "Changed { at: 48 }"),
-    (156, None, 156, "Changed { at: 48 }"),
-];
+const BLOCKS_AGAIN: &str = "156 100000000000 156 >100000000000 60; end\n\
+     140 100000000000 140 >100000000000 60; end\n\
+     140 100000000000 139 >Changed { at: 48 }\n\
+     156 100000000000 140 >100000000000 60; Changed { at: 140 }\n\
+     140 100000000000 156 >100000000000 60; Changed { at: 140 }\n\
+     # Its first record comes early: where its block begins, but where the file ends with it or is told to end before it does.\n\
+     140 100000000001 140 >Changed { at: 48 }\n\
+     139 100000000001 140 >Changed { at: 139 }\n\
+     156 100000000001 140 >Changed { at: 140 }\n\
+     172 100000000001 156 >Changed { at: 48 }\n\
+     156 - 156 >Changed { at: 48 }";
 
-// Asserts what comes of a capture of pcapng of which this was told, however much is read at once.
-fn judge_blocks(rt: &impl Abort, alloc: Global, scanned: Scanned, file: &[u8], wanted: &str) {
-    for most in &CUTS {
-        let text = played(rt, alloc, file, Disturbance::Slow { bytes: *most }, scanned);
-        same_at(rt, text.as_str(), wanted, "a capture of pcapng", file.len());
-    }
-}
-
-// The same of the front of the row's file, behind which stands a block that is skipped.
-fn judge_front(
-    rt: &impl Abort,
-    alloc: Global,
-    told: (u64, Option<u64>),
-    size: usize,
-    wanted: &str,
-) {
-    let (bytes, first) = told;
-    let scanned = Scanned {
-        bytes,
-        records: 0,
-        first,
-    };
+// The front of the row's file, behind which stands a block that is skipped.
+fn front_of(rt: &impl Abort, alloc: Global, size: u64) -> Vec<u8> {
     let text = format!(in alloc; "{ROW} 05000000 10000000 00000000 10000000").expect(rt, "memory");
     let mut file = bytes_of(rt, alloc, text.as_str());
-    file.truncate(size);
-    judge_blocks(rt, alloc, scanned, file.as_slice(), wanted);
+    file.truncate(size as usize);
+    file
+}
+
+// Asserts what comes of such a front, by a row.
+fn judge_front(rt: &impl Abort, alloc: Global, row: &str) {
+    if row.starts_with("#") {
+        return;
+    }
+    let mut words = row.split_whitespace();
+    let scanned = told_of(rt, &mut words);
+    let file = front_of(rt, alloc, number(rt, words.next()));
+    judge_file(rt, alloc, scanned, file.as_slice(), row);
 }
 
 #[test]
 fn a_change_of_pcapng_shows_at_its_byte(rt: HostRuntime) {
-    for (bytes, first, size, wanted) in &BLOCKS_AGAIN {
-        judge_front(&rt, rt.alloc(), (*bytes, *first), *size, wanted);
+    for row in BLOCKS_AGAIN.lines() {
+        judge_front(&rt, rt.alloc(), row);
     }
 }
 

@@ -1,11 +1,13 @@
 //! Captures that are checked, each on a shelf that reads at most so many bytes at once.
-use crate::compare::same;
+use crate::compare::{same, same_at};
+use crate::hostile::bytes_of;
 use crate::reading::of_plain;
 use exb_capture::{Fault, ScanFault, Scanned, header_text, record_text, scan};
 use exb_faulty::{Disturbance, FaultyShelf};
 use exb_flat_pcap::Reader;
 use std::alloc::Global;
 use std::process::Abort;
+use std::str::SplitWhitespace;
 
 /// The frames of a capture by their moments and lengths: one broadcast of 60 bytes at 100 s, and then an empty frame, one of a byte and
 /// one that is longer than what is read at once.
@@ -19,43 +21,37 @@ const FRAMES: [(u64, u32); 4] = [
 /// At most so many bytes are read at once.
 pub(crate) const CUTS: [usize; 5] = [1, 3, 16, 24, 65_536];
 
-/// Four bytes that stand at a place in the capture, and the length to which it is cut.
-pub(crate) type Change = (usize, [u8; 4], usize);
+/// Changes of the capture: the place of four bytes, these, which are those that stand there where nothing changes, and the length to
+/// which it is cut.
+const CHANGED: &str = "0 D4C3B2A1 100\n\
+     0 D4C3B2A1 0\n\
+     0 D4C3B2A1 3\n\
+     0 D4C3B2A1 23\n\
+     0 D4C3B2A1 24\n\
+     0 D4C3B2A1 39\n\
+     0 D4C3B2A1 99\n\
+     0 D4C3B2A1 116\n\
+     0 D4C3B2A1 117\n\
+     0 D4C3B2A1 133\n\
+     4 02000300 100\n\
+     20 69000000 100\n\
+     28 40420F00 100\n\
+     32 FFFFFFFF 100\n\
+     108 FFFFFFFF 133";
 
-/// The first four bytes of the capture: nothing changes where they stand there.
-pub(crate) const MAGIC: [u8; 4] = [0xD4, 0xC3, 0xB2, 0xA1];
-
-const CHANGED: [Change; 15] = [
-    (0, MAGIC, 100),
-    (0, MAGIC, 0),
-    (0, MAGIC, 3),
-    (0, MAGIC, 23),
-    (0, MAGIC, 24),
-    (0, MAGIC, 39),
-    (0, MAGIC, 99),
-    (0, MAGIC, 116),
-    (0, MAGIC, 117),
-    (0, MAGIC, 133),
-    (4, [2, 0, 3, 0], 100),
-    (20, [105, 0, 0, 0], 100),
-    (28, [0x40, 0x42, 0x0F, 0], 100),
-    (32, [0xFF; 4], 100),
-    (108, [0xFF; 4], 133),
-];
-
-/// A length to which the capture is cut, how many bytes may be read, and what is told of it.
-const LIMITED: [(usize, u64, &str); 10] = [
-    (100, 100, "100 1 Some(100000000000)"),
-    (100, 99, "Large { limit: 99 }"),
-    (100, 39, "Large { limit: 39 }"),
-    (100, 24, "Large { limit: 24 }"),
-    (100, 3, "Large { limit: 3 }"),
-    (100, 0, "Large { limit: 0 }"),
-    (24, 24, "24 0 None"),
-    (99, 100, "Fault { fault: Fault { flaw: Cut, at: 24 } }"),
-    (99, 99, "Fault { fault: Fault { flaw: Cut, at: 24 } }"),
-    (99, 98, "Large { limit: 98 }"),
-];
+/// A change, how many bytes may be read, and what is told. A time that is none is a fault whatever follows, which comes before the limit.
+const LIMITED: &str = "0 D4C3B2A1 100 100>100 1 Some(100000000000)\n\
+     0 D4C3B2A1 100 99>Large { limit: 99 }\n\
+     0 D4C3B2A1 100 39>Large { limit: 39 }\n\
+     0 D4C3B2A1 100 24>Large { limit: 24 }\n\
+     0 D4C3B2A1 100 3>Large { limit: 3 }\n\
+     0 D4C3B2A1 100 0>Large { limit: 0 }\n\
+     0 D4C3B2A1 24 24>24 0 None\n\
+     0 D4C3B2A1 99 100>Fault { fault: Fault { flaw: Cut, at: 24 } }\n\
+     0 D4C3B2A1 99 99>Fault { fault: Fault { flaw: Cut, at: 24 } }\n\
+     0 D4C3B2A1 99 98>Large { limit: 98 }\n\
+     28 40420F00 100 40>Fault { fault: Fault { flaw: Time, at: 28 } }\n\
+     28 40420F00 100 39>Large { limit: 39 }";
 
 // Puts a record behind what a capture holds.
 fn put_record(rt: &impl Abort, file: &mut Vec<u8>, moment: u64, length: u32) {
@@ -82,14 +78,21 @@ fn put_byte(rt: &impl Abort, file: &mut Vec<u8>, at: usize, byte: u8) {
     *file.get_mut(at).expect(rt, "a place in the file") = byte;
 }
 
-// The capture of the first three with a change.
-pub(crate) fn changed(rt: &impl Abort, alloc: Global, change: &Change) -> Vec<u8> {
-    let (at, four, length) = change;
+/// The number that a word is.
+pub(crate) fn number(rt: &impl Abort, word: Option<&str>) -> u64 {
+    let word = word.expect(rt, "a word");
+    word.parse::<u64>().expect(rt, "a number")
+}
+
+// The capture of the first three with what the words of a change say.
+pub(crate) fn changed(rt: &impl Abort, alloc: Global, words: &mut SplitWhitespace<'_>) -> Vec<u8> {
+    let at = number(rt, words.next()) as usize;
+    let four = bytes_of(rt, alloc, words.next().expect(rt, "four bytes"));
     let mut file = capture(rt, alloc, 3);
-    for (offset, byte) in four.iter().enumerate() {
+    for (offset, byte) in four.as_slice().iter().enumerate() {
         put_byte(rt, &mut file, at.saturating_add(offset), *byte);
     }
-    file.truncate(*length);
+    file.truncate(number(rt, words.next()) as usize);
     file
 }
 
@@ -165,37 +168,19 @@ fn scan_text(rt: &impl Abort, alloc: Global, file: &[u8], bytes: usize, limit: u
     shelf_text(rt, alloc, &mut shelf, limit)
 }
 
-/// Names a change, and how many bytes are read at once.
-pub(crate) fn name_of(rt: &impl Abort, alloc: Global, change: &Change, most: usize) -> String {
-    format!(in alloc; "{change:?}, {most} at once").expect(rt, "memory")
-}
-
-// Asserts that a scan tells of a file that is changed so what the whole reader reads, where at most so many bytes are read at once.
-fn judge_cut(
-    rt: &impl Abort,
-    alloc: Global,
-    change: &Change,
-    file: &[u8],
-    most: usize,
-    whole: &str,
-) {
-    let told = scan_text(rt, alloc, file, most, 1_000_000);
-    let name = name_of(rt, alloc, change, most);
-    same(rt, told.as_str(), whole, name.as_str());
-}
-
-// The same however much is read at once.
-fn judge_change(rt: &impl Abort, alloc: Global, change: &Change) {
-    let file = changed(rt, alloc, change);
+// Asserts that a scan tells of a changed file what the whole reader reads, however much is read at once.
+fn judge_change(rt: &impl Abort, alloc: Global, change: &str) {
+    let file = changed(rt, alloc, &mut change.split_whitespace());
     let whole = whole_text(rt, alloc, file.as_slice());
     for most in &CUTS {
-        judge_cut(rt, alloc, change, file.as_slice(), *most, whole.as_str());
+        let told = scan_text(rt, alloc, file.as_slice(), *most, 1_000_000);
+        same_at(rt, told.as_str(), whole.as_str(), change, *most);
     }
 }
 
 #[test]
 fn a_scan_tells_what_the_plain_reader_reads(rt: HostRuntime) {
-    for change in &CHANGED {
+    for change in CHANGED.lines() {
         judge_change(&rt, rt.alloc(), change);
     }
 }
@@ -214,33 +199,19 @@ fn a_long_frame_is_read_in_pieces(rt: HostRuntime) {
 }
 
 // Asserts what is told of a changed capture of which at most so many bytes may be read, seven at once.
-fn judge_limit(rt: &impl Abort, alloc: Global, change: &Change, limit: u64, wanted: &str) {
-    let file = changed(rt, alloc, change);
-    let told = scan_text(rt, alloc, file.as_slice(), 7, limit);
-    let name = name_of(rt, alloc, change, 7);
-    same(rt, told.as_str(), wanted, name.as_str());
+fn judge_limit(rt: &impl Abort, alloc: Global, row: &str) {
+    let (change, wanted) = row.split_once('>').expect(rt, "what is told");
+    let mut words = change.split_whitespace();
+    let file = changed(rt, alloc, &mut words);
+    let told = scan_text(rt, alloc, file.as_slice(), 7, number(rt, words.next()));
+    same(rt, told.as_str(), wanted, row);
 }
 
 #[test]
 fn a_scan_keeps_its_limit(rt: HostRuntime) {
-    for (length, limit, wanted) in &LIMITED {
-        judge_limit(&rt, rt.alloc(), &(0, MAGIC, *length), *limit, wanted);
+    for row in LIMITED.lines() {
+        judge_limit(&rt, rt.alloc(), row);
     }
-}
-
-/// A time that is none, which is a fault whatever follows.
-const LATE: Change = (28, [0x40, 0x42, 0x0F, 0], 100);
-
-#[test]
-fn a_fault_that_stands_comes_before_the_limit(rt: HostRuntime) {
-    judge_limit(
-        &rt,
-        rt.alloc(),
-        &LATE,
-        40,
-        "Fault { fault: Fault { flaw: Time, at: 28 } }",
-    );
-    judge_limit(&rt, rt.alloc(), &LATE, 39, "Large { limit: 39 }");
 }
 
 #[test]
@@ -250,9 +221,12 @@ fn a_capture_may_be_missing(rt: HostRuntime) {
     same(&rt, told.as_str(), "Missing", "a capture that is missing");
 }
 
+/// A time that is none.
+const LATE: &str = "28 40420F00 100";
+
 #[test]
 fn a_read_may_fail(rt: HostRuntime) {
-    let late = changed(&rt, rt.alloc(), &LATE);
+    let late = changed(&rt, rt.alloc(), &mut LATE.split_whitespace());
     let mut fails = shelf_with(
         &rt,
         rt.alloc(),

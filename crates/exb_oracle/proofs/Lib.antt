@@ -1,7 +1,5 @@
-pub mod ConfigLemmas
 pub mod HistoryLemmas
 pub mod LearningLemmas
-pub mod TargetLemmas
 pub mod RelayLaws
 pub mod LearningLaws
 pub mod Reaching

@@ -1,5 +1,3 @@
-pub mod Configs
-pub mod Histories
 pub mod Laws
 pub mod Reaching
 pub mod Staying
@@ -8,4 +6,3 @@ pub mod Playing
 pub mod Counting
 pub mod Telling
 pub mod Setups
-pub mod Plain

@@ -1,13 +1,7 @@
-//! Tests of schedules: a world that words move by single steps, how often its fate is asked, and how many rounds settling takes. Whole runs,
-//! of seeds too, are cases of `exb_cases`. Nothing stands on this crate.
+//! Tests of schedules: a world that words move by single steps, what is on its links and planned, and how often its fate is asked where it keeps no
+//! trace. Whole runs, of seeds and over links that disturb too, are cases of `exb_cases`. Nothing stands on this crate.
 #![tactic(auto)]
 
-#[cfg(test)]
-mod hex;
-#[cfg(test)]
-mod plans;
-#[cfg(test)]
-mod rounds;
 #[cfg(test)]
 mod steps;
 #[cfg(test)]

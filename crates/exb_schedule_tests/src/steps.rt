@@ -81,21 +81,9 @@ pub(crate) fn beat(rt: &impl Abort, world: &mut World) {
     world.step(Step::Beat).expect(rt, "memory");
 }
 
-/// Seconds pass.
-pub(crate) fn tick(rt: &impl Abort, world: &mut World, seconds: u32) {
-    assert!(rt; world.can(&Step::Tick { seconds }));
-    world.step(Step::Tick { seconds }).expect(rt, "memory");
-}
-
-/// A record arrives.
-pub(crate) fn arrive(
-    rt: &impl Abort,
-    world: &mut World,
-    port: PortId,
-    index: u64,
-    moment: u64,
-    bytes: &[u8],
-) {
+/// A record arrives, at the moment 0.
+pub(crate) fn arrive(rt: &impl Abort, world: &mut World, port: PortId, index: u64, bytes: &[u8]) {
+    let moment = 0u64;
     assert!(rt;
         world.can(&Step::Arrive {
             port,
@@ -114,11 +102,20 @@ pub(crate) fn arrive(
         .expect(rt, "memory");
 }
 
-/// The fate is armed.
-pub(crate) fn arm(rt: &impl Abort, world: &mut World, plan: &[Verdict]) {
+// The fate is armed.
+fn arm(rt: &impl Abort, world: &mut World, plan: &[Verdict]) {
     assert!(rt; world.fate_left() < MANY);
     assert!(rt; plan.len() < 1_000_000);
     world.arm(plan).expect(rt, "memory");
+}
+
+/// The fate is armed with so many plain deliveries.
+pub(crate) fn arm_with(rt: &impl Abort, alloc: Global, world: &mut World, count: u64) {
+    let mut plan = Vec::new(alloc);
+    for _ in 0..count {
+        plan.push(Verdict::Pass).expect(rt, "memory");
+    }
+    arm(rt, world, plan.as_slice());
 }
 
 // A command is given.
@@ -139,13 +136,8 @@ pub(crate) fn asked(world: &World, armed: u64) -> u64 {
     armed.saturating_sub(world.fate_left())
 }
 
-/// Of so many verdicts, if there are any, one was given at least.
-pub(crate) fn expect_spent(rt: &impl Abort, world: &World, armed: u64) {
-    assert!(rt; armed == 0 || asked(world, armed) > 0);
-}
-
-/// What is settled is marked.
-pub(crate) fn mark(rt: &impl Abort, world: &mut World) {
+// What is settled is marked.
+fn mark(rt: &impl Abort, world: &mut World) {
     assert!(rt; world.can(&Step::Mark));
     world.step(Step::Mark).expect(rt, "memory");
 }
@@ -163,18 +155,13 @@ fn settled(rt: &impl Abort, world: &mut World) -> u64 {
     settle(world).expect(rt, "memory")
 }
 
-// How many beats there were.
-fn beats(world: &World) -> u64 {
-    world.beats()
-}
-
 // All settles within its bound, and in as many beats as it says.
 fn settle_in_bound(rt: &impl Abort, world: &mut World) {
     let bound = bound_of(rt, world);
-    let before = beats(world);
+    let before = world.beats();
     let made = settled(rt, world);
     assert!(rt; made <= bound);
-    assert!(rt; beats(world).saturating_sub(before) == made);
+    assert!(rt; world.beats().saturating_sub(before) == made);
 }
 
 /// All settles within its bound, and is marked.

@@ -19,62 +19,25 @@ const CLASSIC: &str =
 const BLOCKS: &str =
     "0A0D0D0A 1C000000 4D3C2B1A 01000000 8xFF 1C000000 01000000 14000000 01000000 00000400 14000000 06000000 5C000000 00000000 00000000 00E1F505 3C000000 3C000000 60x00 5C000000";
 
-/// What stands in the place of a capture when it is read again, and what is said.
-type Changed = (&'static str, &'static str);
-
-/// In the place of the classic one: one that ends sooner, one that goes on, one of another kind, one that begins sooner, and none that is read.
-const CLASSIC_CHANGED: [Changed; 5] = [
-    (
-        "D4C3B2A1 02000400 8x00 00000400 01000000 64000000 00000000 3C000000 3C000000 59x00",
-        "exbr: capture x1.1: Changed at 24\n",
-    ),
-    (
-        "D4C3B2A1 02000400 8x00 00000400 01000000 64000000 00000000 3C000000 3C000000 61x00",
-        "exbr: capture x1.1: Changed at 100\n",
-    ),
-    (
-        "D4C3B2A1 02000400 8x00 00000400 69000000 64000000 00000000 3C000000 3C000000 60x00",
-        "exbr: capture x1.1: Changed at 20\n",
-    ),
-    (
-        "D4C3B2A1 02000400 8x00 00000400 01000000 63000000 00000000 3C000000 3C000000 60x00",
-        "exbr: capture x1.1: Changed at 24\n",
-    ),
-    ("100x00", "exbr: capture x1.1: Changed at 0\n"),
-];
+/// What stands in the place of the classic one when it is read again, and the byte at which it changed: one that ends sooner, one that goes on, one of
+/// another kind, one that begins sooner, and none that is read.
+const CLASSIC_CHANGED: &str =
+    "D4C3B2A1 02000400 8x00 00000400 01000000 64000000 00000000 3C000000 3C000000 59x00>24\n\
+     D4C3B2A1 02000400 8x00 00000400 01000000 64000000 00000000 3C000000 3C000000 61x00>100\n\
+     D4C3B2A1 02000400 8x00 00000400 69000000 64000000 00000000 3C000000 3C000000 60x00>20\n\
+     D4C3B2A1 02000400 8x00 00000400 01000000 63000000 00000000 3C000000 3C000000 60x00>24\n\
+     100x00>0";
 
 /// In the place of the other: one that ends sooner, one that goes on with a skipped block, one of another kind, one without that interface, one
 /// whose packet's lengths differ, one that begins sooner, and one without a packet.
-const BLOCKS_CHANGED: [Changed; 7] = [
-    (
-        "0A0D0D0A 1C000000 4D3C2B1A 01000000 8xFF 1C000000 01000000 14000000 01000000 00000400 14000000 06000000 5C000000 00000000 00000000 00E1F505 3C000000 3C000000 60x00 5C0000",
-        "exbr: capture x1.1: Changed at 48\n",
-    ),
-    (
-        "0A0D0D0A 1C000000 4D3C2B1A 01000000 8xFF 1C000000 01000000 14000000 01000000 00000400 14000000 06000000 5C000000 00000000 00000000 00E1F505 3C000000 3C000000 60x00 5C000000 05000000 10000000 00000000 10000000",
-        "exbr: capture x1.1: Changed at 140\n",
-    ),
-    (
-        "0A0D0D0A 1C000000 4D3C2B1A 01000000 8xFF 1C000000 01000000 14000000 69000000 00000400 14000000 06000000 5C000000 00000000 00000000 00E1F505 3C000000 3C000000 60x00 5C000000",
-        "exbr: capture x1.1: Changed at 56\n",
-    ),
-    (
-        "0A0D0D0A 1C000000 4D3C2B1A 01000000 8xFF 1C000000 01000000 14000000 01000000 00000400 14000000 06000000 5C000000 01000000 00000000 00E1F505 3C000000 3C000000 60x00 5C000000",
-        "exbr: capture x1.1: Changed at 56\n",
-    ),
-    (
-        "0A0D0D0A 1C000000 4D3C2B1A 01000000 8xFF 1C000000 01000000 14000000 01000000 00000400 14000000 06000000 5C000000 00000000 00000000 00E1F505 3C000000 3C000000 60x00 5D000000",
-        "exbr: capture x1.1: Changed at 136\n",
-    ),
-    (
-        "0A0D0D0A 1C000000 4D3C2B1A 01000000 8xFF 1C000000 01000000 14000000 01000000 00000400 14000000 06000000 5C000000 00000000 00000000 00E1F504 3C000000 3C000000 60x00 5C000000",
-        "exbr: capture x1.1: Changed at 48\n",
-    ),
-    (
-        "0A0D0D0A 1C000000 4D3C2B1A 01000000 8xFF 1C000000 01000000 14000000 01000000 00000400 14000000",
-        "exbr: capture x1.1: Changed at 48\n",
-    ),
-];
+const BLOCKS_CHANGED: &str =
+    "0A0D0D0A 1C000000 4D3C2B1A 01000000 8xFF 1C000000 01000000 14000000 01000000 00000400 14000000 06000000 5C000000 00000000 00000000 00E1F505 3C000000 3C000000 60x00 5C0000>48\n\
+     0A0D0D0A 1C000000 4D3C2B1A 01000000 8xFF 1C000000 01000000 14000000 01000000 00000400 14000000 06000000 5C000000 00000000 00000000 00E1F505 3C000000 3C000000 60x00 5C000000 05000000 10000000 00000000 10000000>140\n\
+     0A0D0D0A 1C000000 4D3C2B1A 01000000 8xFF 1C000000 01000000 14000000 69000000 00000400 14000000 06000000 5C000000 00000000 00000000 00E1F505 3C000000 3C000000 60x00 5C000000>56\n\
+     0A0D0D0A 1C000000 4D3C2B1A 01000000 8xFF 1C000000 01000000 14000000 01000000 00000400 14000000 06000000 5C000000 01000000 00000000 00E1F505 3C000000 3C000000 60x00 5C000000>56\n\
+     0A0D0D0A 1C000000 4D3C2B1A 01000000 8xFF 1C000000 01000000 14000000 01000000 00000400 14000000 06000000 5C000000 00000000 00000000 00E1F505 3C000000 3C000000 60x00 5D000000>136\n\
+     0A0D0D0A 1C000000 4D3C2B1A 01000000 8xFF 1C000000 01000000 14000000 01000000 00000400 14000000 06000000 5C000000 00000000 00000000 00E1F504 3C000000 3C000000 60x00 5C000000>48\n\
+     0A0D0D0A 1C000000 4D3C2B1A 01000000 8xFF 1C000000 01000000 14000000 01000000 00000400 14000000>48";
 
 // Puts a file on a shelf.
 fn put_there(rt: &impl Abort, shelf: &mut ChangingShelf, name: &str, bytes: &[u8]) {
@@ -101,12 +64,22 @@ fn expect_changed(rt: &impl Abort, alloc: Global, first: &str, again: &str, line
     holds(rt, shelf.file("out-journal.txt").is_some(), "the journal");
 }
 
+// The same of a row of a table.
+fn expect_row(rt: &impl Abort, alloc: Global, first: &str, row: &str) {
+    let (again, at) = row.split_once('>').expect(rt, "a byte");
+    let line = format!(in alloc; "exbr: capture x1.1: Changed at {at}\n").expect(rt, "memory");
+    expect_changed(rt, alloc, first, again, line.as_str());
+}
+
+// The same of each row.
+fn judge(rt: &impl Abort, alloc: Global, first: &str, rows: &str) {
+    for row in rows.lines() {
+        expect_row(rt, alloc, first, row);
+    }
+}
+
 #[test]
 fn a_capture_that_changes_ends_its_run(rt: HostRuntime) {
-    for (again, line) in &CLASSIC_CHANGED {
-        expect_changed(&rt, rt.alloc(), CLASSIC, again, line);
-    }
-    for (again, line) in &BLOCKS_CHANGED {
-        expect_changed(&rt, rt.alloc(), BLOCKS, again, line);
-    }
+    judge(&rt, rt.alloc(), CLASSIC, CLASSIC_CHANGED);
+    judge(&rt, rt.alloc(), BLOCKS, BLOCKS_CHANGED);
 }

@@ -8,8 +8,6 @@ mod changing;
 #[cfg(test)]
 mod compare;
 #[cfg(test)]
-mod failures;
-#[cfg(test)]
 mod hex;
 #[cfg(test)]
 mod runs;

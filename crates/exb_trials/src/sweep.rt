@@ -8,7 +8,7 @@ use crate::compare::{holds, same_status};
 use crate::hex::bytes_of;
 use crate::runs::play;
 use exb_faulty::{Asked, Call, Disturbance, FaultyShelf, FaultySink};
-use runs::{BARE, LOSSY, NET, Run, TREE};
+use runs::{BARE, LOSSY, NET, ONE, Run, TREE};
 use std::alloc::Global;
 use std::process::Abort;
 
@@ -223,9 +223,11 @@ impl<'a> Bench<'a> {
         same_status(rt, played.status, status, name.as_str());
         let printed = is_printed(played.out.text(), line.as_bytes(), of_sink);
         holds(rt, printed, name.as_str());
-        self.judge_outputs(rt, &played, of_shelf == Disturbance::Quiet || status == 0);
+        let quiet = matches!(of_shelf, Disturbance::Quiet);
+        self.judge_outputs(rt, &played, quiet || status == 0);
         self.judge_taken(rt, &played);
         self.judge_others(rt, &played);
+        drop(played);
     }
 
     // Asserts what comes of it where a call is disturbed.
@@ -397,22 +399,46 @@ fn judge_writes(rt: &impl Abort, bench: &Bench<'_>) {
     holds(rt, bench.whole.out.calls().len() == 1, "lines");
 }
 
-// Has each call of a run fail or want memory, also where other texts are there under the names of its outputs.
-fn fail_run(rt: &impl Abort, alloc: Global, run: &Run) {
-    let bench = Bench::new(rt, alloc, run, "");
+// A bench for a run, over texts that are there under the names of its outputs; none is where the text is empty.
+fn bench_of<'a>(rt: &impl Abort, alloc: Global, run: &'a Run, before: &'a str) -> Bench<'a> {
+    let bench = Bench::new(rt, alloc, run, before);
     judge_reads(rt, &bench);
     judge_writes(rt, &bench);
+    bench
+}
+
+// Has each call of a run fail or want memory, where nothing is there under the names of its outputs.
+fn fail_fresh(rt: &impl Abort, alloc: Global, run: &Run) {
+    let bench = bench_of(rt, alloc, run, "");
     bench.fail(rt);
-    let bench = Bench::new(rt, alloc, run, BEFORE);
-    judge_reads(rt, &bench);
-    judge_writes(rt, &bench);
+    drop(bench);
+}
+
+// The same where other texts are there.
+fn fail_over(rt: &impl Abort, alloc: Global, run: &Run) {
+    let bench = bench_of(rt, alloc, run, BEFORE);
     bench.stop(rt);
+    drop(bench);
+}
+
+// Has each call of a run fail or want memory.
+fn fail_run(rt: &impl Abort, alloc: Global, run: &Run) {
+    fail_fresh(rt, alloc, run);
+    fail_over(rt, alloc, run);
 }
 
 // Has each call of a run move fewer bytes than it could, and go on, or fail at the next one.
 fn shorten_run(rt: &impl Abort, alloc: Global, run: &Run, stops: bool) {
-    let bench = Bench::new(rt, alloc, run, "");
+    let bench = bench_of(rt, alloc, run, "");
     bench.shorten(rt, stops);
+    drop(bench);
+}
+
+#[test]
+fn each_failing_call_of_one_extender_is_answered_as_it_must(rt: HostRuntime) {
+    for run in &ONE {
+        fail_run(&rt, rt.alloc(), run);
+    }
 }
 
 #[test]

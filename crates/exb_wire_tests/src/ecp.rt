@@ -1,37 +1,27 @@
 //! ECP: what the bytes of a frame say, and what is sent again and handed up.
 use crate::formats::{Format, judge};
-use crate::words::{expect, expect_bytes, number};
+use crate::words::{expect, expect_bytes, number, row_of};
 use exb_ecp::{Beat, Ecp, Pdu, write};
 use exb_model::address::Mac;
 use exb_model::buffers::ControlBuf;
 use std::alloc::Global;
 use std::process::Abort;
 
-const FRAMES: &[(&str, &str)] = &[
-    (
-        "0180C200000E 024542000000 8940 14020001",
-        "Pdu { acknowledgement: true, subtype: 2, sequence: 1, payload_at: 18 }",
-    ),
-    (
-        "0180C200000E 024542000000 8940 10020102 0708",
-        "Pdu { acknowledgement: false, subtype: 2, sequence: 258, payload_at: 18 }",
-    ),
-    // Another subtype is read, and so is an acknowledgement with a payload.
-    (
-        "0180C200000E 024542000000 8940 17FF0001 05",
-        "Pdu { acknowledgement: true, subtype: 1023, sequence: 1, payload_at: 18 }",
-    ),
-    ("0180C200000E 024542000000 8940 20020001", "Version"),
-    ("0180C200000E 024542000000 8940 18020001", "Operation"),
-    ("0180C200000E 024542000000 8940 1C020001", "Operation"),
-    // The version is tried before the operation, and the length before both.
-    ("0180C200000E 024542000000 8940 0C020001", "Version"),
-    ("0180C200000E 024542000000 8940 200200", "Cut"),
-    ("0180C200000E 024542000000 8940", "Cut"),
-    // Too short, and another type.
-    ("0180C200000E 024542000000 89", "NotEcp"),
-    ("0180C200000E 024542000000 88CC 14020001", "NotEcp"),
-];
+const FRAMES: &str =
+    "0180C200000E 024542000000 8940 14020001>Pdu { acknowledgement: true, subtype: 2, sequence: 1, payload_at: 18 }\n\
+     0180C200000E 024542000000 8940 10020102 0708>Pdu { acknowledgement: false, subtype: 2, sequence: 258, payload_at: 18 }\n\
+     # Another subtype is read, and so is an acknowledgement with a payload.\n\
+     0180C200000E 024542000000 8940 17FF0001 05>Pdu { acknowledgement: true, subtype: 1023, sequence: 1, payload_at: 18 }\n\
+     0180C200000E 024542000000 8940 20020001>Version\n\
+     0180C200000E 024542000000 8940 18020001>Operation\n\
+     0180C200000E 024542000000 8940 1C020001>Operation\n\
+     # The version is tried before the operation, and the length before both.\n\
+     0180C200000E 024542000000 8940 0C020001>Version\n\
+     0180C200000E 024542000000 8940 200200>Cut\n\
+     0180C200000E 024542000000 8940>Cut\n\
+     # Too short, and another type.\n\
+     0180C200000E 024542000000 89>NotEcp\n\
+     0180C200000E 024542000000 88CC 14020001>NotEcp";
 
 #[test]
 fn frames_are_read(rt: HostRuntime) {
@@ -126,34 +116,41 @@ fn step(rt: &impl Abort, alloc: Global, ecp: &mut Ecp, step: &str, wanted: &str)
     }
 }
 
-const STEPS: &[(&str, &str)] = &[
-    ("submit", "(1, 1, [7, 8])"),
-    ("beat 11", "Some((3, SendAgain))"),
-    ("beat 8", "Some((3, SendAgain))"),
-    ("beat 5", "Some((3, SendAgain))"),
-    ("beat 2", "None"),
-    ("beat 1", "Some((1, GaveUp))"),
-    ("beat 30", "None"),
-    ("submit", "(2, 2, [7, 8])"),
-    // The acknowledgement of its sequence alone ends it.
-    ("acked 1", "false"),
-    ("acked 2", "true"),
-    ("beat 30", "None"),
-    ("submit", "(3, 3, [7, 8])"),
-    ("stop", "(true, 0)"),
-    // Sequence 0 comes after 65535.
-    ("many 65532", "65535"),
-    ("submit", "(0, 0, [7, 8])"),
-    // A request is handed up unless its sequence is that of the last one.
-    ("received 1", "true"),
-    ("received 1", "false"),
-    ("received 2", "true"),
-];
+// The same of a row.
+fn judge_step(rt: &impl Abort, alloc: Global, ecp: &mut Ecp, row: &str) {
+    if row.starts_with("#") {
+        return;
+    }
+    let (words, wanted) = row_of(rt, row);
+    step(rt, alloc, ecp, words, wanted);
+}
+
+const STEPS: &str = "submit>(1, 1, [7, 8])\n\
+     beat 11>Some((3, SendAgain))\n\
+     beat 8>Some((3, SendAgain))\n\
+     beat 5>Some((3, SendAgain))\n\
+     beat 2>None\n\
+     beat 1>Some((1, GaveUp))\n\
+     beat 30>None\n\
+     submit>(2, 2, [7, 8])\n\
+     # The acknowledgement of its sequence alone ends it.\n\
+     acked 1>false\n\
+     acked 2>true\n\
+     beat 30>None\n\
+     submit>(3, 3, [7, 8])\n\
+     stop>(true, 0)\n\
+     # Sequence 0 comes after 65535.\n\
+     many 65532>65535\n\
+     submit>(0, 0, [7, 8])\n\
+     # A request is handed up unless its sequence is that of the last one.\n\
+     received 1>true\n\
+     received 1>false\n\
+     received 2>true";
 
 #[test]
 fn what_is_submitted_is_sent_until_it_is_acknowledged(rt: HostRuntime) {
     let mut ecp = Ecp::new();
-    for (words, wanted) in STEPS {
-        step(&rt, rt.alloc(), &mut ecp, words, wanted);
+    for row in STEPS.lines() {
+        judge_step(&rt, rt.alloc(), &mut ecp, row);
     }
 }

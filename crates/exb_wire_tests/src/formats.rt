@@ -1,6 +1,6 @@
 //! What bytes are read as.
 use crate::messages::read_and_write;
-use crate::words::{bytes_of, expect, expect_read};
+use crate::words::{bytes_of, expect, expect_read, row_of};
 use exb_frame::classify::classify;
 use exb_frame::etag::ETag;
 use std::alloc::Global;
@@ -27,10 +27,19 @@ fn expect_in(rt: &impl Abort, alloc: Global, format: Format, bytes: &[u8], wante
     }
 }
 
-/// Asserts what the bytes of each case say, or their first fault.
-pub(crate) fn judge(rt: &impl Abort, alloc: Global, format: Format, cases: &[(&str, &str)]) {
-    for (text, wanted) in cases {
-        let bytes = bytes_of(rt, alloc, text);
-        expect_in(rt, alloc, format, bytes.as_slice(), wanted, text);
+// The same of a row.
+fn judge_row(rt: &impl Abort, alloc: Global, format: Format, row: &str) {
+    if row.starts_with("#") {
+        return;
+    }
+    let (text, wanted) = row_of(rt, row);
+    let bytes = bytes_of(rt, alloc, text);
+    expect_in(rt, alloc, format, bytes.as_slice(), wanted, text);
+}
+
+/// Asserts what the bytes of each row say, or their first fault.
+pub(crate) fn judge(rt: &impl Abort, alloc: Global, format: Format, rows: &str) {
+    for row in rows.lines() {
+        judge_row(rt, alloc, format, row);
     }
 }

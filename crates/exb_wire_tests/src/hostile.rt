@@ -21,16 +21,44 @@ use std::alloc::Global;
 use std::fmt::Debug;
 use std::process::Abort;
 
-/// A good spelling and what is read of it, by places from 0.
-struct Case {
-    good: &'static str,
+/// A good spelling and what is read of it, by places from 0. It stands in a line for each field, behind a comment or none, with `%` before each
+/// further case.
+#[derive(Clone, Copy)]
+struct Case<'a> {
+    good: &'a str,
     /// What is read where it is cut before a place: `PLACE VERDICT|`, up to the next entry's place. It isn't cut where there is none.
-    cut: &'static str,
+    cut: &'a str,
     /// What is read with a bit turned: `FIRST-LAST.BITS VERDICT|`; the first entry that has the place and the bit counts. No bit is
     /// turned that none has.
-    turned: &'static str,
+    turned: &'a str,
     /// What is read with a byte more at its end.
-    longer: &'static str,
+    longer: &'a str,
+}
+
+// What stands behind a comment, if there is one.
+fn bare(text: &str) -> &str {
+    match text.split_once('\n') {
+        Some((first, rest)) if first.starts_with("#") => rest,
+        _ => text,
+    }
+}
+
+// The first line of a text, and what stands below it.
+fn line<'a>(rt: &impl Abort, text: &'a str) -> (&'a str, &'a str) {
+    text.split_once('\n').expect(rt, "a line")
+}
+
+// The case of its lines.
+fn case_of<'a>(rt: &impl Abort, text: &'a str) -> Case<'a> {
+    let (good, rest) = line(rt, bare(text));
+    let (cut, rest) = line(rt, rest);
+    let (turned, longer) = line(rt, rest);
+    Case {
+        good,
+        cut,
+        turned,
+        longer,
+    }
 }
 
 // The bytes 6 to 11 of a frame.
@@ -237,7 +265,7 @@ struct Bench {
 }
 
 impl Bench {
-    fn new(rt: &impl Abort, alloc: Global, format: Format, case: &Case) -> Bench {
+    fn new(rt: &impl Abort, alloc: Global, format: Format, case: &Case<'_>) -> Bench {
         let good = bytes_of(rt, alloc, case.good);
         let unseen = unseen(rt, alloc, case.turned, good.len());
         Bench {
@@ -278,7 +306,7 @@ impl Bench {
     }
 
     // Asserts what is read of bytes that are cut before a place.
-    fn judge_cut(&mut self, rt: &impl Abort, case: &Case, bytes: &[u8], place: usize) {
+    fn judge_cut(&mut self, rt: &impl Abort, case: &Case<'_>, bytes: &[u8], place: usize) {
         let front = bytes.get(..place).unwrap_or(&[]);
         if let Some(verdict) = verdict_at(case.cut, place).expect(rt, "a table") {
             self.judge(rt, front, verdict);
@@ -289,7 +317,7 @@ impl Bench {
     fn judge_bit(
         &mut self,
         rt: &impl Abort,
-        case: &Case,
+        case: &Case<'_>,
         bytes: &mut Vec<u8>,
         place: usize,
         bit: u8,
@@ -302,7 +330,7 @@ impl Bench {
     }
 
     // Asserts what is read of bytes, of their fronts, of them with each bit turned, and with a byte more.
-    fn judge_all(&mut self, rt: &impl Abort, case: &Case, bytes: &mut Vec<u8>) {
+    fn judge_all(&mut self, rt: &impl Abort, case: &Case<'_>, bytes: &mut Vec<u8>) {
         self.judge(rt, bytes.as_slice(), "ok");
         for place in 0..bytes.len() {
             self.judge_cut(rt, case, bytes.as_slice(), place);
@@ -315,20 +343,26 @@ impl Bench {
     }
 }
 
+// Asserts it of a case by its lines.
+fn judge_text(rt: &impl Abort, alloc: Global, format: Format, text: &str) {
+    let case = case_of(rt, text);
+    let mut bytes = bytes_of(rt, alloc, case.good);
+    Bench::new(rt, alloc, format, &case).judge_all(rt, &case, &mut bytes);
+}
+
 // Asserts what is read of good spellings, of their fronts, of them with each bit turned, and with a byte more.
-fn judge(rt: &impl Abort, alloc: Global, format: Format, cases: &[Case]) {
-    for case in cases {
-        let mut bytes = bytes_of(rt, alloc, case.good);
-        Bench::new(rt, alloc, format, case).judge_all(rt, case, &mut bytes);
+fn judge(rt: &impl Abort, alloc: Global, format: Format, cases: &str) {
+    for text in cases.split('%') {
+        judge_text(rt, alloc, format, text.trim_end());
     }
 }
 
 #[test]
 fn cuts_and_turned_bits_are_read_as_they_must(rt: HostRuntime) {
     let alloc = rt.alloc();
-    judge(&rt, alloc, Format::Announcement, &ANNOUNCEMENTS);
-    judge(&rt, alloc, Format::Ecp, &ECP);
-    judge(&rt, alloc, Format::Message, &MESSAGES);
-    judge(&rt, alloc, Format::ETag, &E_TAGS);
-    judge(&rt, alloc, Format::Frame, &FRAMES);
+    judge(&rt, alloc, Format::Announcement, ANNOUNCEMENTS);
+    judge(&rt, alloc, Format::Ecp, ECP);
+    judge(&rt, alloc, Format::Message, MESSAGES);
+    judge(&rt, alloc, Format::ETag, E_TAGS);
+    judge(&rt, alloc, Format::Frame, FRAMES);
 }

@@ -1,5 +1,5 @@
 //! Links as a caller sees them. Each word has a number; control words begin with their destination.
-use crate::words::{expect, number};
+use crate::words::{expect, number, row_of};
 use exb_link::{Link, Word};
 use exb_model::bytes::Bytes;
 use std::alloc::Global;
@@ -77,39 +77,46 @@ fn step(rt: &impl Abort, alloc: Global, link: &mut Link, step: &str, wanted: &st
     }
 }
 
-const STEPS: &[(&str, &str)] = &[
-    ("counts", "(0, 0, true)"),
-    ("control 1", "true"),
-    ("control 2", "true"),
-    ("data 3", "true"),
-    ("control 4", "true"),
-    ("data 5", "true"),
-    // Control words wait for the data that was sent before them.
-    ("free 1", "true"),
-    ("free 2", "false"),
-    ("first", "3"),
-    ("take", "3"),
-    ("free 2", "true"),
-    ("free 3", "false"),
-    // Taking one word leaves every other.
-    ("pick 2", "4"),
-    ("pick 0", "1"),
-    ("at 0", "2"),
-    ("at 1", "0"),
-    ("pick 1", "0"),
-    ("counts", "(1, 1, false)"),
-    ("control 6", "true"),
-    ("free 0", "true"),
-    ("free 1", "false"),
-    ("take", "5"),
-    ("free 1", "true"),
-    ("take", "0"),
-];
+// The same of a row.
+fn judge_step(rt: &impl Abort, alloc: Global, link: &mut Link, row: &str) {
+    if row.starts_with("#") {
+        return;
+    }
+    let (words, wanted) = row_of(rt, row);
+    step(rt, alloc, link, words, wanted);
+}
+
+const STEPS: &str = "counts>(0, 0, true)\n\
+     control 1>true\n\
+     control 2>true\n\
+     data 3>true\n\
+     control 4>true\n\
+     data 5>true\n\
+     # Control words wait for the data that was sent before them.\n\
+     free 1>true\n\
+     free 2>false\n\
+     first>3\n\
+     take>3\n\
+     free 2>true\n\
+     free 3>false\n\
+     # Taking one word leaves every other.\n\
+     pick 2>4\n\
+     pick 0>1\n\
+     at 0>2\n\
+     at 1>0\n\
+     pick 1>0\n\
+     counts>(1, 1, false)\n\
+     control 6>true\n\
+     free 0>true\n\
+     free 1>false\n\
+     take>5\n\
+     free 1>true\n\
+     take>0";
 
 #[test]
 fn control_waits_for_data_and_data_for_nothing(rt: HostRuntime) {
     let mut link = Link::new(rt.alloc());
-    for (words, wanted) in STEPS {
-        step(&rt, rt.alloc(), &mut link, words, wanted);
+    for row in STEPS.lines() {
+        judge_step(&rt, rt.alloc(), &mut link, row);
     }
 }

@@ -1,8 +1,9 @@
 //! Messages of the control protocol: what bytes say, or their first fault. What is read is written again as it was.
 use crate::formats::{Format, judge};
-use crate::words::{bytes_of, expect};
+use crate::words::{bytes_of, expect, row_of};
 use exb_csp::{CspFault, Message, read, write};
 use exb_model::buffers::ControlBuf;
+use std::alloc::Global;
 use std::process::Abort;
 
 /// What bytes say. Where they are a message, this is written as the same bytes.
@@ -16,80 +17,42 @@ pub(crate) fn read_and_write(rt: &impl Abort, bytes: &[u8]) -> Result<Message, C
     read
 }
 
-const CASES: &[(&str, &str)] = &[
-    (
-        "01 0000000000000001 0000",
-        "Message { serial: 1, body: Ask(Open) }",
-    ),
-    (
-        "81 0000000000000001 0002 0002",
-        "Message { serial: 1, body: Answer(Response { to: Open, code: 0, ports: 2 }) }",
-    ),
-    (
-        "06 0000000000000009 0014 1000 0000000000000002 1003 0000000000000004",
-        "Message { serial: 9, body: Ask(RegisterMany { rows: GroupRows { rows: [GroupRow { ecid: 4096, mask: 2 }, GroupRow { ecid: 4099, mask: 4 }] } }) }",
-    ),
-    (
-        "07 000000000000000A 0004 1001 1002",
-        "Message { serial: 10, body: Ask(UnregisterMany { ecids: Ecids { ecids: [4097, 4098] } }) }",
-    ),
-    (
-        "03 000000000000000B 0001 01",
-        "Message { serial: 11, body: Ask(PortDelete { port: 1 }) }",
-    ),
-    (
-        "02 0102030405060708 0004 09 01 0FFE",
-        "Message { serial: 72623859790382856, body: Ask(PortCreate { port: 9, cascade: true, channel: 4094 }) }",
-    ),
-    (
-        "04 0000000000000002 000A 3FFF 8000000000000001",
-        "Message { serial: 2, body: Ask(Register { ecid: 16383, mask: 9223372036854775809 }) }",
-    ),
-    (
-        "05 0000000000000003 0002 1000",
-        "Message { serial: 3, body: Ask(Unregister { ecid: 4096 }) }",
-    ),
-    (
-        "86 0000000000000009 0001 03",
-        "Message { serial: 9, body: Answer(Response { to: RegisterMany, code: 3, ports: 0 }) }",
-    ),
-    // A header cut short, whatever its type and length.
-    ("", "Cut"),
-    ("44 0000000000000001 09", "Cut"),
-    // An unknown type before its length.
-    ("00 0000000000000001 0000", "UnknownType"),
-    ("08 0000000000000001 0909", "UnknownType"),
-    ("80 0000000000000001 0000", "UnknownType"),
-    ("88 0000000000000001 0001 00", "UnknownType"),
-    // A length that isn't the type's, also where the body is that long or cut short.
-    ("04 0000000000000001 0009 010203040506070809", "Length"),
-    ("01 0000000000000001 0001", "Length"),
-    // Fewer than two members of a list of many.
-    ("07 0000000000000001 0002 0101", "Length"),
-    ("06 0000000000000001 000A 1000 0000000000000001", "Length"),
-    // A body cut short, and bytes after it, before what is out of range.
-    ("03 0000000000000000 0001", "Cut"),
-    ("01 0000000000000000 0000 00", "Length"),
-    // A serial of 0, a kind above 1, a code above 3, a port count of 0 and of 65.
-    ("01 0000000000000000 0000", "Range"),
-    ("02 0000000000000001 0004 01 02 0001", "Range"),
-    ("85 0000000000000001 0001 04", "Range"),
-    ("81 0000000000000001 0002 0000", "Range"),
-    ("81 0000000000000001 0002 0041", "Range"),
-    // The extender decides on other numbers.
-    (
-        "02 0000000000000001 0004 00 00 FFFF",
-        "Message { serial: 1, body: Ask(PortCreate { port: 0, cascade: false, channel: 65535 }) }",
-    ),
-    (
-        "05 0000000000000001 0002 0000",
-        "Message { serial: 1, body: Ask(Unregister { ecid: 0 }) }",
-    ),
-    (
-        "03 0000000000000001 0001 FF",
-        "Message { serial: 1, body: Ask(PortDelete { port: 255 }) }",
-    ),
-];
+const CASES: &str = "01 0000000000000001 0000>Message { serial: 1, body: Ask(Open) }\n\
+     81 0000000000000001 0002 0002>Message { serial: 1, body: Answer(Response { to: Open, code: 0, ports: 2 }) }\n\
+     06 0000000000000009 0014 1000 0000000000000002 1003 0000000000000004>Message { serial: 9, body: Ask(RegisterMany { rows: GroupRows { rows: [GroupRow { ecid: 4096, mask: 2 }, GroupRow { ecid: 4099, mask: 4 }] } }) }\n\
+     07 000000000000000A 0004 1001 1002>Message { serial: 10, body: Ask(UnregisterMany { ecids: Ecids { ecids: [4097, 4098] } }) }\n\
+     03 000000000000000B 0001 01>Message { serial: 11, body: Ask(PortDelete { port: 1 }) }\n\
+     02 0102030405060708 0004 09 01 0FFE>Message { serial: 72623859790382856, body: Ask(PortCreate { port: 9, cascade: true, channel: 4094 }) }\n\
+     04 0000000000000002 000A 3FFF 8000000000000001>Message { serial: 2, body: Ask(Register { ecid: 16383, mask: 9223372036854775809 }) }\n\
+     05 0000000000000003 0002 1000>Message { serial: 3, body: Ask(Unregister { ecid: 4096 }) }\n\
+     86 0000000000000009 0001 03>Message { serial: 9, body: Answer(Response { to: RegisterMany, code: 3, ports: 0 }) }\n\
+     # A header cut short, whatever its type and length.\n\
+     >Cut\n\
+     44 0000000000000001 09>Cut\n\
+     # An unknown type before its length.\n\
+     00 0000000000000001 0000>UnknownType\n\
+     08 0000000000000001 0909>UnknownType\n\
+     80 0000000000000001 0000>UnknownType\n\
+     88 0000000000000001 0001 00>UnknownType\n\
+     # A length that isn't the type's, also where the body is that long or cut short.\n\
+     04 0000000000000001 0009 010203040506070809>Length\n\
+     01 0000000000000001 0001>Length\n\
+     # Fewer than two members of a list of many.\n\
+     07 0000000000000001 0002 0101>Length\n\
+     06 0000000000000001 000A 1000 0000000000000001>Length\n\
+     # A body cut short, and bytes after it, before what is out of range.\n\
+     03 0000000000000000 0001>Cut\n\
+     01 0000000000000000 0000 00>Length\n\
+     # A serial of 0, a kind above 1, a code above 3, a port count of 0 and of 65.\n\
+     01 0000000000000000 0000>Range\n\
+     02 0000000000000001 0004 01 02 0001>Range\n\
+     85 0000000000000001 0001 04>Range\n\
+     81 0000000000000001 0002 0000>Range\n\
+     81 0000000000000001 0002 0041>Range\n\
+     # The extender decides on other numbers.\n\
+     02 0000000000000001 0004 00 00 FFFF>Message { serial: 1, body: Ask(PortCreate { port: 0, cascade: false, channel: 65535 }) }\n\
+     05 0000000000000001 0002 0000>Message { serial: 1, body: Ask(Unregister { ecid: 0 }) }\n\
+     03 0000000000000001 0001 FF>Message { serial: 1, body: Ask(PortDelete { port: 255 }) }";
 
 #[test]
 fn bytes_say_what_they_must(rt: HostRuntime) {
@@ -97,19 +60,26 @@ fn bytes_say_what_they_must(rt: HostRuntime) {
 }
 
 /// Lists of 1, 2, 3, 64 and 65 rows, each byte of which is 1: their fault.
-const ROWS: &[(&str, &str)] = &[
-    ("06 0101010101010101 000A 10x01", "Some(Length)"),
-    ("06 0101010101010101 0014 20x01", "None"),
-    ("06 0101010101010101 001E 30x01", "None"),
-    ("06 0101010101010101 0280 640x01", "None"),
-    ("06 0101010101010101 028A 650x01", "Some(Length)"),
-];
+const ROWS: &str = "06 0101010101010101 000A 10x01>Some(Length)\n\
+     06 0101010101010101 0014 20x01>None\n\
+     06 0101010101010101 001E 30x01>None\n\
+     06 0101010101010101 0280 640x01>None\n\
+     06 0101010101010101 028A 650x01>Some(Length)";
+
+// Asserts the fault of a row.
+fn expect_fault(rt: &impl Abort, alloc: Global, row: &str) {
+    if row.starts_with("#") {
+        return;
+    }
+    let (text, wanted) = row_of(rt, row);
+    let bytes = bytes_of(rt, alloc, text);
+    let fault = read_and_write(rt, bytes.as_slice()).err();
+    expect(rt, alloc, &fault, wanted, text);
+}
 
 #[test]
 fn lists_have_2_to_64_rows(rt: HostRuntime) {
-    for (text, wanted) in ROWS {
-        let bytes = bytes_of(&rt, rt.alloc(), text);
-        let fault = read_and_write(&rt, bytes.as_slice()).err();
-        expect(&rt, rt.alloc(), &fault, wanted, text);
+    for row in ROWS.lines() {
+        expect_fault(&rt, rt.alloc(), row);
     }
 }

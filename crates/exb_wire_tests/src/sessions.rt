@@ -1,5 +1,5 @@
 //! Sessions: what an asker takes as its answer and when a request is due again, and what an answerer executes.
-use crate::words::{bytes_of, expect, number};
+use crate::words::{bytes_of, expect, number, row_of};
 use exb_csp::{Answerer, Asker, Request, RequestKind, Response, Taken, read};
 use std::alloc::Global;
 use std::process::Abort;
@@ -58,44 +58,42 @@ fn step(rt: &impl Abort, alloc: Global, asker: &mut Asker, step: &str, wanted: &
     }
 }
 
-const STEPS: &[(&str, &str)] = &[
-    ("open", "1"),
-    (
-        "take 81000000000000000100020002",
-        "Answer(Response { to: Open, code: 0, ports: 2 })",
-    ),
-    ("clear", "2"),
-    (
-        "take 850000000000000002000100",
-        "Answer(Response { to: Unregister, code: 0, ports: 0 })",
-    ),
-    ("create", "3"),
-    // An earlier answer is stale, however often it comes; the request still waits.
-    ("take 81000000000000000100020002", "Stale"),
-    ("take 81000000000000000100020002", "Stale"),
-    ("again", "3"),
-    // The answer of a later serial, one to another request, and a request are not its own.
-    ("take 820000000000000004000100", "NotOurs"),
-    ("take 830000000000000003000100", "NotOurs"),
-    ("take 0100000000000000030000", "NotOurs"),
-    // It is due again at each sixteenth beat.
-    ("beat 40", "16"),
-    ("beat 40", "16"),
-    (
-        "take 820000000000000003000100",
-        "Answer(Response { to: PortCreate, code: 0, ports: 0 })",
-    ),
-    // Nothing waits now.
-    ("take 820000000000000003000100", "NotOurs"),
-    ("beat 40", "0"),
-    ("open", "4"),
-];
+// The same of a row.
+fn judge_step(rt: &impl Abort, alloc: Global, asker: &mut Asker, row: &str) {
+    if row.starts_with("#") {
+        return;
+    }
+    let (words, wanted) = row_of(rt, row);
+    step(rt, alloc, asker, words, wanted);
+}
+
+const STEPS: &str = "open>1\n\
+     take 81000000000000000100020002>Answer(Response { to: Open, code: 0, ports: 2 })\n\
+     clear>2\n\
+     take 850000000000000002000100>Answer(Response { to: Unregister, code: 0, ports: 0 })\n\
+     create>3\n\
+     # An earlier answer is stale, however often it comes; the request still waits.\n\
+     take 81000000000000000100020002>Stale\n\
+     take 81000000000000000100020002>Stale\n\
+     again>3\n\
+     # The answer of a later serial, one to another request, and a request are not its own.\n\
+     take 820000000000000004000100>NotOurs\n\
+     take 830000000000000003000100>NotOurs\n\
+     take 0100000000000000030000>NotOurs\n\
+     # It is due again at each sixteenth beat.\n\
+     beat 40>16\n\
+     beat 40>16\n\
+     take 820000000000000003000100>Answer(Response { to: PortCreate, code: 0, ports: 0 })\n\
+     # Nothing waits now.\n\
+     take 820000000000000003000100>NotOurs\n\
+     beat 40>0\n\
+     open>4";
 
 #[test]
 fn an_asker_takes_the_answer_of_its_request_alone(rt: HostRuntime) {
     let mut asker = Asker::new();
-    for (words, wanted) in STEPS {
-        step(&rt, rt.alloc(), &mut asker, words, wanted);
+    for row in STEPS.lines() {
+        judge_step(&rt, rt.alloc(), &mut asker, row);
     }
 }
 

@@ -1,6 +1,6 @@
 //! Requests that an extender of two ports executes, one after another, and which of three pairs it has then: port 1 with
 //! channel 1, and ports 1 and 2 with the group 0x1000.
-use crate::words::{bytes_of, expect};
+use crate::words::{bytes_of, expect, row_of};
 use exb_csp::plain::PlainTables;
 use exb_csp::{Body, Request, RequestKind, Response, read};
 use std::alloc::Global;
@@ -36,104 +36,48 @@ fn execute(
     (to, code, ports, pairs(tables))
 }
 
-const STEPS: &[(&str, &str)] = &[
-    (
-        "01 0000000000000001 0000",
-        "(Open, 0, 2, [false, false, false])",
-    ),
-    // Port 1 with channel 1.
-    (
-        "02 0000000000000001 0004 01 00 0001",
-        "(PortCreate, 0, 0, [true, false, false])",
-    ),
-    // An E-CID twice in a message is refused whole.
-    (
-        "06 0000000000000001 0014 1000 0000000000000001 1000 0000000000000001",
-        "(RegisterMany, 3, 0, [true, false, false])",
-    ),
-    // Ports that aren't there, a channel out of its range, a port and a channel that are taken.
-    (
-        "02 0000000000000001 0004 00 01 0000",
-        "(PortCreate, 1, 0, [true, false, false])",
-    ),
-    (
-        "02 0000000000000001 0004 03 01 0001",
-        "(PortCreate, 1, 0, [true, false, false])",
-    ),
-    (
-        "02 0000000000000001 0004 02 01 0FFF",
-        "(PortCreate, 2, 0, [true, false, false])",
-    ),
-    (
-        "02 0000000000000001 0004 01 01 0002",
-        "(PortCreate, 3, 0, [true, false, false])",
-    ),
-    (
-        "02 0000000000000001 0004 02 01 0001",
-        "(PortCreate, 3, 0, [true, false, false])",
-    ),
-    (
-        "02 0000000000000001 0004 02 01 0002",
-        "(PortCreate, 0, 0, [true, false, false])",
-    ),
-    // E-CIDs out of their range, a port that isn't there, an E-CID that has a pair.
-    (
-        "04 0000000000000001 000A 4000 0000000000000004",
-        "(Register, 2, 0, [true, false, false])",
-    ),
-    (
-        "04 0000000000000001 000A 0FFF 0000000000000004",
-        "(Register, 2, 0, [true, false, false])",
-    ),
-    (
-        "04 0000000000000001 000A 0001 0000000000000004",
-        "(Register, 1, 0, [true, false, false])",
-    ),
-    (
-        "04 0000000000000001 000A 0001 0000000000000003",
-        "(Register, 3, 0, [true, false, false])",
-    ),
-    (
-        "04 0000000000000001 000A 1000 0000000000000003",
-        "(Register, 0, 0, [true, true, true])",
-    ),
-    (
-        "05 0000000000000001 0002 0000",
-        "(Unregister, 2, 0, [true, true, true])",
-    ),
-    (
-        "05 0000000000000001 0002 1000",
-        "(Unregister, 0, 0, [true, false, false])",
-    ),
-    // All rows of a message or none.
-    (
-        "06 0000000000000001 0014 1000 0000000000000003 1001 0000000000000004",
-        "(RegisterMany, 1, 0, [true, false, false])",
-    ),
-    (
-        "06 0000000000000001 0014 1000 0000000000000002 1001 0000000000000001",
-        "(RegisterMany, 0, 0, [true, false, true])",
-    ),
-    (
-        "03 0000000000000001 0001 03",
-        "(PortDelete, 1, 0, [true, false, true])",
-    ),
-    (
-        "03 0000000000000001 0001 01",
-        "(PortDelete, 0, 0, [false, false, true])",
-    ),
-    // Port 1 has no channel any more.
-    (
-        "04 0000000000000001 000A 1002 0000000000000001",
-        "(Register, 1, 0, [false, false, true])",
-    ),
-];
+const STEPS: &str = "01 0000000000000001 0000>(Open, 0, 2, [false, false, false])\n\
+     # Port 1 with channel 1.\n\
+     02 0000000000000001 0004 01 00 0001>(PortCreate, 0, 0, [true, false, false])\n\
+     # An E-CID twice in a message is refused whole.\n\
+     06 0000000000000001 0014 1000 0000000000000001 1000 0000000000000001>(RegisterMany, 3, 0, [true, false, false])\n\
+     # Ports that aren't there, a channel out of its range, a port and a channel that are taken.\n\
+     02 0000000000000001 0004 00 01 0000>(PortCreate, 1, 0, [true, false, false])\n\
+     02 0000000000000001 0004 03 01 0001>(PortCreate, 1, 0, [true, false, false])\n\
+     02 0000000000000001 0004 02 01 0FFF>(PortCreate, 2, 0, [true, false, false])\n\
+     02 0000000000000001 0004 01 01 0002>(PortCreate, 3, 0, [true, false, false])\n\
+     02 0000000000000001 0004 02 01 0001>(PortCreate, 3, 0, [true, false, false])\n\
+     02 0000000000000001 0004 02 01 0002>(PortCreate, 0, 0, [true, false, false])\n\
+     # E-CIDs out of their range, a port that isn't there, an E-CID that has a pair.\n\
+     04 0000000000000001 000A 4000 0000000000000004>(Register, 2, 0, [true, false, false])\n\
+     04 0000000000000001 000A 0FFF 0000000000000004>(Register, 2, 0, [true, false, false])\n\
+     04 0000000000000001 000A 0001 0000000000000004>(Register, 1, 0, [true, false, false])\n\
+     04 0000000000000001 000A 0001 0000000000000003>(Register, 3, 0, [true, false, false])\n\
+     04 0000000000000001 000A 1000 0000000000000003>(Register, 0, 0, [true, true, true])\n\
+     05 0000000000000001 0002 0000>(Unregister, 2, 0, [true, true, true])\n\
+     05 0000000000000001 0002 1000>(Unregister, 0, 0, [true, false, false])\n\
+     # All rows of a message or none.\n\
+     06 0000000000000001 0014 1000 0000000000000003 1001 0000000000000004>(RegisterMany, 1, 0, [true, false, false])\n\
+     06 0000000000000001 0014 1000 0000000000000002 1001 0000000000000001>(RegisterMany, 0, 0, [true, false, true])\n\
+     03 0000000000000001 0001 03>(PortDelete, 1, 0, [true, false, true])\n\
+     03 0000000000000001 0001 01>(PortDelete, 0, 0, [false, false, true])\n\
+     # Port 1 has no channel any more.\n\
+     04 0000000000000001 000A 1002 0000000000000001>(Register, 1, 0, [false, false, true])";
 
-// Asserts how each request, one after another, is answered, and the pairs that it leaves.
+// Asserts how a request is answered, and the pairs that it leaves.
+fn step(rt: &impl Abort, alloc: Global, tables: &mut PlainTables, row: &str) {
+    if row.starts_with("#") {
+        return;
+    }
+    let (text, wanted) = row_of(rt, row);
+    let told = execute(rt, alloc, tables, text);
+    expect(rt, alloc, &told, wanted, text);
+}
+
+// The same of each request, one after another.
 fn judge(rt: &impl Abort, alloc: Global, tables: &mut PlainTables) {
-    for (text, wanted) in STEPS {
-        let told = execute(rt, alloc, tables, text);
-        expect(rt, alloc, &told, wanted, text);
+    for row in STEPS.lines() {
+        step(rt, alloc, tables, row);
     }
 }
 

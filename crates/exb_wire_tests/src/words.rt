@@ -14,6 +14,11 @@ pub(crate) fn number(rt: &impl Abort, word: &str) -> u16 {
     word.parse::<u16>().expect(rt, "a number below 65536")
 }
 
+/// A row of a table: what stands before `>`, and what is wanted. A row that begins with `#` is a comment.
+pub(crate) fn row_of<'a>(rt: &impl Abort, row: &'a str) -> (&'a str, &'a str) {
+    row.split_once('>').expect(rt, "what is wanted")
+}
+
 /// How a value is told.
 pub(crate) fn told(rt: &impl Abort, alloc: Global, value: &impl Debug) -> String {
     format!(in alloc; "{value:?}").expect(rt, "memory")

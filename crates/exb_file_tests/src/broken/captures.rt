@@ -2,56 +2,68 @@
 use super::cases::{
     CAPTURES, HEADERS, MICROSECOND_HEAD, MICROSECONDS, NANOSECOND_HEAD, NANOSECONDS,
 };
-use crate::compare::same;
 use crate::hostile::{bytes_of, verdict_at, verdict_of_bit};
-use crate::reading::{sized_text, whole_text};
+use crate::rows::{judge, judge_rows};
 use exb_hostile::turned::{BITS, turn};
 use std::alloc::Global;
 use std::process::Abort;
 
-/// A good capture, and what is read of it: moment and length of each record, and the fault where one comes; `empty` where there
-/// is neither.
-pub(super) struct Case {
-    pub(super) capture: &'static str,
-    pub(super) told: &'static str,
-    /// What is read where it is cut before a place: `PLACE VERDICT|`, up to the next entry's place. `same` is as whole.
-    pub(super) cut: &'static str,
-    /// The same with a bit turned: `FIRST-LAST.BITS VERDICT|`; the first entry that has the place and the bit counts. No bit is
-    /// turned that none has.
-    pub(super) turned: &'static str,
-    /// The same with zeros behind it, up to a length: `LENGTH VERDICT|`, up to the next entry's length.
-    pub(super) longer: &'static str,
+/// A good capture, what is read of it, and the verdicts on what is made of it (`CAPTURES`).
+#[derive(Clone, Copy)]
+struct Case<'a> {
+    capture: &'a str,
+    told: &'a str,
+    cut: &'a str,
+    turned: &'a str,
+    longer: &'a str,
 }
 
-// Asserts what is read of a file, whole and in pieces.
-fn judge(rt: &impl Abort, alloc: Global, file: &[u8], size: usize, wanted: &str) {
+// The first line of a text, and what stands below it.
+fn line<'a>(rt: &impl Abort, text: &'a str) -> (&'a str, &'a str) {
+    text.split_once('\n').expect(rt, "a line")
+}
+
+// The case of its lines.
+fn case_of<'a>(rt: &impl Abort, text: &'a str) -> Case<'a> {
+    let (capture, rest) = line(rt, text);
+    let (told, rest) = line(rt, rest);
+    let (cut, rest) = line(rt, rest);
+    let (turned, longer) = line(rt, rest);
+    Case {
+        capture,
+        told,
+        cut,
+        turned,
+        longer,
+    }
+}
+
+// Asserts what is read of a file.
+fn judge_told(rt: &impl Abort, alloc: Global, file: &[u8], wanted: &str) {
     let wanted = match wanted {
         "empty" => "",
         _ => wanted,
     };
-    let text = whole_text(rt, alloc, file);
-    same(rt, text.as_str().trim_end(), wanted, "the whole file");
-    let text = sized_text(rt, alloc, file, size);
-    same(rt, text.as_str().trim_end(), wanted, "the file in pieces");
+    judge(rt, alloc, file, &[7], wanted);
 }
 
 // The same where the verdict may be that on the good capture.
-fn judge_in(rt: &impl Abort, alloc: Global, case: &Case, file: &[u8], verdict: &str) {
+fn judge_in(rt: &impl Abort, alloc: Global, case: &Case<'_>, file: &[u8], verdict: &str) {
     match verdict {
-        "same" => judge(rt, alloc, file, 7, case.told),
-        _ => judge(rt, alloc, file, 7, verdict),
+        "same" => judge_told(rt, alloc, file, case.told),
+        _ => judge_told(rt, alloc, file, verdict),
     }
 }
 
 // Asserts what is read of the front of a capture.
-fn judge_front(rt: &impl Abort, alloc: Global, case: &Case, file: &[u8], place: usize) {
+fn judge_front(rt: &impl Abort, alloc: Global, case: &Case<'_>, file: &[u8], place: usize) {
     let front = file.get(..place).unwrap_or(&[]);
     let verdict = verdict_at(rt, case.cut, place).expect(rt, "a verdict");
     judge_in(rt, alloc, case, front, verdict);
 }
 
 // Asserts what is read of a capture with each bit of a byte turned.
-fn judge_byte(rt: &impl Abort, alloc: Global, case: &Case, file: &mut Vec<u8>, place: usize) {
+fn judge_byte(rt: &impl Abort, alloc: Global, case: &Case<'_>, file: &mut Vec<u8>, place: usize) {
     for bit in &BITS {
         if let Some(verdict) = verdict_of_bit(rt, case.turned, place, *bit) {
             turn(file, place, *bit);
@@ -62,7 +74,7 @@ fn judge_byte(rt: &impl Abort, alloc: Global, case: &Case, file: &mut Vec<u8>, p
 }
 
 // Asserts what is read of a capture with more zeros behind it.
-fn judge_longer(rt: &impl Abort, alloc: Global, case: &Case, file: &mut Vec<u8>, zeros: usize) {
+fn judge_longer(rt: &impl Abort, alloc: Global, case: &Case<'_>, file: &mut Vec<u8>, zeros: usize) {
     let length = file.len().saturating_add(zeros);
     file.resize(length, 0).expect(rt, "memory");
     let verdict = verdict_at(rt, case.longer, length).expect(rt, "a verdict");
@@ -82,30 +94,22 @@ fn judge_case(rt: &impl Abort, alloc: Global, case: &Case) {
     }
 }
 
+// The same of a case by its lines.
+fn judge_text(rt: &impl Abort, alloc: Global, text: &str) {
+    let case = case_of(rt, text);
+    judge_case(rt, alloc, &case);
+}
+
 #[test]
 fn cut_and_turned_captures_are_read_as_they_must(rt: HostRuntime) {
-    for case in &CAPTURES {
-        judge_case(&rt, rt.alloc(), case);
-    }
-}
-
-// Asserts what is read of a capture of a head and a tail.
-fn judge_limit(rt: &impl Abort, alloc: Global, head: &str, tail: &str, wanted: &str) {
-    let capture = format!(in alloc; "{head}{tail}").expect(rt, "memory");
-    let file = bytes_of(rt, alloc, capture.as_str());
-    judge(rt, alloc, file.as_slice(), 999, wanted);
-}
-
-// The same of each tail.
-fn judge_limits(rt: &impl Abort, alloc: Global, head: &str, cases: &[(&str, &str)]) {
-    for (tail, wanted) in cases {
-        judge_limit(rt, alloc, head, tail, wanted);
+    for text in CAPTURES.split('%') {
+        judge_text(&rt, rt.alloc(), text.trim());
     }
 }
 
 #[test]
 fn captures_at_their_limits_are_read_as_they_must(rt: HostRuntime) {
-    judge_limits(&rt, rt.alloc(), "", &HEADERS);
-    judge_limits(&rt, rt.alloc(), MICROSECOND_HEAD, &MICROSECONDS);
-    judge_limits(&rt, rt.alloc(), NANOSECOND_HEAD, &NANOSECONDS);
+    judge_rows(&rt, rt.alloc(), "", &[999], HEADERS);
+    judge_rows(&rt, rt.alloc(), MICROSECOND_HEAD, &[999], MICROSECONDS);
+    judge_rows(&rt, rt.alloc(), NANOSECOND_HEAD, &[999], NANOSECONDS);
 }

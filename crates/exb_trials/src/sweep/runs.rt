@@ -41,6 +41,62 @@ pub(super) const BARE: Run = Run {
     summary: "arrivals 2 relayed 2 ignored 0 left 3 commits 0 refusals 0\n",
 };
 
+/// One extender with two ports, and a capture for the first.
+const ONE_EXTENDER: &[(&str, &str)] = &[(
+    "t.toml",
+    "[bridge]\nports = 1\n[[extender]]\nnumber = 1\non = \"b1\"\nports = 2\n[captures]\n\"x1.1\" = \"a.pcap\"\n",
+)];
+
+/// A broadcast of 60 bytes.
+const AT_ONE_PORT: &[(&str, &str)] = &[(
+    "a.pcap",
+    "D4C3B2A1 0200 0400 8x00 FFFF0000 01000000 64000000 00000000 3C000000 3C000000 \
+     FFFFFFFFFFFF 020000000001 0800 46x00",
+)];
+
+const UNTRACED: &[&str] = &["out-x1.1.pcap", "out-x1.2.pcap", "out-journal.txt"];
+
+const TRACED: &[&str] = &[
+    "out-x1.1.pcap",
+    "out-x1.2.pcap",
+    "out-journal.txt",
+    "out-trace.txt",
+];
+
+const ONE_FRAME: &str = "arrivals 1 relayed 1 ignored 0 left 1 commits 0 refusals 0\n";
+
+/// The same with each option.
+pub(super) const ONE: [Run; 4] = [
+    Run {
+        words: "run t.toml",
+        texts: ONE_EXTENDER,
+        captures: AT_ONE_PORT,
+        outputs: UNTRACED,
+        summary: ONE_FRAME,
+    },
+    Run {
+        words: "run t.toml --trace",
+        texts: ONE_EXTENDER,
+        captures: AT_ONE_PORT,
+        outputs: TRACED,
+        summary: ONE_FRAME,
+    },
+    Run {
+        words: "run t.toml --seed 5",
+        texts: ONE_EXTENDER,
+        captures: AT_ONE_PORT,
+        outputs: UNTRACED,
+        summary: ONE_FRAME,
+    },
+    Run {
+        words: "run t.toml --seed 5 --trace",
+        texts: ONE_EXTENDER,
+        captures: AT_ONE_PORT,
+        outputs: TRACED,
+        summary: ONE_FRAME,
+    },
+];
+
 /// What comes to two ports of a tree: two frames of two VLANs, an answer and a broadcast.
 const IN_A_TREE: &[(&str, &str)] = &[
     (
