@@ -68,7 +68,7 @@ fn strip(rt: &impl Abort, frame: &[u8], out: &mut Vec<u8>) {
     strip_into(frame, out).expect(rt, "memory");
 }
 
-// The same in its place, where the frame stands from byte 8 on then.
+// The same where it stands.
 fn strip_there(rt: &impl Abort, frame: &mut Vec<u8>) {
     assert!(rt; frame.len() >= 20);
     strip_in_place(frame);
@@ -94,7 +94,7 @@ fn e_tags_are_put_in_and_taken_out(rt: HostRuntime) {
 fn e_tags_are_taken_out_in_place(rt: HostRuntime) {
     let mut frame = bytes_of(&rt, rt.alloc(), TAGGED);
     strip_there(&rt, &mut frame);
-    expect_bytes(&rt, rt.alloc(), frame.get(8..).unwrap_or(&[]), PLAIN);
+    expect_bytes(&rt, rt.alloc(), frame.as_slice(), PLAIN);
     expect_bytes(&rt, rt.alloc(), &TAG.write(), "893FB00310020000");
 }
 
