@@ -71,6 +71,7 @@ fn beat_near_any(
 }
 
 /// All of the bridge's ends count the beat, by extender. One that sends nothing has nothing to count.
+#[inline(always)]
 fn beat_all_near(
     site: &Site,
     buffers: &mut Buffers,
@@ -115,6 +116,7 @@ fn beat_control(site: &Site, room: &mut Room, core: &mut Core) -> Result<(), NoM
 }
 
 /// The beat passes at all extenders: first at those that rest, which send nothing, then at the others by number.
+#[inline(always)]
 fn beat_all_far(site: &Site, room: &mut Room, core: &mut Core) -> Result<(), NoMemory>
     requires at { IsAt site.now core.old }
     ensures { OnOk result (Does (each (if_there site.now.tree (λ n. reacts site.now.tree n None Beats)) all_extenders (world_in core.old)) site.now core.new room.old.post.log room.new.post.log) }

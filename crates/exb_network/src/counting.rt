@@ -8,6 +8,9 @@ use exb_boxes::Left;
 pub fn count_left(left: &[Left]) -> u128
     ensures { result ≡ length (all_left left.now) }
 {
+    if let [frame] = left {
+        return frame.row.count() as u128;
+    }
     let mut total = 0u128;
     for frame in left {
         total += frame.row.count() as u128;

@@ -5,8 +5,8 @@ use Rattle.exb_network.proofs.counting.count_left.Goals as goal
 pub loop-frame-preserved : goal.loop-frame-preserved
 loop-frame-preserved c =
     let before = c.loop-frame.invariant in
-    let few = c.count.ensures.few in
+    let few = c.count-in-loop-frame.ensures.few in
     let most = before.1 in (
-      counted_more c.args.left.now c.loop-frame.frame-index c.frame-item.result c.loop-frame-test.true c.frame-item.is c.loop-frame.total c.count.result before.0 c.count.ensures.ports,
+      counted_more c.args.left.now c.loop-frame.frame-index c.frame-item.result c.loop-frame-test.true c.frame-item.is c.loop-frame.total c.count-in-loop-frame.result before.0 c.count-in-loop-frame.ensures.ports,
       omega (arith, few, most),
     )
