@@ -7,6 +7,6 @@ loop-frame-preserved c =
     let before = c.loop-frame.invariant in
     let few = c.count-in-loop-frame.ensures.few in
     let most = before.1 in (
-      counted_more c.args.left.now c.loop-frame.frame-index c.frame-item.result c.loop-frame-test.true c.frame-item.is c.loop-frame.total c.count-in-loop-frame.result before.0 c.count-in-loop-frame.ensures.ports,
+      counted_more c.args.left.now c.loop-frame.frame-index c.frame-item-in-loop-frame.result c.loop-frame-test.true c.frame-item-in-loop-frame.is c.loop-frame.total c.count-in-loop-frame.result before.0 c.count-in-loop-frame.ensures.ports,
       omega (arith, few, most),
     )

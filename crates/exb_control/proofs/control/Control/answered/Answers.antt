@@ -45,7 +45,7 @@ pub returns-in-Ok-clause-ok : goal.returns-in-Ok-clause-ok
 returns-in-Ok-clause-ok c =
     let w = c.self.inside in
     let made = c.in-Ok.ensures in
-    let out : Outbox = record { events = c.take-done.new.events; asks = c.take-done.new.asks; sends = c.empty.new.self.sends; ingress = c.empty.new.self.ingress; spare = c.empty.new.self.spare } in
+    let out : Outbox = record { events = c.take-done.new.events; asks = c.take-done.new.asks; sends = c.empty.new.self.sends; ingress = c.empty.new.self.ingress } in
     let new = parts_of c.take-done.new.core c.take-done.new.queue w.heard w.given w.failed in
     subst (λ (p : Parts). IsMoved (answered (decide_of p.active) c.args.extender c.args.message.now (state_of p)) p new out) c.self.view_is
     (moved _ (parts_of w.core w.queue w.heard w.given w.failed) c.take-done.new.core c.take-done.new.queue w.heard w.given w.failed c.empty.new.self.events c.empty.new.self.asks out

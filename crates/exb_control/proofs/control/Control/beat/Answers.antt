@@ -19,7 +19,7 @@ returns-clause-ok c =
     let w = c.self.inside in
     let made = c.beat.ensures in
     let fine = sym c.is_err.ensures.value ∙ c.if-is_err.false in
-    let out : Outbox = record { events = c.empty.new.self.events; asks = c.beat.new.asks; sends = c.empty.new.self.sends; ingress = c.empty.new.self.ingress; spare = c.empty.new.self.spare } in
+    let out : Outbox = record { events = c.empty.new.self.events; asks = c.beat.new.asks; sends = c.empty.new.self.sends; ingress = c.empty.new.self.ingress } in
     let new = parts_of c.beat.new.core w.queue w.heard w.given w.failed in
     subst (λ (p : Parts). IsMoved (beats (state_of p)) p new out) c.self.view_is
     (moved _ (parts_of w.core w.queue w.heard w.given w.failed) c.beat.new.core w.queue w.heard w.given w.failed c.empty.new.self.events c.empty.new.self.asks out

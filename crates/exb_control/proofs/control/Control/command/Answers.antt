@@ -45,7 +45,7 @@ returns-clause-ok c =
     let w = c.self.inside in
     let made = c.give-done.ensures in
     let fine = sym c.is_err.ensures.value ∙ c.if-is_err.false in
-    let out : Outbox = record { events = c.give-done.new.events; asks = c.give-done.new.asks; sends = c.empty.new.self.sends; ingress = c.empty.new.self.ingress; spare = c.empty.new.self.spare } in
+    let out : Outbox = record { events = c.give-done.new.events; asks = c.give-done.new.asks; sends = c.empty.new.self.sends; ingress = c.empty.new.self.ingress } in
     let new = parts_of c.give-done.new.core c.give-done.new.queue w.heard (w.given + 1) w.failed in
     subst (λ (p : Parts). IsMoved (ordered (decide_of p.active) c.args.command.now (state_of p)) p new out) c.self.view_is
     (moved _ (parts_of w.core w.queue w.heard w.given w.failed) c.give-done.new.core c.give-done.new.queue w.heard (w.given + 1) w.failed c.empty.new.self.events c.empty.new.self.asks out

@@ -55,7 +55,7 @@ returns-clause-ok c =
     let w = c.self.inside in
     let made = c.wake-done.ensures in
     let fine = sym c.is_err.ensures.value ∙ c.if-is_err.false in
-    let out : Outbox = record { events = c.wake-done.new.events; asks = c.wake-done.new.asks; sends = c.empty.new.self.sends; ingress = c.empty.new.self.ingress; spare = c.empty.new.self.spare } in
+    let out : Outbox = record { events = c.wake-done.new.events; asks = c.wake-done.new.asks; sends = c.empty.new.self.sends; ingress = c.empty.new.self.ingress } in
     let old = parts_of w.core w.queue w.heard w.given w.failed in
     let new = parts_of c.wake-done.new.core c.wake-done.new.queue c.note.new.self w.given w.failed in
     subst (λ (p : Parts). IsMoved (announced (decide_of p.active) p.active.shape c.args.extender c.args.announce.now (state_of p)) p new out) c.self.view_is
