@@ -9,7 +9,6 @@ pub mod CaptureOpen
 pub mod ClassicLemmas
 pub mod ClassicOpen
 pub mod Counting
-pub mod CountLemmas
 pub mod FormatLemmas
 pub mod FrontLemmas
 pub mod Going

@@ -15,9 +15,9 @@ use Rattle.exb_capture.specs.declared.file.Halt.{Halt}
 use Rattle.exb_capture.specs.declared.file.Halt.TheVariants as halt
 use Rattle.exb_capture.specs.declared.replay.Replay.{Replay}
 use Rattle.exb_capture.specs.declared.replay.ReplayFault.{ReplayFault}
-use Rattle.exb_capture.specs.declared.replay.ReplayFault.TheVariants.{Read, Changed}
+use Rattle.exb_capture.specs.declared.replay.ReplayFault.TheVariants.{Changed}
 use Rattle.exb_capture.specs.Reading.{IsSound, IsHeldIn, HasRead, IsWhole, HaltsBy, after, coming, next_of, seen_in, with_next}
-use Rattle.exb_capture.specs.Replaying.{comes_early, stopped, unread, BeginsWith, Disagrees, Breaks, Ends, GoesOn, ComesEarly, ComesAt, HasGiven, IsPlayed, IsReplaying}
+use Rattle.exb_capture.specs.Replaying.{comes_early, unread, BeginsWith, Disagrees, Breaks, Ends, GoesOn, ComesEarly, ComesAt, HasGiven, IsPlayed, IsReplaying}
 use Rattle.exb_capture.specs.Scans.{first_time, scanned_of}
 
 nil_of : {X : Type 0} (xs : List X) → length xs ≡ 0 → xs ≡ []
@@ -123,19 +123,6 @@ pub early_comes : (told : Scanned) (bytes : List ℕ) (x : Record) (time place b
 early_comes told bytes x time place begun at first is early same e =
     let there : begun ≡ at = cc in
     ComesEarly x (subst (λ n. BeginsWith x n bytes) (sym same ∙ there) first) (subst (λ n. comes_early told.first n ≡ true) (sym is) early)
-
--- where that record comes early, and it isn't read on
-pub stopped_begin : (begin at : ℕ) (h : Halt) → stopped begin h ≡ Changed at → Changed begin ≡ Changed at
-stopped_begin begin at halt.Memory e = absurd (cc)
-stopped_begin begin at halt.Failed e = absurd (cc)
-stopped_begin begin at (halt.Broken fault) e = e
-stopped_begin begin at halt.Large e = e
-
-pub stopped_read : (begin : ℕ) (h : Halt) → stopped begin h ≡ Read → h ≡ halt.Failed
-stopped_read begin halt.Memory e = absurd (cc)
-stopped_read begin halt.Failed e = refl
-stopped_read begin (halt.Broken fault) e = absurd (cc)
-stopped_read begin halt.Large e = absurd (cc)
 
 -- ---- where it has changed
 pub place_of : (n at most : ℕ) → Changed n ≡ Changed at → n ≤ most → at ≤ most

@@ -3,8 +3,6 @@ use Rattle.std.specs.Prelude.{◌≡◌, ◌<◌, ◌≤◌, ◌+◌, ◌*◌, �
 use Rattle.exb_model.specs.Input.{Record}
 use Rattle.exb_capture.specs.Captures.{capture_of, capture_records}
 use Rattle.exb_capture.specs.declared.fault.Fault.{Fault}
-use Rattle.exb_shelf.specs.declared.shelf.OpenFault.{OpenFault}
-use Rattle.exb_shelf.specs.declared.shelf.OpenFault.TheVariants as opening
 use Rattle.exb_capture.specs.declared.checking.Scanned.{Scanned}
 use Rattle.exb_capture.specs.declared.file.Halt.{Halt}
 use Rattle.exb_capture.specs.declared.file.Halt.TheVariants as halt
@@ -20,26 +18,12 @@ abbrev pub comes_early : Option ℕ → ℕ → Bool
 comes_early None time = true
 comes_early (Some first) time = nat_lt time first
 
--- why a capture that can't be opened again isn't read
-abbrev pub unopened : OpenFault → ReplayFault
-unopened opening.Missing = Changed 0
-unopened opening.Failed = Read
-unopened opening.Memory = Memory
-
 -- why a capture of which so many bytes were told isn't read on
 abbrev pub unread : ℕ → Halt → ReplayFault
 unread bytes halt.Memory = Memory
 unread bytes halt.Failed = Read
 unread bytes (halt.Broken fault) = Changed fault.at
 unread bytes halt.Large = Changed bytes
-
--- why a capture whose first record comes early, and begins here, isn't read on: what stands behind that record says nothing of it, but
--- a read that failed, or want of memory
-abbrev pub stopped : ℕ → Halt → ReplayFault
-stopped begin halt.Memory = Memory
-stopped begin halt.Failed = Read
-stopped begin (halt.Broken fault) = Changed begin
-stopped begin halt.Large = Changed begin
 
 -- this record comes first in a file of these bytes, whatever stands behind it, and begins at this place
 pub record BeginsWith (x : Record) (at : ℕ) (bytes : List ℕ) : Type 0 where

@@ -2,8 +2,6 @@
 use Rattle.std.specs.Prelude.{⊤, ◌≡◌, ◌≤◌, ◌<◌, ◌⊎◌, ℕ, List, [], ◌∷◌, length, take, Option, Some, None, Result, Ok, Err}
 use Rattle.exb_model.specs.Input.{Record}
 use Rattle.exb_capture.specs.Captures.{capture_records}
-use Rattle.exb_shelf.specs.declared.shelf.OpenFault.{OpenFault}
-use Rattle.exb_shelf.specs.declared.shelf.OpenFault.TheVariants as opening
 use Rattle.exb_capture.specs.declared.fault.Fault.{Fault as Broke}
 use Rattle.exb_capture.specs.declared.checking.Scanned.{Scanned}
 use Rattle.exb_capture.specs.declared.checking.ScanFault.{ScanFault}
@@ -12,11 +10,6 @@ use Rattle.exb_capture.specs.declared.file.CaptureFile.{CaptureFile}
 use Rattle.exb_capture.specs.declared.file.Halt.{Halt}
 use Rattle.exb_capture.specs.declared.file.Halt.TheVariants as halt
 use Rattle.exb_capture.specs.Reading.{HasRead, Stands}
-
-abbrev pub unopened : OpenFault → ScanFault
-unopened opening.Missing = Missing
-unopened opening.Failed = Read
-unopened opening.Memory = Memory
 
 abbrev pub refused : ℕ → Halt → ScanFault
 refused limit halt.Memory = Memory

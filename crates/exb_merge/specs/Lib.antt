@@ -6,3 +6,5 @@ pub mod Programmes
 pub mod Replays
 pub mod NetAgendas
 pub mod Counting
+pub mod Calls
+pub mod Laws

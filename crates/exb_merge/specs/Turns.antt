@@ -1,5 +1,5 @@
 -- The turns of what stands in a list.
-use Rattle.std.specs.Prelude.{◌≡◌, ◌≢◌, ◌<◌, ◌≤◌, ◌+◌, ◌*◌, ◌/◌, nat_lt, if◌then◌else◌, ℕ, zero, suc, List, [], ◌∷◌, length, get_or, map, Option, Some, None, IfSome}
+use Rattle.std.specs.Prelude.{◌≡◌, ◌≢◌, ◌<◌, ◌≤◌, ◌+◌, ◌*◌, ◌/◌, nat_lt, if◌then◌else◌, ℕ, zero, suc, List, length, get_or, map, Option, Some, None, IfSome}
 use Rattle.std.specs.List.{AllByRecursion}
 use Rattle.exb_merge.specs.declared.turns.Turns.{Turns}
 

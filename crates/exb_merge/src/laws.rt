@@ -1,21 +1,17 @@
 //! What is still to come of the commands and captures of an input. Each law is a function that does
 //! nothing and ensures it.
-ghost use Rattle.std.specs.Prelude.{◌≡◌, ◌<◌, ◌≤◌, ◌==◌, ◌++◌, ◌∷◌, ℕ, Bool, true, false, List, [], map, filter, filter_map, flat_map};
-ghost use Rattle.std.specs.List.{AllByRecursion};
+ghost use Rattle.std.specs.Prelude.{◌≡◌, ℕ, Bool, false, List, [], map, filter, filter_map, flat_map};
 ghost use Rattle.std.specs.Option.{option_map};
 ghost use Rattle.exb_model.specs.declared.setup.Timed.{Timed};
 ghost use Rattle.exb_model.specs.Ports.{all_ports};
-ghost use Rattle.exb_model.specs.Input.{Input, arrivals_at, arrival_in, given_by, least_or, merge, second_of};
+ghost use Rattle.exb_model.specs.Input.{Input, given_by, least_or, merge, second_of};
 ghost use Rattle.exb_nets.specs.Nets.{Net};
 ghost use Rattle.exb_nets.specs.NetHistory.{dues, start_of_all};
-ghost use Rattle.exb_shelf.specs.Files.{Files, bytes_of};
-ghost use Rattle.exb_shelf.specs.Shelf.{Id};
-ghost use Rattle.exb_merge.specs.declared.agenda.Agenda.{Agenda};
 ghost use Rattle.exb_merge.specs.declared.programme.Programme.{Programme};
-ghost use Rattle.exb_merge.specs.NetAgendas.{AreAllReplays, AreBegunOf, AreOfNet, IsAgenda, all_ids, all_to_play, dues_left, first_seconds, programmes_in};
-ghost use Rattle.exb_merge.specs.Replays.{AreReplays};
+ghost use Rattle.exb_merge.specs.NetAgendas.{AreBegunOf, AreOfNet, all_to_play, dues_left, first_seconds};
 ghost use Rattle.exb_merge.specs.Agendas.{begun, first_second, still_to_come};
 ghost use Rattle.exb_merge.specs.Streams.{Stream, arrivals_of, next_moment, stream_at, to_come};
+ghost use Rattle.exb_merge.specs.Laws.{AgendasStay, MergeKeepsOrder};
 
 /// The captures of the ports that pass a test, in port order, give all that comes, where there is no
 /// command and no other port has a record.
@@ -42,8 +38,7 @@ pub fn start_is_least()
 
 /// The records of a port come in the order of its capture, and none comes of what is no port.
 pub fn merge_keeps_order()
-    ensures ports { (i : Input) (p : ℕ) → p < 4160 → filter (λ a. a.port == p) (filter_map arrival_in (merge i)) ≡ arrivals_at i p }
-    ensures others { (i : Input) (p : ℕ) → 4160 ≤ p → filter (λ a. a.port == p) (filter_map arrival_in (merge i)) ≡ [] }
+    ensures { MergeKeepsOrder }
 {}
 
 /// What is still to come of the commands and captures of all bridges of a net, before anything is taken, is all that comes to it, in
@@ -61,12 +56,5 @@ pub fn net_start_is_least()
 /// Whatever is opened, read or written elsewhere: an agenda stays as it is while the ids through which it reads stand for what they
 /// stood for, and so does what is still to come of it while their files have the same bytes.
 pub fn agendas_stay()
-    ensures reads { (ids : ℕ → Id) (a : Agenda) → IsAgenda ids a → AllByRecursion (λ k. ((ids k).given ≡ true) × ((ids k).reads ≡ true)) (all_ids (programmes_in a)) }
-    ensures stays { (given ids : ℕ → Id) (a : Agenda) → AllByRecursion (λ k. ids k ≡ given k) (all_ids (programmes_in a)) → IsAgenda given a → IsAgenda ids a }
-    ensures told { (file files : Files) (given ids : ℕ → Id) (programmes : List Programme) (streams : List (List Stream))
-        → AllByRecursion (λ k. (ids k ≡ given k) × (bytes_of (files (given k).name) ≡ bytes_of (file (given k).name))) (all_ids programmes)
-        → AreAllReplays file given programmes streams → AreAllReplays files ids programmes streams }
-    ensures more { (files : Files) (ids : ℕ → Id) (programmes : List Programme) (streams : List (List Stream)) (p : Programme) (xs : List Stream)
-        → AreAllReplays files ids programmes streams → AreReplays files ids p.captures.sources.items xs
-        → AreAllReplays files ids (programmes ++ p ∷ []) (streams ++ xs ∷ []) }
+    ensures { AgendasStay }
 {}

@@ -1,14 +1,12 @@
 //! Commands, and the records of captures that are read again, in the order in which they are played.
-ghost use Rattle.std.specs.Prelude.{◌≡◌, ◌+◌, ◌-◌, ◌*◌, ◌^◌, ◌<◌, ◌≤◌, ℕ, List, [], ◌∷◌, true, false, Some, None, length, take, drop, AllPairs, IfOk, OnOk, IfSome, IfNone, IsErrOf};
-ghost use Rattle.exb_model.specs.Input.{moment_of, second_of};
-ghost use Rattle.exb_shelf.specs.Files.{SameFiles};
-ghost use Rattle.exb_shelf.specs.Shelf.{Id, Rose, NoFewer};
-ghost use Rattle.exb_merge.specs.Counting.{CountsAgain};
-ghost use Rattle.exb_merge.specs.Agendas.{begins_in, comes_first, commands_left, first_moment, is_of, still_to_come, turn_by};
+ghost use Rattle.std.specs.Prelude.{◌≡◌, ◌+◌, ◌-◌, ◌*◌, ◌^◌, ◌<◌, ◌≤◌, ℕ, [], length, take, drop, AllPairs, IfSome};
+ghost use Rattle.exb_model.specs.Input.{moment_of};
+ghost use Rattle.exb_shelf.specs.Shelf.{Id};
+ghost use Rattle.exb_merge.specs.Agendas.{comes_first, commands_left, first_moment, is_of, turn_by};
 ghost use Rattle.exb_merge.specs.NetAgendas.{IsTurn};
-ghost use Rattle.exb_merge.specs.Programmes.{IsComing, IsProgramme, IsSoonest, IsTakenOf, moment_in, played_with, what};
-ghost use Rattle.exb_merge.specs.Replays.{AreOpened, AreReplays, AreToldSince, HasPort, IsEarliest, IsWithin, NoneIsBefore, ReadsOn, ids_in, standings};
-ghost use Rattle.exb_merge.specs.Streams.{Stream, to_come};
+ghost use Rattle.exb_merge.specs.Programmes.{IsProgramme, IsSoonest, played_with, what};
+ghost use Rattle.exb_merge.specs.Replays.{AreOpened, AreToldSince, NoneIsBefore};
+ghost use Rattle.exb_merge.specs.Calls.{TakesCommand, TakesNext, TakesWithin};
 
 use crate::replays::{Came, CaptureFault, Replays};
 use exb_model::setup::Timed;
@@ -165,12 +163,7 @@ impl<'a> Programme<'a> {
         requires programme { (ids : ℕ → Id) × IsProgramme ids self.old }
         requires left { self.old.taken < length self.old.commands.now }
         requires first { IfSome (first_moment (commands_left (played_with [] self.old))) (λ m. NoneIsBefore m self.old.captures) }
-        ensures programme { (ids : ℕ → Id) → IsProgramme ids self.old → IsProgramme ids self.new }
-        ensures captures { self.new.captures ≡ self.old.captures }
-        ensures coming { IsComing self.old result self.new }
-        ensures moment { first_moment (commands_left (played_with [] self.old)) ≡ Some (moment_of (what result)) }
-        ensures order { (streams : List Stream) → comes_first (first_moment (commands_left (played_with [] self.old))) (first_moment (to_come streams)) ≡ true
-            → still_to_come (played_with streams self.old) ≡ what result ∷ still_to_come (played_with streams self.new) }
+        ensures { TakesCommand self.old result self.new }
     {
         let commands = self.commands;
         let command = &commands[self.taken];
@@ -205,24 +198,7 @@ impl<'a> Programme<'a> {
         buffer: Vec<u8>,
     ) -> Result<Option<Next>, CaptureFault>
         requires programme { IsProgramme (S.ids shelf.old) self.old }
-        ensures programme { OnOk result (IsProgramme (S.ids shelf.new) self.new) }
-        ensures coming { IfOk result (λ next. IfSome next (λ d. IsComing self.old d self.new)) }
-        ensures soonest { IfOk result (λ next. IsSoonest (moment_in next) self.old) }
-        ensures end { IfOk result (λ next. IfNone next ((self.old.taken ≡ length self.old.commands.now) × IsEarliest None self.old.captures)) }
-
-        ensures order { S.tells → IfOk result (λ next. IfSome next (λ d. IsTakenOf (S.file shelf.old) (S.file shelf.new) (S.ids shelf.old) (S.ids shelf.new) self.old d self.new)) }
-        ensures nothing { S.tells → IfOk result (λ next. IfNone next ((streams : List Stream) → AreReplays (S.file shelf.old) (S.ids shelf.old) self.old.captures.sources.items streams
-            → still_to_come (played_with streams self.old) ≡ [])) }
-        ensures never { S.tells → (p at : ℕ) → IsErrOf result (CaptureFault.Changed p at) → (streams : List Stream)
-            → AreReplays (S.file shelf.old) (S.ids shelf.old) self.old.captures.sources.items streams → ⊥ }
-
-        ensures reads { ReadsOn (ids_in self.old.captures) (S.ids shelf.old) (S.ids shelf.new) }
-        ensures files { SameFiles (S.file shelf.old) (S.file shelf.new) }
-        ensures port { (p at : ℕ) → IsErrOf result (CaptureFault.Changed p at) → HasPort p (standings self.old.captures) }
-        ensures place { (p at : ℕ) → IsErrOf result (CaptureFault.Changed p at) → IsWithin p at self.old.captures.sources.items }
-        ensures counts { CountsAgain result (S.faults shelf.old) (S.faults shelf.new) }
-        ensures faults { NoFewer (S.faults shelf.old) (S.faults shelf.new) }
-        ensures failed { IsErrOf result CaptureFault.Read → Rose (S.faults shelf.old).reads (S.faults shelf.new).reads }
+        ensures { TakesNext S.tells (S.file shelf.old) (S.file shelf.new) (S.ids shelf.old) (S.ids shelf.new) (S.faults shelf.old) (S.faults shelf.new) self.old self.new result }
     {
         if comes_first(self.command_moment(), self.captures.moment()) {
             return Ok(Some(self.take_command()));
@@ -241,24 +217,7 @@ impl<'a> Programme<'a> {
         second: u64,
     ) -> Result<Option<Next>, CaptureFault>
         requires programme { IsProgramme (S.ids shelf.old) self.old }
-        ensures programme { OnOk result (IsProgramme (S.ids shelf.new) self.new) }
-        ensures coming { IfOk result (λ next. IfSome next (λ d. IsComing self.old d self.new)) }
-        ensures within { IfOk result (λ next. IfSome next (λ d. second_of (moment_of (what d)) ≡ second)) }
-        ensures same { IfOk result (λ next. IfNone next (self.new ≡ self.old)) }
-
-        ensures order { S.tells → IfOk result (λ next. IfSome next (λ d. IsTakenOf (S.file shelf.old) (S.file shelf.new) (S.ids shelf.old) (S.ids shelf.new) self.old d self.new)) }
-        ensures other { S.tells → IfOk result (λ next. IfNone next ((streams : List Stream) → AreReplays (S.file shelf.old) (S.ids shelf.old) self.old.captures.sources.items streams
-            → begins_in second (still_to_come (played_with streams self.old)) ≡ false)) }
-        ensures never { S.tells → (p at : ℕ) → IsErrOf result (CaptureFault.Changed p at) → (streams : List Stream)
-            → AreReplays (S.file shelf.old) (S.ids shelf.old) self.old.captures.sources.items streams → ⊥ }
-
-        ensures reads { ReadsOn (ids_in self.old.captures) (S.ids shelf.old) (S.ids shelf.new) }
-        ensures files { SameFiles (S.file shelf.old) (S.file shelf.new) }
-        ensures port { (p at : ℕ) → IsErrOf result (CaptureFault.Changed p at) → HasPort p (standings self.old.captures) }
-        ensures place { (p at : ℕ) → IsErrOf result (CaptureFault.Changed p at) → IsWithin p at self.old.captures.sources.items }
-        ensures counts { CountsAgain result (S.faults shelf.old) (S.faults shelf.new) }
-        ensures faults { NoFewer (S.faults shelf.old) (S.faults shelf.new) }
-        ensures failed { IsErrOf result CaptureFault.Read → Rose (S.faults shelf.old).reads (S.faults shelf.new).reads }
+        ensures { TakesWithin second S.tells (S.file shelf.old) (S.file shelf.new) (S.ids shelf.old) (S.ids shelf.new) (S.faults shelf.old) (S.faults shelf.new) self.old self.new result }
     {
         if is_of(self.next_moment(), second) {
             self.next(shelf, buffer)

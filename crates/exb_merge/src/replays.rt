@@ -1,20 +1,12 @@
 //! The captures of some ports that were checked, as they are read again and played.
-ghost use Rattle.std.specs.Prelude.{false, ◌≡◌, ◌+◌, ◌*◌, ◌^◌, ◌<◌, ◌≤◌, [], ◌∷◌, ◌++◌, ℕ, List, Some, None, length, IfOk, OnOk, IsErrOf, IfSome, IfNone};
-ghost use Rattle.exb_model.specs.Input.{Record, second_of};
-ghost use Rattle.exb_capture.specs.Captures.{capture_records};
-ghost use Rattle.exb_shelf.specs.Files.{SameFiles};
-ghost use Rattle.exb_shelf.specs.Shelf.{Id, IsReadingOf, Opens, Rose, NoFewer};
-ghost use Rattle.exb_capture.specs.Reading.{left_to_read, next_of};
-ghost use Rattle.exb_capture.specs.Replaying.{ComesAt, HasGiven, IsKept, IsSameReplay, IsSince};
-ghost use Rattle.exb_capture.specs.Scans.{scanned_of};
-ghost use Rattle.exb_merge.specs.Counting.{CountsAgain};
-ghost use Rattle.exb_merge.specs.Replays.{fault_at, AreOpened, AreReplays, AreToldSince, ComesFirst, HasCome, HasPort, IsEarliest, IsWithin, NoneIsBefore, ReadsOn, ids_in, left_in, standings};
-ghost use Rattle.exb_merge.specs.Streams.{Stream, stream_of};
+ghost use Rattle.std.specs.Prelude.{◌≡◌, ◌+◌, ◌^◌, ◌<◌, [], ℕ};
+ghost use Rattle.exb_shelf.specs.Shelf.{Id};
+ghost use Rattle.exb_merge.specs.Replays.{fault_at, AreOpened, HasPort, IsEarliest, standings};
+ghost use Rattle.exb_merge.specs.Calls.{AddsCapture, TakesRecord};
 
 use crate::turns::Turns;
 use exb_capture::{Replay, ReplayFault, Scanned};
 use exb_model::bytes::Bytes;
-use exb_model::memory::NoMemory;
 use exb_model::port::PortId;
 use exb_shelf::Shelf;
 use std::alloc::Global;
@@ -76,39 +68,6 @@ pub struct Replays {
     turns: Turns,
 }
 
-impl Again {
-    /// Takes the next record, of which the moment is known, with its bytes in this buffer.
-    #[inline(always)]
-    fn take(&mut self, moment: u64, buffer: Vec<u8>) -> Result<Came, NoMemory>
-        requires found { ComesAt moment self.old.replay }
-        requires kept { IsKept self.old.replay }
-        requires numbers { self.old.index + left_to_read self.old.replay.file < 2 ^ 63 }
-        requires first { 1 ≤ self.old.index }
-        ensures kept { IsKept self.new.replay }
-        ensures same { IsSameReplay self.old.replay self.new.replay }
-        ensures got { self.new.replay.file.got ≡ self.old.replay.file.got }
-        ensures left { left_to_read self.new.replay.file + 16 ≤ left_to_read self.old.replay.file }
-        ensures port { self.new.port ≡ self.old.port }
-        ensures index { OnOk result (self.new.index ≡ self.old.index + 1) }
-        ensures least { OnOk result (self.new.replay.least ≡ moment) }
-        ensures comes { IfOk result (λ c. (c.port ≡ self.old.port) × (c.index ≡ self.old.index) × (c.moment ≡ moment)) }
-        ensures limits { IfOk result (λ c. (self.old.replay.least ≤ moment) × IsSince self.old.replay.told.first moment × (moment < 2 ^ 32 * 1_000_000_000) × (length c.bytes ≤ 262_144)) }
-        ensures bytes { (x : Record) → next_of self.old.replay.file ≡ Some x → IfOk result (λ c. c.bytes ≡ x.bytes) }
-        ensures given { OnOk result ((bytes : List ℕ) (xs : List Record) (x : Record) → next_of self.old.replay.file ≡ Some x
-            → HasGiven bytes xs self.old.replay → HasGiven bytes (xs ++ x ∷ []) self.new.replay) }
-    {
-        let bytes = self.replay.take(moment, buffer)?;
-        let index = self.index;
-        self.index += 1;
-        Ok(Came {
-            port: self.port,
-            index,
-            moment,
-            bytes,
-        })
-    }
-}
-
 impl Replays {
     /// No capture yet.
     pub fn new(alloc: Global) -> Replays
@@ -136,27 +95,7 @@ impl Replays {
         requires opened { AreOpened (S.ids shelf.old) self.old }
         requires port { HasPort port (standings self.old) → ⊥ }
         requires room { told.bytes + 2 < 2 ^ 63 }
-        ensures opened { OnOk result (AreOpened (S.ids shelf.new) self.new) }
-        ensures standings { OnOk result (standings self.new ≡ standings self.old ++ record { port = port; index = 1; least = 0 } ∷ []) }
-        ensures left { OnOk result (left_in self.new ≤ left_in self.old + told.bytes + 1) }
-        ensures since { (second : ℕ) → IfSome told.first (λ first. second ≤ second_of first) → AreToldSince second self.old → OnOk result (AreToldSince second self.new) }
-
-        ensures streams { S.tells → OnOk result ((bytes : List ℕ) (records : List Record) (streams : List Stream)
-            → S.file shelf.old name.now ≡ Some bytes → capture_records bytes ≡ Ok records → told ≡ scanned_of bytes records
-            → AreReplays (S.file shelf.old) (S.ids shelf.old) self.old.sources.items streams
-            → AreReplays (S.file shelf.new) (S.ids shelf.new) self.new.sources.items (streams ++ stream_of port records ∷ [])) }
-        ensures never { S.tells → (p at : ℕ) → IsErrOf result (CaptureFault.Changed p at) → (bytes : List ℕ) (records : List Record)
-            → S.file shelf.old name.now ≡ Some bytes → capture_records bytes ≡ Ok records → told ≡ scanned_of bytes records → ⊥ }
-
-        // What is opened, and what stays.
-        ensures id { OnOk result ((id : ℕ) × (ids_in self.new ≡ ids_in self.old ++ id ∷ []) × ((S.ids shelf.old id).given ≡ false)) }
-        ensures opens { Opens (IsReadingOf name.now) (S.ids shelf.old) (S.ids shelf.new) }
-        ensures files { SameFiles (S.file shelf.old) (S.file shelf.new) }
-        ensures port_is { (p at : ℕ) → IsErrOf result (CaptureFault.Changed p at) → p ≡ port }
-        ensures place { (p at : ℕ) → IsErrOf result (CaptureFault.Changed p at) → at ≤ told.bytes + 1 }
-        ensures counts { CountsAgain result (S.faults shelf.old) (S.faults shelf.new) }
-        ensures faults { NoFewer (S.faults shelf.old) (S.faults shelf.new) }
-        ensures failed { IsErrOf result CaptureFault.Read → Rose (S.faults shelf.old).reads (S.faults shelf.new).reads }
+        ensures { AddsCapture S.tells (S.file shelf.old) (S.file shelf.new) (S.ids shelf.old) (S.ids shelf.new) (S.faults shelf.old) (S.faults shelf.new) port name.now told self.old self.new result }
     {
         let mut replay = match Replay::open(alloc, shelf, name, told) {
             Ok(replay) => replay,
@@ -205,41 +144,23 @@ impl Replays {
         buffer: Vec<u8>,
     ) -> Result<Option<Came>, CaptureFault>
         requires opened { AreOpened (S.ids shelf.old) self.old }
-        ensures opened { OnOk result (AreOpened (S.ids shelf.new) self.new) }
-
-        // Whatever the files hold.
-        ensures come { IfOk result (λ next. IfSome next (λ c. HasCome (standings self.old) c (standings self.new))) }
-        ensures earliest { IfOk result (λ next. IfSome next (λ c. IsEarliest (Some c.moment) self.old)) }
-        ensures rises { IfOk result (λ next. IfSome next (λ c. NoneIsBefore c.moment self.new)) }
-        ensures since { (second : ℕ) → AreToldSince second self.old → IfOk result (λ next. IfSome next (λ c. second ≤ second_of c.moment)) }
-        ensures told { (second : ℕ) → AreToldSince second self.old → OnOk result (AreToldSince second self.new) }
-        ensures left { IfOk result (λ next. IfSome next (λ c. left_in self.new + 16 ≤ left_in self.old)) }
-        ensures end { IfOk result (λ next. IfNone next (IsEarliest None self.old)) }
-        ensures same { IfOk result (λ next. IfNone next (standings self.new ≡ standings self.old)) }
-
-        // Where the files are told.
-        ensures order { S.tells → IfOk result (λ next. (streams : List Stream) → AreReplays (S.file shelf.old) (S.ids shelf.old) self.old.sources.items streams
-            → ComesFirst streams next (λ rest. AreReplays (S.file shelf.new) (S.ids shelf.new) self.new.sources.items rest)) }
-        ensures never { S.tells → (p at : ℕ) → IsErrOf result (CaptureFault.Changed p at) → (streams : List Stream)
-            → AreReplays (S.file shelf.old) (S.ids shelf.old) self.old.sources.items streams → ⊥ }
-
-        ensures ids { OnOk result (ids_in self.new ≡ ids_in self.old) }
-        ensures reads { ReadsOn (ids_in self.old) (S.ids shelf.old) (S.ids shelf.new) }
-        ensures files { SameFiles (S.file shelf.old) (S.file shelf.new) }
-        ensures port { (p at : ℕ) → IsErrOf result (CaptureFault.Changed p at) → HasPort p (standings self.old) }
-        ensures place { (p at : ℕ) → IsErrOf result (CaptureFault.Changed p at) → IsWithin p at self.old.sources.items }
-        ensures counts { CountsAgain result (S.faults shelf.old) (S.faults shelf.new) }
-        ensures faults { NoFewer (S.faults shelf.old) (S.faults shelf.new) }
-        ensures failed { IsErrOf result CaptureFault.Read → Rose (S.faults shelf.old).reads (S.faults shelf.new).reads }
+        ensures { TakesRecord S.tells (S.file shelf.old) (S.file shelf.new) (S.ids shelf.old) (S.ids shelf.new) (S.faults shelf.old) (S.faults shelf.new) self.old self.new result }
     {
         let Some((moment, place)) = self.turns.first() else {
             return Ok(None);
         };
         let source = &mut self.sources[place];
-        let came = match source.take(moment, buffer) {
-            Ok(came) => came,
+        let bytes = match source.replay.take(moment, buffer) {
+            Ok(bytes) => bytes,
             Err(_) => return Err(CaptureFault::Memory),
         };
+        let came = Came {
+            port: source.port,
+            index: source.index,
+            moment,
+            bytes,
+        };
+        source.index += 1;
         let next = match source.replay.ahead(shelf) {
             Ok(next) => next,
             Err(fault) => return Err(fault_at(source.port, fault)),

@@ -1,4 +1,4 @@
-use Rattle.std.proofs.Common.{◌≡◌, ◌<◌, length, set, sym, subst, arith}
+use Rattle.std.proofs.Common.{◌<◌, length, set, sym, subst, arith}
 use Rattle.std.specs.Prelude.{◌/◌}
 use Rattle.exb_merge.specs.Turns.{HasLeaves, HasPending}
 use Rattle.exb_merge.proofs.Trees.{pending_less, leaves_less}

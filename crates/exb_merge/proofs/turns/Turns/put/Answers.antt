@@ -1,4 +1,4 @@
-use Rattle.std.proofs.Common.{◌≡◌, ◌<◌, length, set, sym, ap, subst, ◌∙◌, arith}
+use Rattle.std.proofs.Common.{◌<◌, length, set, sym, ap, subst, ◌∙◌, arith}
 use Rattle.std.specs.Prelude.{◌/◌, IfSome}
 use Rattle.std.proofs.lemmas.List.{map-set, with_items_is}
 use Rattle.exb_merge.specs.Turns.{HasLeaves, HasPending, IsTree, kept}

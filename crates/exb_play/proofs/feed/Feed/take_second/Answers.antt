@@ -16,6 +16,13 @@ returns-in_err-take_within-clause-reads g c =
     let read = subst (λ (mine : List ℕ). OnlyReads mine (S.file c.second.shelf) (S.file c.take_within.new.shelf) (S.ids c.second.shelf) (S.ids c.take_within.new.shelf)) inv.same c.take_within.ensures.reads in
     only-reads-then (ids_in c.args.self.now.programme.captures) _ _ _ _ _ _ inv.only read
 
+pub returns-clause-reads : goal.returns-clause-reads
+returns-clause-reads g c =
+    let S = g.S.Shelf in
+    let inv = c.second.invariant in
+    let read = subst (λ (mine : List ℕ). OnlyReads mine (S.file c.second.shelf) (S.file c.take_within.new.shelf) (S.ids c.second.shelf) (S.ids c.take_within.new.shelf)) inv.same c.take_within.ensures.reads in
+    only-reads-then (ids_in c.args.self.now.programme.captures) _ _ _ _ _ _ inv.only read
+
 pub second-preserved : goal.second-preserved
 second-preserved g c =
     let S = g.S.Shelf in
