@@ -1,8 +1,10 @@
 -- Which VLANs have a member, by their rows.
-use Rattle.std.proofs.Common.{◌≡◌, ℕ, ◌<◌, ◌≤◌, Bool, true, false, cond, not, ◌&&◌, ◌==◌, List, length, replicate, refl, sym, ap, ◌∙◌, inl, inr, ◌⊎◌, arith, ◌/◌, eq-eqb}
-use Rattle.std.specs.Prelude.{Option, Some, None, Box, is_some, slice_index_or, slice_set, IsTrue, ◌↔◌}
+use Rattle.std.proofs.Common.{◌≡◌, ℕ, ◌+◌, ◌<◌, ◌≤◌, Bool, true, false, cond, not, ◌&&◌, ◌==◌, List, length, replicate, refl, sym, ap, ◌∙◌, inl, inr, ◌⊎◌, ◌||◌, ◌*◌, ◌^◌, ◌%◌, arith, ◌/◌, eq-eqb, bit_or, w64}
+use Rattle.std.specs.Prelude.{slice_index, Option, Some, None, Box, is_some, slice_index_or, slice_set, IsTrue, ◌↔◌}
 use Rattle.std.specs.Global.{Global}
+use Rattle.std.specs.Int.{bit_at}
 use Rattle.std.specs.List.{list_any}
+use Rattle.std.proofs.lemmas.Nat.Bits.{bit_at_set_same, bit_at_set_other}
 use Rattle.std.proofs.lemmas.Bool.{cases_Bool, cases_lt, cases_eq, ne_eqb, false≢true}
 use Rattle.std.proofs.lemmas.List.{get_or_past, get_or-map, get_or-set_same, get_or-set_other, map-set, length-map, length-set, length-replicate}
 use Rattle.exb_model.specs.declared.port_set.PortSet.{PortSet}
@@ -11,7 +13,7 @@ use Rattle.exb_model.specs.Ports.{port_in, below, all_ports}
 use Rattle.exb_model.specs.Configuration.{kind_in}
 use Rattle.exb_model.proofs.PortLemmas.{any_below-true, any_below-false}
 use Rattle.exb_config.specs.declared.members.Members.{Members}
-use Rattle.exb_config.specs.Rows.{has_member, kind_by, row_at, member_of, boxed, rows_of, KeepsKnown}
+use Rattle.exb_config.specs.Rows.{has_member, kind_by, row_at, member_of, is_marked}
 use Rattle.exb_model.proofs.JoinedWords.{none_past}
 use Rattle.exb_model.proofs.Words.{get_or-same}
 
@@ -66,29 +68,90 @@ empty_test m true false no_tagged no_untagged = by_test (cases_Bool (has_member 
     by_test (inl hit) = sym (rw hit refl)
     by_test (inr miss) = absurd (false≢true (no_untagged.1 (λ q. (no_port m miss q).1)))
 
--- ---- the rows
-no_row : list_any (λ q. is_some (kind_by None q)) all_ports ≡ false
-no_row = any_below-false (λ q. is_some (kind_by None q)) 4160 (λ q low. refl)
+-- ---- the row of a VLAN
+pub none_known : list_any (λ q. is_some (kind_by None q)) all_ports ≡ false
+none_known = any_below-false (λ q. is_some (kind_by None q)) 4160 (λ q low. refl)
 
--- the row of a VLAN with these members
-abbrev row_for : Members → Option Members
-row_for m = cond (has_member m) (Some m) None
-
-row_is_known : (m : Members) → list_any (λ q. is_some (kind_by (row_for m) q)) all_ports ≡ is_some (row_for m)
+pub is_known : (m : Members) → has_member m ≡ true → list_any (λ q. is_some (kind_in m.tagged m.untagged q)) all_ports ≡ true
 unfolding has_member
-row_is_known m = by_test (has_member m) refl
-  where
-    by_test : (b : Bool) → has_member m ≡ b → list_any (λ q. is_some (kind_by (cond b (Some m) None) q)) all_ports ≡ is_some (cond b (Some m) None)
-    by_test true has = has
-    by_test false none = no_row
+is_known m has = has
 
-row_has_kind : (m : Members) (q : ℕ) → kind_by (row_for m) q ≡ kind_in m.tagged m.untagged q
-row_has_kind m q = by_test (has_member m) refl
-  where
-    by_test : (b : Bool) → has_member m ≡ b → kind_by (cond b (Some m) None) q ≡ kind_in m.tagged m.untagged q
-    by_test true has = refl
-    by_test false none = sym (no_kind m none q)
+-- ---- which devices have a member
+mark_same : (s d e : ℕ) → (bit_at (bit_or s (1 * 2 ^ (d % 64) % 2 ^ 64)) (e % 64) == 1) ≡ (e % 64 == d % 64 || (bit_at s (e % 64) == 1))
+mark_same s d e =
+    elim (cases_eq (e % 64) (d % 64)) [
+      | inl is ↦ rw (is, bit_at_set_same w64 s (d % 64) (omega arith), eq-eqb (d % 64) (d % 64) refl) refl
+      | inr other ↦ rw (bit_at_set_other w64 s (d % 64) (omega arith) (e % 64) other, ne_eqb (e % 64) (d % 64) other) refl
+    ]
 
+pub is_marked-mark : (s d e : ℕ) → is_marked (bit_or s (1 * 2 ^ (d % 64) % 2 ^ 64)) e ≡ (e % 64 == d % 64 || is_marked s e)
+unfolding is_marked
+is_marked-mark s d e = mark_same s d e
+
+-- no device before this one has a member unless it is marked
+abbrev pub IsSpreadTo : ℕ → Members → ℕ → Type 0
+IsSpreadTo spread m device = (q : ℕ) → q / 64 < device → is_marked spread (q / 64) ≡ false → kind_in m.tagged m.untagged q ≡ None
+
+not_or : (a b : Bool) → (a || b) ≡ false → (a ≡ false) × (b ≡ false)
+not_or false false h = (refl, refl)
+not_or true b h = absurd (false≢true (sym h))
+not_or false true h = absurd (false≢true (sym h))
+
+-- a device that is marked may have a member
+pub spread_marked : (s t d : ℕ) (m : Members) → ((e : ℕ) → is_marked t e ≡ (e % 64 == d % 64 || is_marked s e)) → IsSpreadTo s m d → IsSpreadTo t m (d + 1)
+spread_marked s t d m marks before q low none =
+    let two = not_or (q / 64 % 64 == d % 64) (is_marked s (q / 64)) (sym (marks (q / 64)) ∙ none) in
+    elim (cases_lt (q / 64) d) [
+      | inl lower ↦ before q lower two.1
+      | inr not_lower ↦
+          let is : q / 64 ≡ d = omega arith in
+          absurd (false≢true (sym two.0 ∙ eq-eqb (q / 64 % 64) (d % 64) (ap (λ k. k % 64) is)))
+    ]
+
+-- one that has none needs no mark
+pub spread_passed : (s d : ℕ) (m : Members) → ((q : ℕ) → q / 64 ≡ d → kind_in m.tagged m.untagged q ≡ None) → IsSpreadTo s m d → IsSpreadTo s m (d + 1)
+spread_passed s d m none_on before q low none =
+    elim (cases_lt (q / 64) d) [
+      | inl lower ↦ before q lower none
+      | inr not_lower ↦ none_on q (omega arith)
+    ]
+
+no_kind_at : (m : Members) (q : ℕ) → port_in m.tagged q ≡ false → port_in m.untagged q ≡ false → kind_in m.tagged m.untagged q ≡ None
+no_kind_at m q no_tagged no_untagged = rw (no_untagged, no_tagged) refl
+
+pub spread_whole : (s d : ℕ) (m : Members) → 65 ≤ d → IsSpreadTo s m d → (q : ℕ) → is_marked s (q / 64) ≡ false → kind_in m.tagged m.untagged q ≡ None
+spread_whole s d m whole before q none =
+    elim (cases_lt q 4160) [
+      | inl low ↦ before q (omega arith) none
+      | inr high ↦ no_kind_at m q (port_past m.tagged q high) (port_past m.untagged q high)
+    ]
+
+none_on_word : (words : List ℕ) (d q : ℕ) → slice_index words d ≡ 0 → q / 64 ≡ d → slice_index words (q / 64) ≡ 0
+none_on_word words d q zero_at is = ap (slice_index words) is ∙ zero_at
+
+is_zero : (x : ℕ) → not (x == 0) ≡ false → x ≡ 0
+is_zero x told =
+    elim (cases_eq x 0) [
+      | inl is ↦ is
+      | inr other ↦ absurd (false≢true (sym told ∙ ap not (ne_eqb x 0 other)))
+    ]
+
+-- a device has no member where both sets have no port of it
+pub none_on : (m : Members) (d : ℕ) → slice_index m.tagged.words d ≡ 0 → not (slice_index m.untagged.words d == 0) ≡ false →
+    (q : ℕ) → q / 64 ≡ d → kind_in m.tagged m.untagged q ≡ None
+none_on m d no_tagged no_untagged q is =
+    no_kind_at m q (none_past m.tagged.words q (none_on_word m.tagged.words d q no_tagged is)) (none_past m.untagged.words q (none_on_word m.untagged.words d q (is_zero (slice_index m.untagged.words d) no_untagged) is))
+
+-- what a test says where its opposite is told
+pub has_of : (a b : Bool) → a ≡ not b → a ≡ false → b ≡ true
+has_of a true is told = refl
+has_of a false is told = absurd (false≢true (sym told ∙ is))
+
+pub has_not : (a b : Bool) → a ≡ not b → a ≡ true → b ≡ false
+has_not a false is told = refl
+has_not a true is told = absurd (false≢true (sym is ∙ told))
+
+-- ---- the rows by VLAN
 -- a row is put at its place
 row_put : (rows : List (Option Members)) (v : ℕ) (o : Option Members) → v < length rows → (w : ℕ) → row_at (slice_set rows v o) w ≡ cond (w == v) o (row_at rows w)
 row_put rows v o low w =
@@ -97,63 +160,14 @@ row_put rows v o low w =
       | inr other ↦ rw (ne_eqb w v other) (get_or-set_other rows v w o None other)
     ]
 
-put_known : (rows : List (Option Members)) (v : ℕ) (m : Members) → v < length rows → KeepsKnown rows → KeepsKnown (slice_set rows v (row_for m))
-put_known rows v m low known w = rw (row_put rows v (row_for m) low w) (by_test (w == v))
+pub put_member : (rows : List (Option Members)) (v : ℕ) (row : Option Members) (m : Members) → v < length rows → ((q : ℕ) → kind_by row q ≡ kind_in m.tagged m.untagged q) → (w q : ℕ) →
+    member_of (slice_set rows v row) w q ≡ cond (w == v) (kind_in m.tagged m.untagged q) (member_of rows w q)
+put_member rows v row m low is w q = rw (row_put rows v row low w) (by_test (w == v))
   where
-    by_test : (b : Bool) → list_any (λ q. is_some (kind_by (cond b (row_for m) (row_at rows w)) q)) all_ports ≡ is_some (cond b (row_for m) (row_at rows w))
-    by_test true = row_is_known m
-    by_test false = known w
-
-put_member : (rows : List (Option Members)) (v : ℕ) (m : Members) → v < length rows → (w q : ℕ) →
-    member_of (slice_set rows v (row_for m)) w q ≡ cond (w == v) (kind_in m.tagged m.untagged q) (member_of rows w q)
-put_member rows v m low w q = rw (row_put rows v (row_for m) low w) (by_test (w == v))
-  where
-    by_test : (b : Bool) → kind_by (cond b (row_for m) (row_at rows w)) q ≡ cond b (kind_in m.tagged m.untagged q) (member_of rows w q)
-    by_test true = row_has_kind m q
+    by_test : (b : Bool) → kind_by (cond b row (row_at rows w)) q ≡ cond b (kind_in m.tagged m.untagged q) (member_of rows w q)
+    by_test true = is q
     by_test false = refl
 
--- ---- rows in boxes
-module _ (rows : List (Option (Box Members Global))) (v : ℕ) (row : Option (Box Members Global)) where
-  low_row : v < length rows → v < length (rows_of rows)
-  low_row low = rw (length-map rows boxed) low
-
-  boxed_put : (m : Members) → boxed row ≡ row_for m → rows_of (slice_set rows v row) ≡ slice_set (rows_of rows) v (row_for m)
-  boxed_put m is = map-set boxed rows v row ∙ ap (slice_set (rows_of rows) v) is
-
-  pub put_keeps : (n : ℕ) (m : Members) → length rows ≡ n → v < n → boxed row ≡ row_for m → KeepsKnown (rows_of rows) →
-      (length (slice_set rows v row) ≡ n) × KeepsKnown (rows_of (slice_set rows v row))
-  put_keeps n m sized low is known =
-      (length-set rows v row ∙ sized, rw (boxed_put m is) (put_known (rows_of rows) v m (low_row (rw sized low)) known))
-
-  pub put_kinds : (m : Members) → v < length rows → boxed row ≡ row_for m → (w q : ℕ) →
-      member_of (rows_of (slice_set rows v row)) w q ≡ cond (w == v) (kind_in m.tagged m.untagged q) (member_of (rows_of rows) w q)
-  put_kinds m low is w q = rw (boxed_put m is) (put_member (rows_of rows) v m (low_row low) w q)
-
-  is_boxed : is_some row ≡ is_some (boxed row)
-  is_boxed = by_cases row
-    where
-      by_cases : (o : Option (Box Members Global)) → is_some o ≡ is_some (boxed o)
-      by_cases None = refl
-      by_cases (Some m) = refl
-
-  -- a VLAN has a member exactly where its row is there
-  pub known_at : v < length rows → row ≡ slice_index_or rows v row → KeepsKnown (rows_of rows) →
-      is_some row ≡ list_any (λ q. is_some (member_of (rows_of rows) v q)) all_ports
-  known_at low is known = is_boxed ∙ ap is_some (sym (get_or-map boxed rows v row None low ∙ ap boxed (sym is))) ∙ sym (known v)
-
-none_in : (rows : List (Option (Box Members Global))) (n : ℕ) → rows ≡ replicate n None → (v : ℕ) → slice_index_or rows v None ≡ None
-none_in rows n is v = rw is (get_or-same {X = Option (Box Members Global)} n v None)
-
-none_at : (rows : List (Option (Box Members Global))) (n : ℕ) → rows ≡ replicate n None → (v : ℕ) → row_at (rows_of rows) v ≡ None
-none_at rows n is v =
-    elim (cases_lt v (length rows)) [
-      | inl low ↦ get_or-map boxed rows v None None low ∙ ap boxed (none_in rows n is v)
-      | inr high ↦ get_or_past (rows_of rows) v None (rw (length-map rows boxed) high)
-    ]
-
--- no VLAN has a row to begin with
-pub first_known : (rows : List (Option (Box Members Global))) (n : ℕ) → rows ≡ replicate n None → (length rows ≡ n) × KeepsKnown (rows_of rows)
-first_known rows n is = (ap length is ∙ length-replicate n None, λ v. rw (none_at rows n is v) no_row)
-
-pub first_kinds : (rows : List (Option (Box Members Global))) (n : ℕ) → rows ≡ replicate n None → (v q : ℕ) → member_of (rows_of rows) v q ≡ None
-first_kinds rows n is v q = rw (none_at rows n is v) refl
+-- no VLAN has a member to begin with
+pub first_kinds : (n v q : ℕ) → member_of (replicate n None) v q ≡ None
+first_kinds n v q = rw (get_or-same {X = Option Members} n v None) refl

@@ -1,6 +1,7 @@
 -- What the rows of the tables stand for.
-use Rattle.std.specs.Prelude.{◌≡◌, ℕ, Bool, List, Option, Some, None, Box, is_some, map, option_map, slice_index_or}
+use Rattle.std.specs.Prelude.{◌≡◌, ℕ, ◌/◌, ◌%◌, ◌==◌, Bool, false, List, Option, Some, None, Box, is_some, map, option_map, slice_index_or}
 use Rattle.std.specs.Global.{Global}
+use Rattle.std.specs.Int.{bit_at}
 use Rattle.std.specs.List.{list_any}
 use Rattle.exb_model.specs.declared.port_set.PortSet.{PortSet}
 use Rattle.exb_model.specs.declared.vlan.Kind.{Kind}
@@ -29,17 +30,21 @@ row_at rows v = slice_index_or rows v None
 abbrev pub member_of : List (Option Members) → ℕ → ℕ → Option Kind
 member_of rows v q = kind_by (row_at rows v) q
 
--- a VLAN has a row exactly where it has a member
-abbrev pub KeepsKnown : List (Option Members) → Type 0
-KeepsKnown rows = (v : ℕ) → list_any (λ q. is_some (member_of rows v q)) all_ports ≡ is_some (row_at rows v)
+-- there are members exactly where there is one
+abbrev pub IsKnownBy : Option Members → Type 0
+IsKnownBy row = list_any (λ q. is_some (kind_by row q)) all_ports ≡ is_some row
+
+-- whether the bit of a device is set; 0 and 64 have the same
+unfoldable pub is_marked : ℕ → ℕ → Bool
+is_marked spread d = bit_at spread (d % 64) == 1
+
+-- a device has a member only where it is marked
+abbrev pub IsSpread : ℕ → Option Members → Type 0
+IsSpread spread row = (q : ℕ) → is_marked spread (q / 64) ≡ false → kind_by row q ≡ None
 
 -- the row in a box
 abbrev pub boxed : Option (Box Members Global) → Option Members
 boxed = option_map (λ b. b.value)
-
--- those in boxes
-abbrev pub rows_of : List (Option (Box Members Global)) → List (Option Members)
-rows_of = map boxed
 
 -- ---- rules
 abbrev pub rule_of : List PortRule → ℕ → PortRule

@@ -9,6 +9,7 @@ pub mod config;
 pub mod members;
 pub mod port_rules;
 pub mod static_entries;
+pub mod vlan_row;
 pub mod vlan_table;
 
 pub use config::Config;

@@ -1,5 +1,5 @@
 //! The members of one VLAN.
-ghost use Rattle.std.specs.Prelude.{◌≡◌, ℕ, ◌+◌, ◌*◌, ◌<◌, ◌==◌, not, if◌then◌else◌, Some, None};
+ghost use Rattle.std.specs.Prelude.{◌≡◌, ℕ, ◌+◌, ◌*◌, ◌/◌, ◌<◌, ◌==◌, false, not, if◌then◌else◌, Some, None};
 ghost use Rattle.exb_model.specs.Masks.{bits_of};
 ghost use Rattle.exb_model.specs.Ports.{port_in};
 ghost use Rattle.exb_model.specs.Configuration.{kind_in};
@@ -93,6 +93,14 @@ impl Members {
             Kind::Tagged => self.tagged.mask(device) & !untagged,
             Kind::Untagged => untagged,
         }
+    }
+
+    /// Whether a device may have a member, 0 for the bridge: false exactly where both sets have no port of it.
+    pub fn is_on(&self, device: u8) -> bool
+        requires { device < 65 }
+        ensures { result ≡ false → (q : ℕ) → q / 64 ≡ device → kind_in self.now.tagged self.now.untagged q ≡ None }
+    {
+        self.tagged.words[device as usize] != 0 || self.untagged.words[device as usize] != 0
     }
 
     /// Whether no port is a member.

@@ -1,11 +1,12 @@
 //! The members of each VLAN.
-ghost use Rattle.std.specs.Prelude.{◌≡◌, ℕ, ◌==◌, None, Some, is_some, option_copied, if◌then◌else◌, replicate, IfOk, OnOk, OnErr};
+ghost use Rattle.std.specs.Prelude.{◌≡◌, ℕ, ◌==◌, None, is_some, option_copied, if◌then◌else◌, replicate, IfOk, OnOk, OnErr};
 ghost use Rattle.std.specs.List.{list_any};
 ghost use Rattle.exb_model.specs.Ports.{all_ports};
 ghost use Rattle.exb_model.specs.Configuration.{kind_in};
-ghost use Rattle.exb_config.specs.Rows.{has_member, kind_by, member_of, boxed};
+ghost use Rattle.exb_config.specs.Rows.{kind_by, member_of};
 
 use crate::members::Members;
+use crate::vlan_row::VlanRow;
 use exb_model::memory::NoMemory;
 use exb_model::port::PortId;
 use exb_model::vlan::{Kind, Vid};
@@ -15,10 +16,10 @@ use std::marker::Model;
 /// As many places as VLANs can have numbers, with 0 and 4,095, which none has.
 const PLACES: usize = 4096;
 
-/// A row of members for each VLAN that has any, at the place of the VLAN's number, so that nothing is searched.
+/// A row for each VLAN, at the place of the VLAN's number, so that nothing is searched.
 #[derive(Drop)]
 pub struct VlanTable {
-    rows: Vec<Option<Box<Members>>>,
+    rows: Vec<VlanRow>,
 }
 
 impl Model for VlanTable {
@@ -27,46 +28,18 @@ impl Model for VlanTable {
 
     ghost Value = { List (Option Members) };
 
-    ghost use Rattle.exb_config.specs.Rows.{rows_of, KeepsKnown};
+    ghost view = { λ t. t.rows.items };
 
-    ghost view = { λ t. rows_of t.rows.items };
-
-    ghost invariant = { λ t. (length t.rows.items ≡ 4096) × KeepsKnown (rows_of t.rows.items) };
+    ghost invariant = { λ t. length t.rows.items ≡ 4096 };
 }
 
-// The row of a VLAN with these members, if there are any.
-fn row_of(alloc: Global, members: &Members) -> Result<Option<Box<Members>>, NoMemory>
-    ensures { IfOk result (λ row. boxed row ≡ (if has_member members.now then Some members.now else None)) }
-{
-    if members.is_empty() {
-        return Ok(None);
-    }
-    match Box::new(alloc, *members) {
-        Ok(row) => Ok(Some(row)),
-        Err(_) => Err(NoMemory),
-    }
-}
-
-// An equal row, if there is one.
-fn copy_of(alloc: Global, row: &Option<Box<Members>>) -> Result<Option<Box<Members>>, NoMemory>
-    ensures { IfOk result (λ made. boxed made ≡ boxed row.now) }
-{
-    match row {
-        Some(members) => match Box::new(alloc, **members) {
-            Ok(made) => Ok(Some(made)),
-            Err(_) => Err(NoMemory),
-        },
-        None => Ok(None),
-    }
-}
-
-// So many places without a row.
-fn no_rows(alloc: Global, count: usize) -> Result<Vec<Option<Box<Members>>>, NoMemory>
+// So many rows without a member.
+fn no_rows(alloc: Global, count: usize) -> Result<Vec<VlanRow>, NoMemory>
     ensures { IfOk result (λ made. made.items ≡ replicate count None) }
 {
     let mut rows = Vec::new(alloc);
     for _ in 0..count {
-        rows.push(None)?;
+        rows.push(VlanRow::none())?;
     }
     Ok(rows)
 }
@@ -88,7 +61,7 @@ impl VlanTable {
         let alloc = *self.rows.allocator();
         let mut rows = Vec::with_capacity(alloc, PLACES)?;
         for row in &self.rows {
-            rows.push(copy_of(alloc, row)?)?;
+            rows.push(row.copy(alloc)?)?;
         }
         Ok(VlanTable { rows })
     }
@@ -98,18 +71,15 @@ impl VlanTable {
         ensures kinds { (q : ℕ) → kind_by (option_copied result) q ≡ member_of self.now vid q }
         ensures known { is_some (option_copied result) ≡ list_any (λ q. is_some (member_of self.now vid q)) all_ports }
     {
-        match &self.rows[vid.number() as usize] {
-            Some(members) => Some(members.as_ref()),
-            None => None,
-        }
+        self.rows[vid.number() as usize].members()
     }
 
     /// The members of a VLAN.
     pub fn members(&self, vid: Vid) -> Members
         ensures { (q : ℕ) → kind_in result.tagged result.untagged q ≡ member_of self.now vid q }
     {
-        match &self.rows[vid.number() as usize] {
-            Some(members) => **members,
+        match self.row(vid) {
+            Some(members) => *members,
             None => Members::none(),
         }
     }
@@ -118,17 +88,14 @@ impl VlanTable {
     pub fn kind(&self, vid: Vid, port: PortId) -> Option<Kind>
         ensures { result ≡ member_of self.now vid port }
     {
-        match &self.rows[vid.number() as usize] {
-            Some(members) => members.kind(port),
-            None => None,
-        }
+        self.rows[vid.number() as usize].kind(port)
     }
 
     /// Whether a VLAN has a member.
     pub fn is_known(&self, vid: Vid) -> bool
         ensures { result ≡ list_any (λ q. is_some (member_of self.now vid q)) all_ports }
     {
-        self.rows[vid.number() as usize].is_some()
+        self.row(vid).is_some()
     }
 
     /// Sets the members of a VLAN. It has a row exactly while it has a member.
@@ -137,7 +104,7 @@ impl VlanTable {
             ≡ (if w == vid then kind_in members.tagged members.untagged q else member_of self.old w q)) }
         ensures err { OnErr result (self.new ≡ self.old) }
     {
-        let row = row_of(*self.rows.allocator(), &members)?;
+        let row = VlanRow::new(*self.rows.allocator(), &members)?;
         self.rows[vid.number() as usize] = row;
         Ok(())
     }
