@@ -90,6 +90,10 @@ fn remove_at(words: &mut VecDeque<Word>, place: usize) -> Option<Word>
     ensures word { result ≡ slice_get words.old.items place }
     ensures rest { words.new.items ≡ remove words.old.items place }
 {
+    // Mostly it is the first, which leaves its queue and moves no other.
+    if place == 0 {
+        return words.pop_front();
+    }
     words.remove(place)
 }
 
