@@ -2,6 +2,7 @@ pub mod InOrder
 pub mod Arriving
 pub mod Members
 pub mod Trees
+pub mod Racing
 pub mod Merged
 pub mod Among
 pub mod Starting

@@ -1,11 +1,9 @@
 -- The tree by which the first turn is found.
-use Rattle.std.proofs.Common.{◌≡◌, ℕ, zero, suc, ◌+◌, ◌*◌, ◌<◌, ◌≤◌, Bool, true, false, List, [], ◌∷◌, ◌++◌, length, map, get_or, set, refl, sym, ap, subst, ◌∙◌, arith, inl, inr, length-append, length-set}
-use Rattle.std.specs.Prelude.{◌≢◌, ◌⊎◌, ◌/◌, nat_lt, if◌then◌else◌, Option, Some, None, IfSome, unwrap_or}
-use Rattle.std.specs.List.{AllByRecursion}
-use Rattle.std.proofs.lemmas.List.{get_or-set_same, get_or-set_other, get_or_default, length-map}
+use Rattle.std.proofs.Common.{◌≡◌, ℕ, zero, suc, ◌+◌, ◌*◌, ◌<◌, ◌≤◌, Bool, true, false, List, [], ◌∷◌, ◌++◌, length, get_or, set, refl, sym, ap, subst, ◌∙◌, arith, inl, inr, length-append, length-set}
+use Rattle.std.specs.Prelude.{◌≢◌, ◌⊎◌, ◌/◌, nat_lt, if◌then◌else◌}
+use Rattle.std.proofs.lemmas.List.{get_or-set_same, get_or-set_other, get_or_default}
 use Rattle.std.proofs.lemmas.Bool.Decides.{eqb_tells, leb_tells, nat_tests}
-use Rattle.exb_merge.specs.declared.turns.Turns.{Turns}
-use Rattle.exb_merge.specs.Turns.{AreTurns, HasLeaves, HasPending, IsFirst, IsTree, IsWon, above, at, kept, moment_at, sooner, turn}
+use Rattle.exb_merge.specs.Turns.{HasLeaves, HasPending, IsTree, IsWon, above, at, sooner, turn}
 
 -- ---- of two turns one is first
 sooner_is : (ms : List ℕ) (one other : ℕ) (P : ℕ → Type 0) → P one → P other → P (sooner ms one other)
@@ -423,96 +421,3 @@ module _ (ms leaves firsts : List ℕ) (t : IsTree ms leaves firsts) (v place be
       (ap (λ n. at now_firsts (2 * n + 1)) (sym here) ∙ right_first ∙ here) (is_shared ∙ ap (at firsts) here) count_leaves
       (ap (at now_leaves) (sym here) ∙ own_leaf ∙ ap (λ n. 2 * n + 1) here) stay_leaf (λ low. moved_leaf low ∙ ap (λ n. 2 * n) here) done settled
       (subst (λ xs. HasLeaves (length now_ms) xs done) same stays)
-
--- ---- the moments
-pub kept_is : (moment : Option ℕ) → unwrap_or moment 18446744073709551615 ≡ kept moment
-kept_is None = refl
-kept_is (Some m) = refl
-
-at_kept : (moments : List (Option ℕ)) (k : ℕ) → k < length moments → at (map kept moments) k ≡ kept (moment_at moments k)
-at_kept [] k low = absurd (omega (arith, low))
-at_kept (m ∷ moments) zero low = refl
-at_kept (m ∷ moments) (suc k) low = at_kept moments k (omega (arith, low))
-
-all_of : {X : Type 0} (P : X → Type 0) (xs : List X) (d : X) → ((k : ℕ) → k < length xs → P (get_or xs k d)) → AllByRecursion P xs
-all_of P [] d all = tt
-all_of P (x ∷ xs) d all = (all 0 (omega arith), all_of P xs d (λ k low. all (suc k) (omega (arith, low))))
-
-one_of : {X : Type 0} (P : X → Type 0) (xs : List X) (d : X) (k : ℕ) → k < length xs → AllByRecursion P xs → P (get_or xs k d)
-one_of P [] d k low all = absurd (omega (arith, low))
-one_of P (x ∷ xs) d zero low all = all.0
-one_of P (x ∷ xs) d (suc k) low all = one_of P xs d k (omega (arith, low)) all.1
-
-pub all_set : {X : Type 0} (P : X → Type 0) (xs : List X) (k : ℕ) (x : X) → P x → AllByRecursion P xs → AllByRecursion P (set xs k x)
-all_set P [] k x own all = tt
-all_set P (y ∷ xs) zero x own all = (own, all.1)
-all_set P (y ∷ xs) (suc k) x own all = (all.0, all_set P xs k x own all.1)
-
--- ---- the first turn
-module _ (moments : List (Option ℕ)) (t : Turns) (are : AreTurns moments t) (place moment : ℕ) (some : 1 < length t.firsts.items) (first : place ≡ get_or t.firsts.items 1 place)
-    (own : moment ≡ get_or t.moments.items place moment) where
-  places : length t.moments.items ≡ length moments
-  places = ap length are.are ∙ length-map moments kept
-
-  few : length t.moments.items < 9223372036854775808
-  few = omega (arith, t.moments.small, t.moments.ok.0, t.moments.ok.1)
-
-  first_is : at t.firsts.items 1 ≡ place
-  first_is = at_is t.firsts.items 1 place some first
-
-  within : place < length t.moments.items
-  within = subst (λ p. p < length t.moments.items) first_is (are.tree.places 1 (omega arith) some)
-
-  own_is : at t.moments.items place ≡ moment
-  own_is = at_is t.moments.items place moment within own
-
-  moment_is : (q : ℕ) → q < length t.moments.items → at t.moments.items q ≡ kept (moment_at moments q)
-  moment_is q low = ap (λ xs. at xs q) are.are ∙ at_kept moments q (omega (arith, low, places))
-
-  -- no turn is before it
-  before : (q : ℕ) → q < length t.moments.items → moment * 18446744073709551616 + place ≤ kept (moment_at moments q) * 18446744073709551616 + q
-  before q low =
-      let least = subst (λ p. turn t.moments.items p ≤ turn t.moments.items q) first_is (root_least t.moments.items t.leaves.items t.firsts.items are.tree q low) in
-      sums moment place (kept (moment_at moments q)) q (at t.moments.items place) (at t.moments.items q) own_is (moment_is q low) least
-    where
-      sums : (m p k n x y : ℕ) → x ≡ m → y ≡ k → x * 18446744073709551616 + p ≤ y * 18446744073709551616 + n → m * 18446744073709551616 + p ≤ k * 18446744073709551616 + n
-      sums m p k n x y is there low = omega (arith, is, there, low)
-
-  not_before : (m p k q : ℕ) → q < 9223372036854775808 → m * 18446744073709551616 + p ≤ k * 18446744073709551616 + q → m ≤ k
-  not_before m p k q high low = omega (arith, high, low)
-
-  later : (m p k q : ℕ) → q < p → m * 18446744073709551616 + p ≤ k * 18446744073709551616 + q → m < k
-  later m p k q high low = omega (arith, high, low)
-
-  is_some : (o : Option ℕ) → kept o ≡ moment → moment ≢ 18446744073709551615 → o ≡ Some moment
-  is_some None e some = absurd (some (sym e))
-  is_some (Some m) e some = ap Some e
-
-  if_later : (o : Option ℕ) (P : ℕ → Type 0) → P (kept o) → IfSome o P
-  if_later None P h = tt
-  if_later (Some m) P h = h
-
-  pub is_first : moment ≢ 18446744073709551615 → IsFirst moments moment place
-  is_first some = record {
-    within = omega (arith, within, places);
-    own = is_some (moment_at moments place) (sym (moment_is place within) ∙ own_is) some;
-    all = λ q low.
-        let there : q < length t.moments.items = omega (arith, low, places) in
-        if_later (moment_at moments q) (λ m. moment ≤ m) (not_before moment place (kept (moment_at moments q)) q (omega (arith, there, few)) (before q there));
-    ahead = λ q low.
-        let there : q < length t.moments.items = omega (arith, low, within) in
-        if_later (moment_at moments q) (λ m. moment < m) (later moment place (kept (moment_at moments q)) q low (before q there));
-  }
-
-  pub are_none : moment ≡ 18446744073709551615 → AllByRecursion (λ m. m ≡ None) moments
-  are_none never = all_of (λ m. m ≡ None) moments None none
-    where
-      no_moment : (o : Option ℕ) → IfSome o (λ m. m < 18446744073709551615) → moment ≤ kept o → o ≡ None
-      no_moment None small low = refl
-      no_moment (Some m) small low = absurd (omega (arith, small, low, never))
-
-      none : (q : ℕ) → q < length moments → moment_at moments q ≡ None
-      none q low =
-          let there : q < length t.moments.items = omega (arith, low, places) in
-          no_moment (moment_at moments q) (one_of (λ o. IfSome o (λ m. m < 18446744073709551615)) moments None q low are.small)
-          (not_before moment place (kept (moment_at moments q)) q (omega (arith, there, few)) (before q there))

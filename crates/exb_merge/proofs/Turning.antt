@@ -4,7 +4,7 @@ use Rattle.std.specs.Prelude.{Option, Some, None, IfSome}
 use Rattle.std.specs.List.{AllByRecursion}
 use Rattle.std.proofs.lemmas.List.{length-map, map-append, map-set}
 use Rattle.exb_merge.specs.declared.turns.Turns.{Turns}
-use Rattle.exb_merge.specs.Turns.{AreTurns, IsFirst, kept, moment_at}
+use Rattle.exb_merge.specs.Turns.{AreTurns, IsFirst, moment_at}
 use Rattle.exb_merge.proofs.Members.{all-right}
 use Rattle.exb_merge.proofs.Places.{HasAt, has_at}
 
@@ -67,7 +67,3 @@ module _ {X : Type 0} (next : X → Option ℕ) where
 
   pub turns_more : (xs : List X) (x : X) (t : Turns) → AreTurns (map next xs ++ next x ∷ []) t → AreTurns (map next (xs ++ x ∷ [])) t
   turns_more xs x t are = subst (λ ms. AreTurns ms t) (sym (map-append next xs (x ∷ []))) are
-
-  -- a place of the list is one of the turns
-  pub place_in : (xs : List X) (t : Turns) (place : ℕ) → AreTurns (map next xs) t → place < length xs → place < length t.moments.items
-  place_in xs t place are low = omega (arith, low, ap length are.are, length-map (map next xs) kept, length-map xs next)

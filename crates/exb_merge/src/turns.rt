@@ -1,31 +1,36 @@
 //! Whose turn it is of what stands in a list.
 ghost use Rattle.std.specs.Prelude.{◌≡◌, ◌<◌, ◌*◌, ◌+◌, ◌++◌, ◌∷◌, [], ℕ, List, Option, Some, None, length, set, OnOk, IfSome, IfNone};
 ghost use Rattle.std.specs.List.{AllByRecursion};
-ghost use Rattle.exb_merge.specs.Turns.{AreTurns, HasLeaves, HasPending, IsFirst, sooner};
+ghost use Rattle.exb_merge.specs.Turns.{AreTurns, HasLeaves, HasPending, HasTurn, IsFirst, sooner};
 
 use exb_model::memory::NoMemory;
 use std::alloc::Global;
 
-/// The moment of a place that has no turn: later than any.
+/// The moment of a racer that has no turn: later than any.
 const NEVER: u64 = u64::MAX;
 
-/// A moment outweighs all places.
+/// A moment outweighs all racers.
 const MOMENT: u128 = 0x1_0000_0000_0000_0000;
 
 /// The turns of what stands in a list: the moment that comes next of each place, if one does.
 ///
-/// They are a tournament. Of its nodes each but a leaf, at n, has two below it, at 2n and 2n + 1, and the root is at 1; each place has a leaf.
+/// They are a tournament of racers, one of each place that was added with a turn: what never has one costs no round. Of its
+/// nodes each but a leaf, at n, has two below it, at 2n and 2n + 1, and the root is at 1; each racer has a leaf.
 #[derive(Drop)]
 pub struct Turns {
-    /// The moment of each place, or `NEVER`.
+    /// The moment of each racer, or `NEVER`.
     moments: Vec<u64>,
-    /// The leaf of each place.
+    /// The leaf of each racer.
     leaves: Vec<usize>,
-    /// The place whose turn is first of those below each node.
+    /// The racer whose turn is first of those below each node.
     firsts: Vec<usize>,
+    /// The place of each racer, ascending.
+    places: Vec<usize>,
+    /// The racer of each place; of no meaning where the place was added without a turn.
+    racers: Vec<usize>,
 }
 
-/// Which of two places has its turn first: by moment, and at the same moment the lower one.
+/// Which of two racers has its turn first: by moment, and at the same moment the lower one.
 #[inline(always)]
 fn sooner(moments: &[u64], one: usize, other: usize) -> usize
     requires one { one < length moments.now }
@@ -37,7 +42,7 @@ fn sooner(moments: &[u64], one: usize, other: usize) -> usize
     if second < first { other } else { one }
 }
 
-/// Finds which place is first at a node and at those above it.
+/// Finds which racer is first at a node and at those above it.
 #[inline(always)]
 fn settle(moments: &[u64], firsts: &mut [usize], pending: usize)
     requires pending { HasPending moments.now firsts.old pending }
@@ -60,25 +65,33 @@ impl Turns {
             moments: Vec::new(alloc),
             leaves: Vec::new(alloc),
             firsts: Vec::new(alloc),
+            places: Vec::new(alloc),
+            racers: Vec::new(alloc),
         }
     }
 
-    /// One place more. It shares the node of the first leaf.
+    /// One place more. Its racer, if it has a turn, shares the node of the first leaf.
     pub fn add(&mut self, moment: Option<u64>) -> Result<(), NoMemory>
         requires turns { (moments : List (Option ℕ)) × AreTurns moments self.old }
         requires small { IfSome moment (λ m. m < 18446744073709551615) }
         ensures { OnOk result ((moments : List (Option ℕ)) → AreTurns moments self.old → AreTurns (moments ++ moment ∷ []) self.new) }
     {
-        let place = self.moments.len();
-        self.moments.push(moment.unwrap_or(NEVER))?;
-        self.leaves.push(place)?;
-        self.firsts.push(place)?;
-        self.firsts.push(place)?;
-        let beside = self.firsts[place];
-        self.firsts[2 * place] = beside;
-        self.leaves[beside] = 2 * place;
-        self.leaves[place] = 2 * place + 1;
-        settle(self.moments.as_slice(), self.firsts.as_mut_slice(), place);
+        let place = self.racers.len();
+        let racer = self.moments.len();
+        self.racers.push(racer)?;
+        let Some(moment) = moment else {
+            return Ok(());
+        };
+        self.places.push(place)?;
+        self.moments.push(moment)?;
+        self.leaves.push(racer)?;
+        self.firsts.push(racer)?;
+        self.firsts.push(racer)?;
+        let beside = self.firsts[racer];
+        self.firsts[2 * racer] = beside;
+        self.leaves[beside] = 2 * racer;
+        self.leaves[racer] = 2 * racer + 1;
+        settle(self.moments.as_slice(), self.firsts.as_mut_slice(), racer);
         Ok(())
     }
 
@@ -89,27 +102,27 @@ impl Turns {
         ensures some { IfSome result (λ t. (moments : List (Option ℕ)) → AreTurns moments self.now → IsFirst moments t.0 t.1) }
         ensures none { IfNone result ((moments : List (Option ℕ)) → AreTurns moments self.now → AllByRecursion (λ m. m ≡ None) moments) }
     {
-        let place = *self.firsts.get(1)?;
-        let moment = self.moments[place];
+        let racer = *self.firsts.get(1)?;
+        let moment = self.moments[racer];
         if moment == NEVER {
             return None;
         }
-        Some((moment, place))
+        Some((moment, self.places[racer]))
     }
 
-    /// Gives a place its next turn, or takes it away.
+    /// Gives a place that has a turn its next one, or takes it away.
     #[inline(always)]
     pub fn put(&mut self, place: usize, moment: Option<u64>)
-        requires turns { (moments : List (Option ℕ)) × AreTurns moments self.old }
-        requires place { place < length self.old.moments.items }
+        requires turn { (moments : List (Option ℕ)) × AreTurns moments self.old × HasTurn moments place }
         requires small { IfSome moment (λ m. m < 18446744073709551615) }
         ensures { (moments : List (Option ℕ)) → AreTurns moments self.old → AreTurns (set moments place moment) self.new }
     {
-        self.moments[place] = moment.unwrap_or(NEVER);
+        let racer = self.racers[place];
+        self.moments[racer] = moment.unwrap_or(NEVER);
         settle(
             self.moments.as_slice(),
             self.firsts.as_mut_slice(),
-            self.leaves[place] / 2,
+            self.leaves[racer] / 2,
         );
     }
 }

@@ -4,7 +4,7 @@ use Rattle.exb_merge.specs.declared.agenda.NetNext.{NetNext}
 use Rattle.exb_merge.specs.declared.replays.CaptureFault.TheVariants.{Changed}
 use Rattle.exb_merge.specs.NetAgendas.{turn_in}
 use Rattle.exb_merge.proofs.NetSteps.{apart_next, comes_next, each_next, fault_is, ids_next, no_turn, none_told, order_next, own_seated, own_told, reads_all, there}
-use Rattle.exb_merge.proofs.Turning.{ahead_of, behind_of, is_there, none_left, place_in, turns_next, whose_turn}
+use Rattle.exb_merge.proofs.Turning.{ahead_of, behind_of, is_there, none_left, turns_next, whose_turn}
 use Rattle.exb_merge.proofs.agenda.Agenda.next.Goals as goal
 
 pub first-requires : goal.first-requires
@@ -92,13 +92,11 @@ returns-in-Err-clause-place g c = λ b p at e.
     let both = fault_is place b c.in-Err.fault (Changed p at) e in
     (s.programme, there ss place s h.at b (sym both.0), c.in-Err.ensures.place p at (ap Err both.1))
 
-pub put-requires-clause-turns : goal.put-requires-clause-turns
-put-requires-clause-turns g c = (map turn_in c.args.self.now.seats.items, c.requires.agenda.turns)
-
-pub put-requires-clause-place : goal.put-requires-clause-place
-put-requires-clause-place g c =
-    let ss = c.args.self.now.seats.items in
-    place_in turn_in ss c.args.self.now.turns c.in-Some.place c.requires.agenda.turns (is_there turn_in ss c.in-Some.field-0-0 c.in-Some.place (c.in-Some.ensures.some (map turn_in ss) c.requires.agenda.turns))
+pub put-requires-clause-turn : goal.put-requires-clause-turn
+put-requires-clause-turn g c =
+    let moments = map turn_in c.args.self.now.seats.items in
+    let turns = c.requires.agenda.turns in
+    (moments, turns, (c.in-Some.field-0-0, (c.in-Some.ensures.some moments turns).own))
 
 pub put-requires-clause-small : goal.put-requires-clause-small
 put-requires-clause-small g c = c.in-Ok.ensures.seated.small

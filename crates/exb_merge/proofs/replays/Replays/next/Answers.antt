@@ -11,7 +11,7 @@ use Rattle.exb_merge.proofs.Moving.{changed_at, opened_next, own_fault, rises_ne
 use Rattle.exb_merge.proofs.Playing.{at_taken, has_rest, moves_taken, next_apart, next_come, next_each, next_earliest, next_ids, next_left, next_reads, next_rises, next_since, order_next}
 use Rattle.exb_merge.proofs.Seen.{own_comes, own_of, small_next, whose_turn}
 use Rattle.exb_merge.proofs.Told.{none_told}
-use Rattle.exb_merge.proofs.Turning.{all_from, is_there, none_left, place_in, turns_next}
+use Rattle.exb_merge.proofs.Turning.{all_from, is_there, none_left, turns_next}
 use Rattle.exb_merge.proofs.replays.Replays.next.Goals as goal
 
 pub first-requires : goal.first-requires
@@ -137,13 +137,11 @@ returns-in-Err-ahead g c =
       failed = first_of (search rules, grind (arith, common_steps));
     }
 
-pub put-requires-clause-turns : goal.put-requires-clause-turns
-put-requires-clause-turns g c = (map next_in c.args.self.now.sources.items, c.requires.opened.turns)
-
-pub put-requires-clause-place : goal.put-requires-clause-place
-put-requires-clause-place g c =
-    let xs = c.args.self.now.sources.items in
-    place_in next_in xs c.args.self.now.turns c.in-Some.place c.requires.opened.turns (is_there next_in xs c.in-Some.moment c.in-Some.place (c.in-Some.ensures.some (map next_in xs) c.requires.opened.turns))
+pub put-requires-clause-turn : goal.put-requires-clause-turn
+put-requires-clause-turn g c =
+    let moments = map next_in c.args.self.now.sources.items in
+    let turns = c.requires.opened.turns in
+    (moments, turns, (c.in-Some.moment, (c.in-Some.ensures.some moments turns).own))
 
 pub put-requires-clause-small : goal.put-requires-clause-small
 put-requires-clause-small g c = small_next c.in-Ok-ahead.next c.ahead.new.self c.in-Ok-ahead.ensures.found

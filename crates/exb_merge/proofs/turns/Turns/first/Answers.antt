@@ -1,19 +1,23 @@
-use Rattle.std.proofs.Common.{◌≡◌, ◌<◌, get_or, length, subst}
-use Rattle.exb_merge.proofs.Trees.{are_none, is_first}
+use Rattle.std.proofs.Common.{◌≡◌, ◌<◌, ◌≤◌, get_or, length, subst}
+use Rattle.exb_merge.proofs.Racing.{are_none, if_none, is_first, none_race}
 use Rattle.exb_merge.proofs.turns.Turns.first.Goals as goal
 
 pub returns-then-moment-clause-none : goal.returns-then-moment-clause-none
 returns-then-moment-clause-none c = λ moments are.
-    let place = c.in_ok-place.field-0.now in
+    let racer = c.in_ok-racer.field-0.now in
     let m = c.index-moment.result.now in
-    let found = c.in_ok-place.ensures.lookup in
-    are_none moments c.args.self.now are place m (subst (λ xs. 1 < length xs) c.deref.ensures.value found.3.0) (subst (λ xs. place ≡ get_or xs 1 place) c.deref.ensures.value found.1) c.index-moment.ensures
+    let found = c.in_ok-racer.ensures.lookup in
+    are_none moments c.args.self.now are racer m (subst (λ xs. 1 < length xs) c.deref.ensures.value found.3.0) (subst (λ xs. racer ≡ get_or xs 1 racer) c.deref.ensures.value found.1) c.index-moment.ensures
     c.if-moment.true
 
 pub returns-clause-some : goal.returns-clause-some
 returns-clause-some c = λ moments are.
-    let place = c.in_ok-place.field-0.now in
+    let racer = c.in_ok-racer.field-0.now in
     let m = c.index-moment.result.now in
-    let found = c.in_ok-place.ensures.lookup in
-    is_first moments c.args.self.now are place m (subst (λ xs. 1 < length xs) c.deref.ensures.value found.3.0) (subst (λ xs. place ≡ get_or xs 1 place) c.deref.ensures.value found.1) c.index-moment.ensures
-    c.if-moment.false
+    let found = c.in_ok-racer.ensures.lookup in
+    is_first moments c.args.self.now are racer m (subst (λ xs. 1 < length xs) c.deref.ensures.value found.3.0) (subst (λ xs. racer ≡ get_or xs 1 racer) c.deref.ensures.value found.1) c.index-moment.ensures
+    c.if-moment.false c.index.result.now c.index.ensures
+
+pub returns-in_err-racer-clause-none : goal.returns-in_err-racer-clause-none
+returns-in_err-racer-clause-none c =
+    if_none c.from_residual.result _ (λ moments are. none_race moments c.args.self.now are (subst (λ xs. length xs ≤ 1) c.deref.ensures.value c.in_err-racer.ensures.lookup.3))
