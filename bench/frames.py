@@ -16,6 +16,7 @@ same run, and compares what the two write byte for byte.
 It works in a folder of its own under the system's folder for such, and takes it away at the end. The program and the
 baseline are built before where that is needed; the program is the one that ./exbr runs, or the one that is named by EXBR=FILE.
 """
+import argparse
 import filecmp
 import os
 import random
@@ -277,7 +278,15 @@ def costs():
     print("\n".join(line[:160] for line in text.splitlines()[:45]))
 
 
+PARTS = {"vlans": vlans, "trees": trees, "commands": commands, "options": options, "costs": costs}
+
+
 def main():
+    parser = argparse.ArgumentParser(description=__doc__, formatter_class=argparse.RawDescriptionHelpFormatter)
+    one = parser.add_mutually_exclusive_group()
+    for name in PARTS:
+        one.add_argument(f"--{name}", dest="part", action="store_const", const=name)
+    part = PARTS.get(parser.parse_args().part, sizes)
     # With no words the program says how it is called; the launcher builds it for that.
     if "EXBR" not in os.environ:
         subprocess.run([f"{TOP}/exbr"], capture_output=True, check=False)
@@ -285,18 +294,7 @@ def main():
     try:
         subprocess.run(["cc", "-O2", "-o", f"{folder}/flat", f"{TOP}/bench/flat.c"], check=True)
         os.chdir(folder)
-        if "--vlans" in sys.argv:
-            vlans()
-        elif "--trees" in sys.argv:
-            trees()
-        elif "--commands" in sys.argv:
-            commands()
-        elif "--options" in sys.argv:
-            options()
-        elif "--costs" in sys.argv:
-            costs()
-        else:
-            sizes()
+        part()
     finally:
         os.chdir(TOP)
         shutil.rmtree(folder)

@@ -5,6 +5,7 @@ the program itself, a tick in which none dies, and forgetting a port with ten ad
 
     bench/learned.py      (the program is the crate exb_bench, which is built where that is needed)
 """
+import argparse
 import os
 import shutil
 import subprocess
@@ -47,6 +48,7 @@ def told(program, what, count, times):
 
 
 def main():
+    argparse.ArgumentParser(description=__doc__, formatter_class=argparse.RawDescriptionHelpFormatter).parse_args()
     program = built()
     folder = tempfile.mkdtemp(prefix="exbr-bench-")
     try:

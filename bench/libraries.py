@@ -8,6 +8,7 @@ valgrind is there.
 port that becomes a member of a VLAN and then none any more, where there are 10 and 4,094 VLANs; `port` is a port in 4,094 VLANs
 that goes down and up. The last line is the memory of number spaces for 64 ports of the bridge.
 """
+import argparse
 import os
 import re
 import shutil
@@ -70,6 +71,7 @@ def memory(program):
 
 
 def main():
+    argparse.ArgumentParser(description=__doc__, formatter_class=argparse.RawDescriptionHelpFormatter).parse_args()
     program = built()
     for what, count, times in CALLS:
         one = seconds(program, what, count, 1)

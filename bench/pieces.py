@@ -9,6 +9,7 @@ There are classic captures and pcapng of frames of 262,144 bytes, which the brid
 written. It works in a folder of its own under the system's folder for such, and takes it away at the end. A program that is built
 already may be named by EXBR=FILE. It fails where a run has more than 16 MiB of memory.
 """
+import argparse
 import os
 import struct
 import subprocess
@@ -108,8 +109,10 @@ def measure(kind, size):
 
 
 def main():
+    parser = argparse.ArgumentParser(description=__doc__, formatter_class=argparse.RawDescriptionHelpFormatter)
+    parser.add_argument("--small", action="store_true", help="short captures alone")
     sizes = [4 << 20, 64 << 20]
-    if sys.argv[1:] != ["--small"]:
+    if not parser.parse_args().small:
         sizes += [1 << 30, 4 << 30]
     with tempfile.TemporaryDirectory() as folder:
         os.chdir(folder)

@@ -6,6 +6,7 @@ measured is `exbr check`, which plays nothing: it reads the file and, where that
     bench/topology.py [--hostile]    (in a folder for its files; the program is built before where that is needed, or named by
                                      EXBR=FILE)
 """
+import argparse
 import os
 import resource
 import subprocess
@@ -67,10 +68,17 @@ def measure(name, text):
     print(f"{name}: {len(text)} bytes, status {ran.returncode} ({ran.stdout.strip()}), {seconds:.2f} s, peak so far {peak} MB")
 
 
-if __name__ == "__main__":
+def main():
+    parser = argparse.ArgumentParser(description=__doc__, formatter_class=argparse.RawDescriptionHelpFormatter)
+    parser.add_argument("--hostile", action="store_true", help="files of up to 16 MB too")
+    is_hostile = parser.parse_args().hostile
     subprocess.run([PROGRAM], capture_output=True, check=False)
     measure("limits.toml", at_the_limits())
-    if "--hostile" in sys.argv:
+    if is_hostile:
         measure("static.toml", static_entries())
         measure("prefix.toml", long_prefix())
         measure("hostile.toml", hostile())
+
+
+if __name__ == "__main__":
+    main()

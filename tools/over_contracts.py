@@ -9,6 +9,7 @@ past open goals, each of which is printed; what they call in their own crate is 
 holes`, or that it calls what isn't proved. A second run over the same crates takes a minute or two; `--anew` writes the
 folder once more after something below has changed.
 """
+import argparse
 import os
 import re
 import shutil
@@ -125,14 +126,17 @@ def write(crate):
 
 
 def main():
-    words = [word for word in sys.argv[1:] if word != "--anew"]
-    if len(words) < 2:
-        sys.exit(__doc__)
-    crate, functions = words[0], words[1:]
-    needs = crates()
+    parser = argparse.ArgumentParser(description=__doc__, formatter_class=argparse.RawDescriptionHelpFormatter)
+    parser.add_argument("--anew", action="store_true", help="write what lies below once more")
+    parser.add_argument("crate", metavar="CRATE")
+    parser.add_argument("functions", metavar="FUNCTION", nargs="+", help="by its path in the crate, as feed::Feed::gather")
+    asked = parser.parse_args()
+    crate, functions, needs = asked.crate, asked.functions, crates()
+    if crate not in needs:
+        parser.error(f"crates.txt has no crate {crate}")
     order = below(crate, needs)[:-1]
     kit = os.path.dirname(subprocess.run(["rt", "doc"], capture_output=True, text=True, check=True).stdout.split()[0])
-    if "--anew" in sys.argv or not os.path.isdir(FOLDER):
+    if asked.anew or not os.path.isdir(FOLDER):
         for name in order:
             shutil.rmtree(f"{FOLDER}/{name}", ignore_errors=True)
             write(name)

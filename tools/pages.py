@@ -9,6 +9,7 @@ PROMISES doesn't name, crates that ARCHITECTURE doesn't have under their heading
 or wider than it may be, and paths of a machine. It prints a line each, and ends with status 1 where there is one. It knows names,
 and not what is said of them.
 """
+import argparse
 import os
 import re
 import sys
@@ -151,7 +152,9 @@ def readme():
 
 
 def main():
-    if sys.argv[1:] == ['--depths']:
+    parser = argparse.ArgumentParser(description=__doc__, formatter_class=argparse.RawDescriptionHelpFormatter)
+    parser.add_argument('--depths', action='store_true', help='the picture of depths alone')
+    if parser.parse_args().depths:
         print(depths())
         return
     crates = [it for crates in groups().values() for it in crates]
@@ -163,4 +166,5 @@ def main():
     sys.exit(1 if found else 0)
 
 
-main()
+if __name__ == '__main__':
+    main()

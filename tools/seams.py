@@ -7,6 +7,7 @@ names that a definition or proof imports and no file declares, names that code i
 that are used and not listed in crates.txt or are listed twice, proofs of functions that aren't there, and edits whose text isn't there once.
 It prints a line each, and ends with status 1 where there is one. It knows names and no types, so it proves nothing.
 """
+import argparse
 import os
 import re
 import sys
@@ -116,6 +117,7 @@ def edit_seams(crate):
 
 
 def main():
+    argparse.ArgumentParser(description=__doc__, formatter_class=argparse.RawDescriptionHelpFormatter).parse_args()
     needs, twice = listed()
     sources = {crate: '\n'.join(text(path) for path in files(crate, '.rt')) for crate in sorted(os.listdir(CRATES))}
     seams = [f'crates.txt has {crate} on two lines' for crate in twice]

@@ -1,11 +1,14 @@
 #!/usr/bin/env python3
-"""Shows where a trace breaks: `tools/trace_break.py TOPOLOGY [LINES]`, in the folder in which the run was made.
+"""Shows where a trace breaks, in the folder in which the run was made:
+
+    tools/trace_break.py TOPOLOGY [LINES]
 
 It reads the topology, its captures, and the output files, journal and trace of a run, judges the five rules of a legal trace by the
 judge of `crates/exb_cases/world`, which was written from the rules alone, and prints the lowest rule that doesn't hold and the first
 line at which it doesn't, with so many lines around it (4 without a number), each of them decoded. Its status is 0 where all rules hold,
 and 11 where one is broken.
 """
+import argparse
 import glob
 import os
 import sys
@@ -96,15 +99,23 @@ def show(trace, rule, at, around):
 
 
 def read(name):
-    with open(name, "rb") as file:
-        return file.read()
+    try:
+        with open(name, "rb") as file:
+            return file.read()
+    except OSError as error:
+        sys.exit(f"trace_break: {name}: {error.strerror}")
 
 
 def main():
-    if not 2 <= len(sys.argv) <= 3:
-        sys.exit("usage: trace_break.py TOPOLOGY [LINES]")
-    text = read(sys.argv[1]).decode()
-    bridge = Bridge(text)
+    parser = argparse.ArgumentParser(description=__doc__, formatter_class=argparse.RawDescriptionHelpFormatter)
+    parser.add_argument("topology", metavar="TOPOLOGY", help="the file of which the run was made")
+    parser.add_argument("lines", metavar="LINES", nargs="?", type=int, default=4, help="so many lines around the first that breaks the rule (4)")
+    asked = parser.parse_args()
+    try:
+        text = read(asked.topology).decode()
+        bridge = Bridge(text)
+    except ValueError as error:
+        sys.exit(f"trace_break: {asked.topology}: {error}")
     prefix = bridge.bridge.get("out", "out-")
     names = [*glob.glob(f"{glob.escape(prefix)}*.pcap"), f"{prefix}journal.txt", f"{prefix}trace.txt"]
     trace = trace_of(text, {name: read(name) for name in bridge.captures.values()}, {name: read(name) for name in names})
@@ -112,7 +123,7 @@ def main():
     if broken is None:
         print(f"legal {len(trace.lines)}")
         return 0
-    show(trace, *broken, int(sys.argv[2]) if len(sys.argv) > 2 else 4)
+    show(trace, *broken, asked.lines)
     return 11
 
 

@@ -7,6 +7,7 @@ Each is an edit of the code that the prover must refuse, written as those of mus
 repository in the system's folder for such, beside the crate's own, by `rt must-fail`; its status is that of this script.
 Run it for a crate whose contracts changed. A crate that isn't proved on this machine is proved first, with those below it.
 """
+import argparse
 import os
 import shutil
 import subprocess
@@ -31,7 +32,9 @@ def copy_with(crates, folder):
 
 def main():
     known = sorted(os.listdir(BODIES))
-    crates = sys.argv[1:] or known
+    parser = argparse.ArgumentParser(description=__doc__, formatter_class=argparse.RawDescriptionHelpFormatter)
+    parser.add_argument("crates", nargs="*", metavar="CRATE", help="all that have wrong bodies, if none is named")
+    crates = parser.parse_args().crates or known
     lacking = [crate for crate in crates if crate not in known]
     if lacking:
         sys.exit(f"{lacking[0]} has no wrong bodies in tools/wrong-bodies: there are those of {' '.join(known)}")

@@ -8,6 +8,7 @@ what comes of the cases that are too long to be told; and the tree over links (w
 whatever its links lose, and which alone says what its trace is and in which order a seed plays. Run it in any folder:
 `crates/exb_cases/cases.py` (Python 3.11 or later).
 """
+import argparse
 import os
 import shutil
 import struct
@@ -312,6 +313,7 @@ def outputs_that_are_read(cases):
 
 
 def main():
+    argparse.ArgumentParser(description=__doc__, formatter_class=argparse.RawDescriptionHelpFormatter).parse_args()
     print(f"the plain bridge comes to the {outcomes.agree()} rows of outcomes.py")
     print(f"{exchanges.agree()} rows of exchanges.py and {stepped.agree()} cases of exb_schedule_tests come to the same over links")
     cases = Cases()
@@ -323,4 +325,5 @@ def main():
     print(f"{net_cases.make()} cases of nets")
 
 
-main()
+if __name__ == "__main__":
+    main()

@@ -6,6 +6,7 @@
 Staff are VLAN 10 with addresses 10.10.0.0/24, guests VLAN 20 with 10.20.0.0/24. Stations ask for addresses and names, look at pages,
 print, and copy files. The guest at x4.2 also looks for staff, by frames with a tag of VLAN 10.
 """
+import argparse
 import os
 import random
 import struct
@@ -218,6 +219,7 @@ class Evening:
 
 def main() -> None:
     """Writes the captures."""
+    argparse.ArgumentParser(description=__doc__, formatter_class=argparse.RawDescriptionHelpFormatter).parse_args()
     evening = Evening()
     evening.arriving()
     evening.staff()

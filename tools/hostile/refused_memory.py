@@ -8,6 +8,7 @@ or a front of it; and to leave each of its output files absent, as it was, or a 
 The program is crates/exbr/out/exbr, as ./exbr builds it, and the runs are bare, tree, lossy and net. It needs gcc or clang and the
 GNU C library. In the second series the output files are there before each run, with other texts.
 """
+import argparse
 import os
 import shutil
 import subprocess
@@ -101,14 +102,22 @@ class Run:
         return statuses
 
 
-def main(words):
-    program = os.path.join(TOP, "crates", "exbr", "out", "exbr")
-    if words[:1] == ["--program"]:
-        program, words = os.path.abspath(words[1]), words[2:]
+def main():
+    parser = argparse.ArgumentParser(description=__doc__, formatter_class=argparse.RawDescriptionHelpFormatter)
+    parser.add_argument("--program", metavar="FILE", default=os.path.join(TOP, "crates", "exbr", "out", "exbr"))
+    parser.add_argument("runs", metavar="RUN", nargs="*", help="all of them, if none is named")
+    asked = parser.parse_args()
+    known = [name for name, _its, _files in RUNS]
+    for name in asked.runs:
+        if name not in known:
+            parser.error(f"{name} is no run: there are {', '.join(known)}")
+    program = os.path.abspath(asked.program)
+    if not os.access(program, os.X_OK):
+        sys.exit(f"refused_memory: there is no program {program}: ./exbr --build makes one, or name one by --program")
     with tempfile.TemporaryDirectory() as folder:
         library = built(folder)
         for name, its, files in RUNS:
-            if words and name not in words:
+            if asked.runs and name not in asked.runs:
                 continue
             run = Run(program, library, folder, its, files)
             for rest in (False, True):
@@ -120,4 +129,4 @@ def main(words):
 
 
 if __name__ == "__main__":
-    main(sys.argv[1:])
+    main()

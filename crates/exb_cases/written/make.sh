@@ -1,6 +1,9 @@
 #!/bin/sh
 # Writes the captures of this folder by the writers of Wireshark's package (tshark of Debian), once; they are kept as files. The texts in
 # which a writer names the machine are blanked.
+case ${1-} in
+--help | -h) sed -n '2,/^[^#]/s/^# \{0,1\}//p' "$0"; exit 0 ;;
+esac
 set -e
 cd "$(dirname "$0")"
 folder=$(mktemp -d)

@@ -5,10 +5,10 @@
 
 Nine frames of ten go to a station that was heard, every fiftieth to all; some are tagged, some are refused by their port.
 """
+import argparse
 import os
 import random
 import struct
-import sys
 
 PORTS, STATIONS = 48, 20
 HEADER = struct.pack("<IHHIIII", 0xA1B23C4D, 2, 4, 0, 0, 65535, 1)
@@ -87,5 +87,13 @@ def make(folder, count):
         file.close()
 
 
+def main():
+    parser = argparse.ArgumentParser(description=__doc__, formatter_class=argparse.RawDescriptionHelpFormatter)
+    parser.add_argument("folder", metavar="FOLDER", help="where the files go; it is made if it isn't there")
+    parser.add_argument("frames", metavar="FRAMES", nargs="?", type=int, default=1_000_000, help="so many frames (1,000,000)")
+    asked = parser.parse_args()
+    make(asked.folder, asked.frames)
+
+
 if __name__ == "__main__":
-    make(sys.argv[1], int(sys.argv[2]) if len(sys.argv) > 2 else 1_000_000)
+    main()
