@@ -11,6 +11,7 @@ and 11 where one is broken.
 import argparse
 import glob
 import os
+import struct
 import sys
 
 TOP = os.path.dirname(os.path.dirname(os.path.abspath(__file__)))
@@ -114,11 +115,15 @@ def main():
     try:
         text = read(asked.topology).decode()
         bridge = Bridge(text)
-    except ValueError as error:
-        sys.exit(f"trace_break: {asked.topology}: {error}")
+    except (ValueError, LookupError, TypeError):
+        sys.exit(f"trace_break: {asked.topology} is no topology: `exbr check {asked.topology}` says where it has a fault")
     prefix = bridge.bridge.get("out", "out-")
     names = [*glob.glob(f"{glob.escape(prefix)}*.pcap"), f"{prefix}journal.txt", f"{prefix}trace.txt"]
-    trace = trace_of(text, {name: read(name) for name in bridge.captures.values()}, {name: read(name) for name in names})
+    captures, outputs = ({name: read(name) for name in them} for them in (bridge.captures.values(), names))
+    try:
+        trace = trace_of(text, captures, outputs)
+    except (ValueError, LookupError, struct.error):
+        sys.exit(f"trace_break: one of these files isn't what it is to be: `exbr audit {asked.topology}` names the first, and the place in it")
     broken = trace.breaks()
     if broken is None:
         print(f"legal {len(trace.lines)}")

@@ -15,7 +15,10 @@ class Line:
     def __init__(self, text):
         self.text, self.journal, self.way = text, text[2:] if text.startswith("= ") else None, None
         if self.journal is None and text != "beat":
-            way, who, side, data = LINE.fullmatch(text).groups()
+            found = LINE.fullmatch(text)
+            if found is None:
+                raise ValueError(f"no line of a trace: {text[:60]}")
+            way, who, side, data = found.groups()
             self.way, self.device = way, 0 if who == "b" else int(who[1:])
             self.side, self.frame = 0 if side == "up" else int(side), bytes.fromhex(data)
 
