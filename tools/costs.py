@@ -135,7 +135,10 @@ def main():
     if words in (["--help"], ["-h"]):
         print(__doc__.strip())
     elif len(words) == 2 and words[0] == "--watch":
-        watch(words[1])
+        try:
+            watch(words[1])
+        except OSError as error:
+            sys.exit(f"tools/costs.py: {words[1]}: {error.strerror}")
     elif len(words) in (1, 2) and os.path.isfile(words[0]):
         for crate, checks in sorted(watched(words[0]).items(), key=lambda it: -max(files[-1][0] for files in it[1])):
             for files in checks:

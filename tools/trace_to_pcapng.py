@@ -48,7 +48,7 @@ class Packet:
 def packets_of(lines):
     """The packets of a trace. A journal line without a packet before it in its step stands at the next one."""
     time, found, waiting, step = 0, [], [], None
-    for line in lines:
+    for number, line in enumerate(lines, 1):
         time += 1
         if line == "beat":
             time, step = (time // MILLISECOND + 1) * MILLISECOND, None
@@ -58,8 +58,12 @@ def packets_of(lines):
             step = None if words[0] in ("tick", "settled") else step
             (step.comments if step else waiting).append(line[2:])
         else:
-            way, device, side, data = line.split(" ")
-            found.append(Packet(time, way, f"{device} {side}", bytes.fromhex(data), waiting))
+            try:
+                way, device, side, data = line.split(" ")
+                frame = bytes.fromhex(data)
+            except ValueError:
+                raise ValueError(f"line {number} is none of a trace") from None
+            found.append(Packet(time, way, f"{device} {side}", frame, waiting))
             waiting = []
             step = found[-1] if way == "in" else step
     return found
@@ -87,6 +91,10 @@ def main():
             out.write(capture_of(packets))
     except OSError as error:
         sys.exit(f"{name}: {error.filename}: {error.strerror}")
+    except UnicodeDecodeError:
+        sys.exit(f"{name}: {words[0]}: no trace, which is a text of ASCII")
+    except (ValueError, IndexError) as error:
+        sys.exit(f"{name}: {words[0]}: {error}")
 
 
 if __name__ == "__main__":
