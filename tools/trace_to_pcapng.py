@@ -53,9 +53,11 @@ def packets_of(lines):
         if line == "beat":
             time, step = (time // MILLISECOND + 1) * MILLISECOND, None
         elif line.startswith("= "):
-            words = line[2:].split()
-            time += int(words[1]) * SECOND if words[0] == "tick" else 0
-            step = None if words[0] in ("tick", "settled") else step
+            word, _, rest = line[2:].partition(" ")
+            if word == "tick" and not rest.isdecimal():
+                raise ValueError(f"line {number} is none of a trace")
+            time += int(rest) * SECOND if word == "tick" else 0
+            step = None if word in ("tick", "settled") else step
             (step.comments if step else waiting).append(line[2:])
         else:
             try:
@@ -93,7 +95,7 @@ def main():
         sys.exit(f"{name}: {error.filename}: {error.strerror}")
     except UnicodeDecodeError:
         sys.exit(f"{name}: {words[0]}: no trace, which is a text of ASCII")
-    except (ValueError, IndexError) as error:
+    except ValueError as error:
         sys.exit(f"{name}: {words[0]}: {error}")
 
 
