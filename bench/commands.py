@@ -5,11 +5,13 @@ binary tree in six levels, and 4,094 VLANs of three of their ports each. The com
     bench/commands.py             the seconds of a run with 20,000 commands, and without one
     bench/commands.py --count     the instructions a command, of all kinds in turn and of each kind
     bench/commands.py --profile   the instructions a command by function, of all kinds in turn
+    bench/commands.py --clock     the share of the time of each function, of a run with 20,000 commands
 
 A count is the difference of two runs under callgrind, one with more commands than the other, divided by how many more: what opening
-and ending take falls out. The program is the one that ./exbr runs, or the one that is named by EXBR=FILE. --count and --profile
-need valgrind; a run there takes minutes, so they go side by side (--jobs). It works in a folder of its own under the system's folder
-for such, which it takes away at the end.
+and ending take falls out. What waits for memory is seen by the clock alone: --clock takes samples by perf. The program is the one that
+./exbr runs, or the one that is named by EXBR=FILE. --count and --profile need valgrind, and --clock perf (Debian's linux-perf); a run by
+valgrind takes minutes, so they go side by side (--jobs). It works in a folder of its own under the system's folder for such, which it
+takes away at the end.
 """
 import argparse
 import concurrent.futures
@@ -109,6 +111,15 @@ def seconds(top):
         print(f"{count:6} commands {time.monotonic() - before:7.2f} s | {ran.stdout.strip()}", flush=True)
 
 
+def by_clock(top):
+    folder = written(turns(20_000), f"{top}/clock")
+    subprocess.run(["perf", "record", "-q", "-e", "cpu-clock", "-F", "2000", "-o", "samples", frames.PROGRAM, "run", "topology.toml"],
+                   cwd=folder, capture_output=True, check=True)
+    text = subprocess.run(["perf", "report", "-i", "samples", "--stdio", "-s", "symbol"], cwd=folder, capture_output=True, text=True, check=True).stdout
+    for share, name in re.findall(r"^\s+([\d.]+%)\s+\[[.k]\] (\S+)", text, re.M)[:30]:
+        print(f"    {share:>7}  {name}")
+
+
 def by_function(kinds, folder):
     """The instructions of a run by function."""
     written(kinds, folder)
@@ -139,11 +150,18 @@ def main():
     parser = argparse.ArgumentParser(description=__doc__, formatter_class=argparse.RawDescriptionHelpFormatter)
     parser.add_argument("--count", action="store_true", help="instructions a command, by kind")
     parser.add_argument("--profile", action="store_true", help="instructions a command, by function")
+    parser.add_argument("--clock", action="store_true", help="shares of the time, by function")
     parser.add_argument("--kind", choices=KINDS, action="append", help="with --count these kinds alone")
     parser.add_argument("--jobs", type=int, default=2, help="so many runs side by side (2)")
     asked = parser.parse_args()
+    for wanted, tool in ((asked.count or asked.profile, "valgrind"), (asked.clock, "perf")):
+        if wanted and not shutil.which(tool):
+            parser.error(f"there is no {tool} here")
     top = tempfile.mkdtemp(prefix="exbr-commands-")
     try:
+        if asked.clock:
+            by_clock(top)
+            return
         pairs = {"all kinds": (turns(FEW), turns(MANY))} if not asked.kind else {}
         if asked.count:
             # What goes up went down before, in both runs.
