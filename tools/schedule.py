@@ -7,9 +7,10 @@
 The toolchain's own order counts lines of code, shares the idle processors between all that could begin, and gives a crate its processes once, as
 its proof begins: one that begins beside two others has one until it ends, though what stands on it waits. Here the crates with the longest chain
 of seconds behind them have up to four processes, and each other crate one, with less claim to processors: as many of these as there are
-processors, so that none idles. With --ci only that choice is replaced, by the function `in_lanes` of RT: what is proved, said and
-kept is as RT does it. Status 3: RT has no such function.
+processors, so that none idles. With --ci that choice is replaced, by the function `in_lanes` of RT, and the two compilers of a program
+work side by side: what is proved, built, said and kept is as RT does it. Status 3: RT has no such function.
 """
+import concurrent.futures
 import contextlib
 import importlib.machinery
 import importlib.util
@@ -252,6 +253,24 @@ def toolchain(file):
     return made if fits else None
 
 
+def side_by_side(rt):
+    """Has the two compilers of a program work side by side. rt calls one after the other when all else is proved, and a processor is enough for each."""
+    made = getattr(getattr(rt, "Crate", None), "compile_by", None)
+    if not callable(made) or [*inspect.signature(made).parameters] != ["self", "backend", "words", "to"] or [*getattr(rt, "BACKENDS", ())] != ["llvm", "rattle"]:
+        return
+
+    def compile_by(self, backend, words, to):
+        if backend == "rattle":
+            return self.by_rattle
+        with concurrent.futures.ThreadPoolExecutor(1) as pool:
+            other = pool.submit(made, self, "rattle", words, to)
+            status = made(self, backend, words, to)
+            self.by_rattle = other.result()
+        return status
+
+    rt.Crate.compile_by = compile_by
+
+
 def ci(file, words):
     """`rt ci` here, in this order."""
     rt = toolchain(file)
@@ -264,6 +283,7 @@ def ci(file, words):
             return Lanes(Schedule(Graph(names, "."), len(os.sched_getaffinity(0))), 0.85 * rt.free()).run(tasks)
 
     rt.in_lanes = in_lanes
+    side_by_side(rt)
     return rt.main(["ci", *words])
 
 

@@ -2,6 +2,7 @@
 import os
 import sys
 import threading
+import types
 import unittest
 
 sys.path.insert(0, os.path.dirname(os.path.dirname(os.path.abspath(__file__))))
@@ -150,6 +151,45 @@ class Side(unittest.TestCase):
     def test_what_a_call_raises_ends_the_run(self):
         lanes, tasks = self.tasks(WIDE, fails="high")
         self.assertRaises(MemoryError, lanes.run, tasks)
+
+
+class Compilers(unittest.TestCase):
+    """The two compilers of a program, each of which here waits for the other to begin."""
+
+    def toolchain(self, statuses):
+        begun = {name: threading.Event() for name in statuses}
+
+        class Crate:
+            def compile_by(self, backend, words, to):
+                begun[backend].set()
+                together = all(it.wait(10) for it in begun.values())
+                self.made = [*getattr(self, "made", []), (backend, words, to, together)]
+                return statuses[backend]
+
+        return types.SimpleNamespace(Crate=Crate, BACKENDS={"llvm": "", "rattle": ".by-rattle"})
+
+    def both(self, rt):
+        """As rt calls them."""
+        crate = rt.Crate()
+        status = crate.compile_by("llvm", ["words"], "out/exbr") or crate.compile_by("rattle", ["words"], "out/exbr")
+        return status, sorted(crate.made)
+
+    def test_they_work_side_by_side_and_each_once(self):
+        rt = self.toolchain({"llvm": 0, "rattle": 0})
+        schedule.side_by_side(rt)
+        self.assertEqual(self.both(rt), (0, [(name, ["words"], "out/exbr", True) for name in ("llvm", "rattle")]))
+
+    def test_what_either_ends_with_is_the_status(self):
+        for statuses, wanted in (({"llvm": 3, "rattle": 0}, 3), ({"llvm": 0, "rattle": 4}, 4)):
+            rt = self.toolchain(statuses)
+            schedule.side_by_side(rt)
+            self.assertEqual(self.both(rt)[0], wanted)
+
+    def test_another_toolchain_is_left_as_it_is(self):
+        for rt in (types.SimpleNamespace(), types.SimpleNamespace(Crate=type("Crate", (), {"compile_by": lambda self, words: 0}), BACKENDS={"llvm": "", "rattle": ""})):
+            before = getattr(getattr(rt, "Crate", None), "compile_by", None)
+            schedule.side_by_side(rt)
+            self.assertIs(getattr(getattr(rt, "Crate", None), "compile_by", None), before)
 
 
 class Toolchain(unittest.TestCase):
