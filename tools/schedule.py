@@ -46,7 +46,7 @@ class Graph:
         below = {head.split()[0]: rest.split() for head, rest in heads}
         self.below = {it: [other for other in below[it] if other in crates] for it in crates}
         self.seconds = self.measured(crates, top)
-        # A program is proved in no time: two compilers take the rest, each on one processor.
+        # What a program takes is mostly its compilers, each on one processor, side by side.
         self.programs = {it for it in crates if os.path.exists(f"{top}/crates/{it}/src/main.rt")}
         self.chain = {}
         for name in crates:
