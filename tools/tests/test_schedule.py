@@ -72,7 +72,7 @@ class Expected(unittest.TestCase):
         self.assertAlmostEqual(self.minutes(WIDE, 1), 820)
 
     def test_processes_of_one_crate(self):
-        for processors, seconds in ((2, 100 / 1.5), (3, 50), (4, 40), (16, 40)):
+        for processors, seconds in ((2, 100 / 1.3), (3, 100 / 1.6), (4, 100 / 1.8), (16, 100 / 1.8)):
             self.assertAlmostEqual(self.minutes("one 100:\n", processors), seconds)
 
     def test_a_programs_compilers_use_one(self):
