@@ -29,8 +29,9 @@ MOST = 4
 SLACK = 120
 # How much less claim to processors the other crates have, as nice counts it, and the weight that Linux gives to that.
 BEHIND, WEIGHT = 10, 110 / 1024
-# How much faster a proof ends with so many processes, and how much more of processors it takes in all: so that the longest chain ended when it did in a build
-# from nothing that was measured (exb_plan, control, network, schedule and net after 4.1, 7.7, 10.6, 15.3 and 18.3 minutes, divided as tools/seconds.txt says).
+# How much faster a proof ends with so many processes, and how much more of processors it takes in all: so that the longest chain ends about when it did in a
+# build from nothing that was measured: exb_plan, control, network, schedule and net after 4.1, 7.7, 10.6, 15.3 and 18.3 minutes, divided as tools/seconds.txt says, where the
+# plan has 5.1, 7.6, 10.4, 14.4 and 16.7. That build took 25.6 in all by the same division, and the plan has 23.6.
 FASTER = {1: 1, 2: 1.3, 3: 1.6, 4: 1.8}
 DEARER = {1: 1, 2: 1.3, 3: 1.5, 4: 1.7}
 # What a proof takes of the memory that rt plans for it, at most (1.0 GB of 3.8 for exb_topology, 2.9 of 7.4 for exb_network), and for each further process.
