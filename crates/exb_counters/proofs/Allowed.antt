@@ -11,7 +11,8 @@ use Rattle.exb_model.specs.declared.event.Event.{Event}
 use Rattle.exb_model.specs.declared.event.Event.TheVariants as event
 use Rattle.exb_model.specs.EagerHistory.{opening, risen, up_event, with_ups}
 use Rattle.exb_model.specs.History.{Basis, History, ◌then◌, bridge_after}
-use Rattle.exb_model.specs.Input.{Input, Record, Given, Arrival, Coming, Ordered, Captured, Group, Segment, Mode, Eager, Seeded, all_arrivals, all_comings, alone, arrival_in, arrivals_at, arrivals_from, basis_of, bounds_of, by_moment, commands_from, groups_in, joined, merge, moment_of, put_in_order, second_of, segments, segments_in, segments_since, start_second, tree_of}
+use Rattle.exb_model.specs.declared.arrival.Arrival.{Arrival}
+use Rattle.exb_model.specs.Input.{Input, Record, Given, Coming, Ordered, Captured, Group, Segment, Mode, Eager, Seeded, all_arrivals, all_comings, alone, arrival_in, arrivals_at, arrivals_from, basis_of, bounds_of, by_moment, commands_from, groups_in, joined, merge, moment_of, put_in_order, second_of, segments, segments_in, segments_since, start_second, tree_of}
 use Rattle.exb_model.specs.LegalHistory.{Legal, PlaysArrivals, place_of, settled_each}
 use Rattle.exb_model.specs.Lists.{Pairwise}
 use Rattle.exb_model.specs.Ports.{below}

@@ -6,7 +6,7 @@ use Rattle.exb_model.specs.ETags.{tagged}
 use Rattle.exb_model.specs.Frames.{kind_of, is_control_frame, IsBytes}
 use Rattle.exb_model.specs.Tree.{Shape, device, is_extender, is_external, port_number}
 use Rattle.exb_model.specs.Setup.{Limits}
-use Rattle.exb_model.specs.Input.{Arrival}
+use Rattle.exb_model.specs.declared.arrival.Arrival.{Arrival}
 use Rattle.exb_model.specs.History.{Basis, History, ◌then◌}
 use Rattle.exb_frame.specs.TagValues.{TagRoundTrip}
 use Rattle.exb_learn.specs.Histories.{table_after}

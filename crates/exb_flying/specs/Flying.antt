@@ -3,7 +3,7 @@ use Rattle.std.specs.Prelude.{◌≡◌, ℕ, false, ◌<◌, ◌+◌, Bool, Lis
 use Rattle.exb_model.specs.declared.command.Command.{Command}
 use Rattle.exb_model.specs.Tree.{Shape, on, is_extender}
 use Rattle.exb_model.specs.Setup.{Limits}
-use Rattle.exb_model.specs.Input.{Arrival}
+use Rattle.exb_model.specs.declared.arrival.Arrival.{Arrival}
 use Rattle.exb_model.specs.History.{Basis, History, ◌then◌, command_of}
 use Rattle.exb_config.specs.Pvids.{HasPvids}
 use Rattle.exb_changing.specs.Runs.Planned.{IsSetting}

@@ -8,7 +8,7 @@ use Rattle.exb_model.specs.declared.event.Cause.TheVariants as cause
 use Rattle.exb_model.specs.declared.event.Event.{Event}
 use Rattle.exb_model.specs.declared.event.Event.TheVariants as event
 use Rattle.exb_model.specs.History.{History, ◌then◌}
-use Rattle.exb_model.specs.Input.{Arrival}
+use Rattle.exb_model.specs.declared.arrival.Arrival.{Arrival}
 use Rattle.exb_model.specs.Texts.{port_name, cause_text, line_of, journal_text}
 use Rattle.exb_legal.specs.Reading.{Each}
 use Rattle.exb_legal.specs.Entries.{Entry, Relayed, Ignored, Ticked, Committed, Refused, Rose, Stayed, Settled, entry_of, cause_words, entry_words, entry_text, arrival_by, refused_in, entry_by, entry_in, relay_of, event_by, event_in, history_in, IsCounted, IsWritable, IsFound, IsRecorded}

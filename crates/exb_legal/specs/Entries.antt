@@ -7,7 +7,7 @@ use Rattle.exb_model.specs.declared.event.Cause.TheVariants as cause
 use Rattle.exb_model.specs.declared.event.Event.{Event}
 use Rattle.exb_model.specs.declared.event.Event.TheVariants as event
 use Rattle.exb_model.specs.History.{History, ◌then◌}
-use Rattle.exb_model.specs.Input.{Arrival}
+use Rattle.exb_model.specs.declared.arrival.Arrival.{Arrival}
 use Rattle.exb_model.specs.Lists.{numbered}
 use Rattle.exb_model.specs.Texts.{port_name, line_of}
 use Rattle.exb_legal.specs.TextReading.{lines_in, words_in, all_read, number_in, port_in}

@@ -2,7 +2,7 @@
 use Rattle.std.specs.Prelude.{◌≡◌, ℕ, true, is_some, List, Some}
 use Rattle.exb_model.specs.declared.event.Event.{Event}
 use Rattle.exb_model.specs.History.{History}
-use Rattle.exb_model.specs.Input.{Arrival}
+use Rattle.exb_model.specs.declared.arrival.Arrival.{Arrival}
 use Rattle.exb_model.specs.Texts.{journal_text}
 use Rattle.exb_legal.specs.Reading.{Each}
 use Rattle.exb_legal.specs.Entries.{Entry, entry_of, entry_text, entry_in, history_in, journal_of, IsWritable, IsRecorded}

@@ -7,7 +7,7 @@ use Rattle.exb_model.specs.Setup.{Limits}
 use Rattle.exb_model.specs.Frames.{kind_of, egress, IsBytes}
 use Rattle.exb_model.specs.ETags.{read_etag, tagged, stripped}
 use Rattle.exb_model.specs.Learning.{passes}
-use Rattle.exb_model.specs.Input.{Arrival}
+use Rattle.exb_model.specs.declared.arrival.Arrival.{Arrival}
 use Rattle.exb_model.specs.EagerHistory.{is_relayed, is_relayed_kind}
 use Rattle.exb_config.specs.Pvids.{HasPvids}
 use Rattle.exb_frame.specs.TagValues.{TagRoundTrip, tag_of}

@@ -4,7 +4,8 @@ use Rattle.std.specs.Prelude.{Some, flat_map}
 use Rattle.std.specs.List.{AllByRecursion}
 use Rattle.std.proofs.lemmas.Grind.{flat_map-append}
 use Rattle.std.proofs.lemmas.List.{append-nil, map-append}
-use Rattle.exb_model.specs.Input.{Record, Arrival, Coming, Captured, arrivals_from, by_moment}
+use Rattle.exb_model.specs.declared.arrival.Arrival.{Arrival}
+use Rattle.exb_model.specs.Input.{Record, Coming, Captured, arrivals_from, by_moment}
 use Rattle.exb_merge.specs.Streams.{Stream, arrivals_of, next_moment, to_come}
 use Rattle.exb_merge.proofs.InOrder.{NoneBefore, by_moment-first, length-by_moment}
 

@@ -3,7 +3,8 @@ use Rattle.std.proofs.Common.{◌≡◌, ℕ, Bool, true, false, cond, filter, L
 use Rattle.std.specs.Prelude.{flat_map}
 use Rattle.std.proofs.lemmas.List.Folds.{flat_map-map}
 use Rattle.exb_model.specs.Ports.{all_ports}
-use Rattle.exb_model.specs.Input.{Input, Given, Captured, Arrival, arrivals_at, all_arrivals, commands_from, start_second, by_moment, merge}
+use Rattle.exb_model.specs.declared.arrival.Arrival.{Arrival}
+use Rattle.exb_model.specs.Input.{Input, Given, Captured, arrivals_at, all_arrivals, commands_from, start_second, by_moment, merge}
 use Rattle.exb_merge.specs.Streams.{arrivals_of, stream_at, to_come}
 
 -- the captures of some ports give all records in order, where they have all arrivals

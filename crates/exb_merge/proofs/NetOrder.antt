@@ -5,7 +5,8 @@ use Rattle.std.specs.List.{AllByRecursion}
 use Rattle.std.proofs.lemmas.Bool.{cases_lt, lt-ltb, le-ltb, leb-true}
 use Rattle.std.proofs.lemmas.List.{append_assoc}
 use Rattle.exb_model.specs.declared.setup.Timed.{Timed}
-use Rattle.exb_model.specs.Input.{Arrival, Coming, Ordered, Captured, Given, by_moment, commands_from, given_by, moment_of, put_in_order}
+use Rattle.exb_model.specs.declared.arrival.Arrival.{Arrival}
+use Rattle.exb_model.specs.Input.{Coming, Ordered, Captured, Given, by_moment, commands_from, given_by, moment_of, put_in_order}
 use Rattle.exb_nets.specs.NetHistory.{Due, due_at, due_moment, dues_by_moment, put_due}
 use Rattle.exb_merge.specs.Agendas.{ToPlay, commands_left, first_moment, still_to_come, turn_by, with_commands}
 use Rattle.exb_merge.specs.NetAgendas.{dues_left, orders_from, records_from}

@@ -6,7 +6,8 @@ use Rattle.std.specs.Option.{option_map}
 use Rattle.std.proofs.lemmas.Grind.{flat_map-append}
 use Rattle.std.proofs.lemmas.List.Elements.{filter_map-append}
 use Rattle.std.proofs.lemmas.List.Folds.{flat_map-map}
-use Rattle.exb_model.specs.Input.{Input, Arrival, Captured, all_arrivals, arrivals_at, by_moment, commands_from, least_or, second_of}
+use Rattle.exb_model.specs.declared.arrival.Arrival.{Arrival}
+use Rattle.exb_model.specs.Input.{Input, Captured, all_arrivals, arrivals_at, by_moment, commands_from, least_or, second_of}
 use Rattle.exb_model.specs.Ports.{all_ports, below}
 use Rattle.exb_nets.specs.Nets.{Net}
 use Rattle.exb_nets.specs.NetHistory.{Due, due_at, due_moment, dues, start_of_all}

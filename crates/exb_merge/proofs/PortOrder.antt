@@ -6,7 +6,8 @@ use Rattle.std.proofs.lemmas.List.{append-nil}
 use Rattle.std.proofs.lemmas.List.Elements.{filter-append}
 use Rattle.std.proofs.lemmas.Bool.{cases_eq, ne_eqb, ltb-true}
 use Rattle.exb_model.specs.Ports.{below}
-use Rattle.exb_model.specs.Input.{Input, Given, Record, Arrival, Coming, Ordered, Captured, moment_of, arrivals_from, arrivals_at, all_arrivals, start_second, commands_from, all_comings, put_in_order, by_moment, merge, arrival_in}
+use Rattle.exb_model.specs.declared.arrival.Arrival.{Arrival}
+use Rattle.exb_model.specs.Input.{Input, Given, Record, Coming, Ordered, Captured, moment_of, arrivals_from, arrivals_at, all_arrivals, start_second, commands_from, all_comings, put_in_order, by_moment, merge, arrival_in}
 
 abbrev pub at_port : ℕ → List Arrival → List Arrival
 at_port p arrived = filter (λ a. a.port == p) arrived

@@ -4,7 +4,8 @@ use Rattle.std.specs.Prelude.{◌⊎◌, nat_lt, flat_map, Option, Some, None, R
 use Rattle.std.specs.List.{AllByRecursion}
 use Rattle.std.proofs.lemmas.Bool.{leb-true, ltb-false, eqb-true}
 use Rattle.exb_model.specs.declared.setup.Timed.{Timed}
-use Rattle.exb_model.specs.Input.{Arrival, Coming, Captured, commands_from, given_by, moment_of, second_of, put_in_order, by_moment}
+use Rattle.exb_model.specs.declared.arrival.Arrival.{Arrival}
+use Rattle.exb_model.specs.Input.{Coming, Captured, commands_from, given_by, moment_of, second_of, put_in_order, by_moment}
 use Rattle.exb_shelf.specs.Files.{Files}
 use Rattle.exb_shelf.specs.Shelf.{Id}
 use Rattle.exb_merge.specs.declared.programme.Next.{Next}

@@ -6,7 +6,8 @@ use Rattle.std.specs.Option.{option_map}
 use Rattle.std.proofs.lemmas.List.{map-append}
 use Rattle.std.proofs.lemmas.Bool.{ltb-true, ltb-false}
 use Rattle.exb_model.specs.declared.setup.Timed.{Timed}
-use Rattle.exb_model.specs.Input.{Input, Given, Arrival, Coming, Captured, given_by, moment_of, second_of, least_or, start_second, all_arrivals, put_in_order, by_moment, commands_from, merge}
+use Rattle.exb_model.specs.declared.arrival.Arrival.{Arrival}
+use Rattle.exb_model.specs.Input.{Input, Given, Coming, Captured, given_by, moment_of, second_of, least_or, start_second, all_arrivals, put_in_order, by_moment, commands_from, merge}
 use Rattle.exb_merge.specs.Agendas.{with_commands, still_to_come, first_second, begun}
 use Rattle.exb_merge.specs.Streams.{Stream, arrivals_of, next_moment, to_come}
 use Rattle.exb_merge.proofs.Arriving.{NoneArrives, none_arrives-next}

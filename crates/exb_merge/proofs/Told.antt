@@ -2,7 +2,8 @@
 use Rattle.std.proofs.Common.{◌≡◌, ◌≤◌, ℕ, suc, false, List, [], ◌∷◌, ◌++◌, length, max, refl, sym, ap, subst, ◌∙◌}
 use Rattle.std.specs.Prelude.{Option, Some, None, Ok, IfSome, IfNone, flat_map}
 use Rattle.std.specs.List.{AllByRecursion}
-use Rattle.exb_model.specs.Input.{Record, Arrival, Captured, arrivals_from}
+use Rattle.exb_model.specs.declared.arrival.Arrival.{Arrival}
+use Rattle.exb_model.specs.Input.{Record, Captured, arrivals_from}
 use Rattle.exb_capture.specs.Captures.{capture_records}
 use Rattle.exb_capture.specs.Reading.{next_of}
 use Rattle.exb_shelf.specs.Files.{Files, SameFiles, bytes_of}

@@ -1,5 +1,5 @@
 -- What comes next, as an arrival.
-use Rattle.exb_model.specs.Input.{Arrival}
+use Rattle.exb_model.specs.declared.arrival.Arrival.{Arrival}
 use Rattle.exb_merge.specs.declared.replays.Came.{Came}
 
 -- a record that came, with its bytes

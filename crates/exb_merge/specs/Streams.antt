@@ -1,6 +1,7 @@
 -- Captures that are being played, and what is still to come of them.
 use Rattle.std.specs.Prelude.{ℕ, List, [], ◌∷◌, Option, Some, None, map, flat_map}
-use Rattle.exb_model.specs.Input.{Input, Record, Arrival, Coming, Captured, arrivals_from, by_moment}
+use Rattle.exb_model.specs.declared.arrival.Arrival.{Arrival}
+use Rattle.exb_model.specs.Input.{Input, Record, Coming, Captured, arrivals_from, by_moment}
 
 -- a capture that is being played: its port, the number of its next record (from 1), the moment of the
 -- record before that (0 before the first), and the records still to come

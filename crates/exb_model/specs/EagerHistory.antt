@@ -13,7 +13,8 @@ use Rattle.exb_model.specs.Setup.{Limits}
 use Rattle.exb_model.specs.Configuration.{Bridge}
 use Rattle.exb_model.specs.History.{Basis, History, command_of, bridge_after}
 use Rattle.exb_model.specs.Refusals.{refusal}
-use Rattle.exb_model.specs.Input.{Input, Arrival, Segment, Eager, basis_of, tree_of, bounds_of, segments}
+use Rattle.exb_model.specs.declared.arrival.Arrival.{Arrival}
+use Rattle.exb_model.specs.Input.{Input, Segment, Eager, basis_of, tree_of, bounds_of, segments}
 
 -- ---- what comes of an arrival, a command and an automatic up
 abbrev pub is_relayed_kind : Seen → Bool

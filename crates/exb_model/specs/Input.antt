@@ -1,5 +1,6 @@
 -- What a run is given, and the order in which it is played.
 use Rattle.std.specs.Prelude.{ℕ, suc, ◌+◌, ◌-◌, ◌*◌, ◌/◌, ◌==◌, nat_lt, if◌then◌else◌, List, [], ◌∷◌, ◌++◌, Option, Some, None, map, flat_map, filter_map, max, min}
+use Rattle.exb_model.specs.declared.arrival.Arrival.{Arrival}
 use Rattle.exb_model.specs.declared.command.Command.{Command}
 use Rattle.exb_model.specs.declared.setup.Setup.{Setup}
 use Rattle.exb_model.specs.declared.setup.Timed.{Timed}
@@ -40,13 +41,6 @@ abbrev pub bounds_of : Input → Limits
 bounds_of i = limits_of i.setup
 
 -- ---- moments
--- an arrival: its port, its number among the port's records (from 1), its moment and its frame
-pub record Arrival : Type 0 where
-  pub port : ℕ
-  pub index : ℕ
-  pub moment : ℕ
-  pub bytes : List ℕ
-
 -- A record's moment is its time, or the moment of the record before it if that is greater.
 abbrev pub arrivals_from : ℕ → ℕ → ℕ → List Record → List Arrival
 arrivals_from p n least [] = []

@@ -8,7 +8,8 @@ use Rattle.exb_model.specs.Tree.{Shape, is_extended}
 use Rattle.exb_model.specs.Setup.{Limits}
 use Rattle.exb_model.specs.History.{Basis, History, ◌then◌, command_of, bridge_after}
 use Rattle.exb_model.specs.Refusals.{refusal}
-use Rattle.exb_model.specs.Input.{Input, Arrival, Segment, Mode, basis_of, tree_of, bounds_of, arrivals_at, segments}
+use Rattle.exb_model.specs.declared.arrival.Arrival.{Arrival}
+use Rattle.exb_model.specs.Input.{Input, Segment, Mode, basis_of, tree_of, bounds_of, arrivals_at, segments}
 use Rattle.exb_model.specs.EagerHistory.{opening, is_relayed}
 
 -- a fact of each event and the history before it

@@ -4,6 +4,7 @@
 #![tactic(auto)]
 
 pub mod address;
+pub mod arrival;
 pub mod buffers;
 pub mod bytes;
 pub mod command;

@@ -7,7 +7,8 @@ use Rattle.std.proofs.lemmas.Bool.{cases_eq, eq-eqb, ne_eqb}
 use Rattle.std.proofs.lemmas.List.Elements.{All-cons, All-nil, All-head, All-tail, filter_map-append}
 use Rattle.std.proofs.lemmas.List.Sorted.{IsPermutation-sym, All-permutation, sum_by-IsPermutation}
 use Rattle.std.proofs.lemmas.List.Sums.{length-filter, sum_by-append, sum_by-cons}
-use Rattle.exb_model.specs.Input.{Input, Record, Given, Arrival, Coming, Ordered, Captured, Group, Segment, Mode, arrivals_from, arrivals_at, all_arrivals, start_second, moment_of, commands_from, all_comings, put_in_order, by_moment, merge, groups_in, arrival_in, segments_since, segments_in, segments}
+use Rattle.exb_model.specs.declared.arrival.Arrival.{Arrival}
+use Rattle.exb_model.specs.Input.{Input, Record, Given, Coming, Ordered, Captured, Group, Segment, Mode, arrivals_from, arrivals_at, all_arrivals, start_second, moment_of, commands_from, all_comings, put_in_order, by_moment, merge, groups_in, arrival_in, segments_since, segments_in, segments}
 use Rattle.exb_model.specs.Lists.{numbered}
 use Rattle.exb_model.specs.Ports.{below}
 use Rattle.exb_flight.specs.Items.{Each}

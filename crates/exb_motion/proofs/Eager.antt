@@ -10,7 +10,8 @@ use Rattle.exb_model.specs.declared.event.Event.TheVariants as event
 use Rattle.exb_model.specs.Configuration.{Bridge}
 use Rattle.exb_model.specs.EagerHistory.{is_relayed, arrival_event, decided, refusal_of, command_event, with_tick, with_commands, with_arrivals, eager_segment, eagerly}
 use Rattle.exb_model.specs.History.{Basis, History, ◌then◌, command_of, bridge_after}
-use Rattle.exb_model.specs.Input.{Input, Arrival, Coming, Ordered, Captured, Segment, Eager, second_of, moment_of, groups_in, segment_of, segments_since, segments_in, segments, merge}
+use Rattle.exb_model.specs.declared.arrival.Arrival.{Arrival}
+use Rattle.exb_model.specs.Input.{Input, Coming, Ordered, Captured, Segment, Eager, second_of, moment_of, groups_in, segment_of, segments_since, segments_in, segments, merge}
 use Rattle.exb_model.specs.LegalHistory.{EachEvent, IsOfSegment, settled_each, number_of, place_of, tick_of, Plays, IsDecided, IsEntered, IsRelayOf}
 use Rattle.exb_model.specs.Lists.{numbered, Pairwise}
 use Rattle.exb_model.specs.Refusals.{refusal}

@@ -11,7 +11,8 @@ use Rattle.exb_model.specs.declared.event.Event.{Event}
 use Rattle.exb_model.specs.declared.event.Event.TheVariants as event
 use Rattle.exb_model.specs.EagerHistory.{arrival_event, command_event, with_tick, with_commands, with_arrivals, eager_segment, opening, eagerly, eager}
 use Rattle.exb_model.specs.History.{Basis, History, ◌then◌, bridge_after, command_of}
-use Rattle.exb_model.specs.Input.{Input, Arrival, Segment, Eager, tree_of, bounds_of, segments}
+use Rattle.exb_model.specs.declared.arrival.Arrival.{Arrival}
+use Rattle.exb_model.specs.Input.{Input, Segment, Eager, tree_of, bounds_of, segments}
 use Rattle.exb_model.specs.Input.{basis_of as basis_in, arrivals_at as arrivals_in}
 use Rattle.exb_model.specs.LegalHistory.{EachEvent, IsDecided, IsEntered, settled_each}
 use Rattle.exb_model.specs.Lists.{Pairwise}

@@ -11,7 +11,7 @@ use Rattle.exb_model.specs.declared.command.Command.TheVariants as command
 use Rattle.exb_model.specs.Configuration.{Bridge, after}
 use Rattle.exb_model.specs.EagerHistory.{is_relayed, risen, up_event, with_ups, opening}
 use Rattle.exb_model.specs.Lists.{numbered}
-use Rattle.exb_model.specs.Input.{Arrival}
+use Rattle.exb_model.specs.declared.arrival.Arrival.{Arrival}
 use Rattle.exb_model.specs.Learning.{Look, passes, learned}
 use Rattle.exb_model.specs.FlatBridge.{Sent, sent_by, flat}
 use Rattle.exb_model.specs.History.{Basis, History, command_of, after_any, bridge_after}

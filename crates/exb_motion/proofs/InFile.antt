@@ -4,7 +4,8 @@ use Rattle.std.specs.Prelude.{slice_index_or, filter_map, flat_map, slice_get, m
 use Rattle.std.specs.List.{range_with_len}
 use Rattle.std.proofs.lemmas.Bool.{cases_Bool, ltb-true}
 use Rattle.std.proofs.lemmas.List.Elements.{filter_map-append}
-use Rattle.exb_model.specs.Input.{Input, Record, Given, Arrival, Coming, Ordered, Captured, Group, Segment, Mode, Eager, Seeded, arrivals_from, arrivals_at, all_arrivals, second_of, start_second, moment_of, commands_from, all_comings, put_in_order, by_moment, merge, alone, joined, groups_in, number_in, arrival_in, segments_since, segments_in, segments}
+use Rattle.exb_model.specs.declared.arrival.Arrival.{Arrival}
+use Rattle.exb_model.specs.Input.{Input, Record, Given, Coming, Ordered, Captured, Group, Segment, Mode, Eager, Seeded, arrivals_from, arrivals_at, all_arrivals, second_of, start_second, moment_of, commands_from, all_comings, put_in_order, by_moment, merge, alone, joined, groups_in, number_in, arrival_in, segments_since, segments_in, segments}
 use Rattle.exb_model.specs.Lists.{numbered}
 use Rattle.exb_flight.specs.Items.{Each}
 use Rattle.exb_motion.specs.Playing.{IsTimely}

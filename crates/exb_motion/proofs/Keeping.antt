@@ -16,7 +16,7 @@ use Rattle.exb_model.specs.Frames.{kind_of, IsBytes}
 use Rattle.exb_model.specs.EagerHistory.{is_relayed, is_relayed_kind, arrival_event}
 use Rattle.exb_model.specs.Lists.{numbered}
 use Rattle.exb_model.specs.Configuration.{Bridge}
-use Rattle.exb_model.specs.Input.{Arrival}
+use Rattle.exb_model.specs.declared.arrival.Arrival.{Arrival}
 use Rattle.exb_model.specs.LegalHistory.{EachEvent}
 use Rattle.exb_model.specs.Setup.{Limits}
 use Rattle.exb_model.specs.Tree.{Shape, device, on, is_external, is_extended, port_number}

@@ -7,7 +7,7 @@ use Rattle.std.proofs.lemmas.List.{append-nil}
 use Rattle.std.proofs.lemmas.List.Elements.{filter_map-append}
 use Rattle.exb_model.specs.declared.event.Event.{Event}
 use Rattle.exb_model.specs.History.{Basis, History, ◌then◌}
-use Rattle.exb_model.specs.Input.{Arrival}
+use Rattle.exb_model.specs.declared.arrival.Arrival.{Arrival}
 use Rattle.exb_model.specs.LegalHistory.{EachEvent, number_of, of_port, Rise, relays_and_late, IsInOrder, IsDecided, IsEntered}
 use Rattle.exb_model.specs.Tree.{Shape, IsTree, device, on, is_port, is_external, is_extended}
 use Rattle.exb_frame.specs.TagValues.{TagRoundTrip}

@@ -15,7 +15,7 @@ use Rattle.exb_model.specs.Configuration.{Bridge, after}
 use Rattle.exb_model.specs.EagerHistory.{is_relayed}
 use Rattle.exb_model.specs.FlatBridge.{Sent, sent_by, flat}
 use Rattle.exb_model.specs.History.{Basis, History, ◌then◌, command_of, after_any, bridge_after}
-use Rattle.exb_model.specs.Input.{Arrival}
+use Rattle.exb_model.specs.declared.arrival.Arrival.{Arrival}
 use Rattle.exb_model.specs.Learning.{Look, passes, learned}
 use Rattle.exb_model.specs.LegalHistory.{EachEvent, number_of, IsDecided, IsEntered}
 use Rattle.exb_model.specs.Lists.{numbered}

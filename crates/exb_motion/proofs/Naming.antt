@@ -10,7 +10,7 @@ use Rattle.exb_model.specs.EagerHistory.{is_relayed, arrival_event}
 use Rattle.exb_model.specs.LegalHistory.{Rise, relays_and_late}
 use Rattle.exb_model.specs.Lists.{numbered}
 use Rattle.exb_model.specs.Configuration.{Bridge}
-use Rattle.exb_model.specs.Input.{Arrival}
+use Rattle.exb_model.specs.declared.arrival.Arrival.{Arrival}
 use Rattle.exb_model.specs.Tree.{Shape, IsTree, device, on, is_external, is_extended}
 use Rattle.exb_model.specs.History.{History, ◌then◌}
 use Rattle.exb_changing.proofs.Plans.Ways.{from_extended}

@@ -8,7 +8,8 @@ use Rattle.exb_model.specs.declared.command.Command.{Command}
 use Rattle.exb_model.specs.declared.event.Event.{Event}
 use Rattle.exb_model.specs.declared.event.Event.TheVariants as event
 use Rattle.exb_model.specs.History.{Basis, History, command_of}
-use Rattle.exb_model.specs.Input.{Arrival, Segment}
+use Rattle.exb_model.specs.declared.arrival.Arrival.{Arrival}
+use Rattle.exb_model.specs.Input.{Segment}
 use Rattle.exb_model.specs.LegalHistory.{EachEvent, IsEntered, IsRelayOf}
 use Rattle.exb_model.specs.Lists.{numbered}
 use Rattle.exb_flight.specs.Items.{Each}

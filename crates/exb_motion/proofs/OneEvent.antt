@@ -8,7 +8,7 @@ use Rattle.exb_model.specs.Configuration.{Bridge}
 use Rattle.exb_model.specs.EagerHistory.{arrival_event, decided, refusal_of}
 use Rattle.exb_model.specs.FlatBridge.{Sent, sent_by, flat}
 use Rattle.exb_model.specs.History.{Basis, History, ◌then◌, command_of, bridge_after}
-use Rattle.exb_model.specs.Input.{Arrival}
+use Rattle.exb_model.specs.declared.arrival.Arrival.{Arrival}
 use Rattle.exb_model.specs.Learning.{Look, learned}
 use Rattle.exb_model.specs.LegalHistory.{EachEvent, IsOfSegment, place_of, tick_of, IsDecided, IsEntered}
 use Rattle.exb_model.specs.Lists.{numbered}

@@ -11,7 +11,8 @@ use Rattle.exb_model.specs.declared.event.Event.{Event}
 use Rattle.exb_model.specs.declared.event.Event.TheVariants as event
 use Rattle.exb_model.specs.EagerHistory.{with_ups, opening}
 use Rattle.exb_model.specs.History.{Basis, History, ◌then◌, command_of}
-use Rattle.exb_model.specs.Input.{Input, Arrival, Segment, Mode, tree_of, bounds_of, segments}
+use Rattle.exb_model.specs.declared.arrival.Arrival.{Arrival}
+use Rattle.exb_model.specs.Input.{Input, Segment, Mode, tree_of, bounds_of, segments}
 use Rattle.exb_model.specs.Input.{Given as TimedCommand, basis_of as basis_in, arrivals_at as arrivals_in}
 use Rattle.exb_model.specs.LegalHistory.{EachEvent, Rise, relays_and_late, IsOfSegment, settled_each, number_of, place_of, of_port, Plays as PlaysSegment, IsDecided, IsInOrder, IsEntered, Legal}
 use Rattle.exb_model.specs.Lists.{numbered, Pairwise}

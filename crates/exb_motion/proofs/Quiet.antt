@@ -8,7 +8,7 @@ use Rattle.exb_model.specs.Setup.{Limits}
 use Rattle.exb_model.specs.Frames.{egress}
 use Rattle.exb_model.specs.ETags.{read_etag, tagged, stripped}
 use Rattle.exb_model.specs.Learning.{passes}
-use Rattle.exb_model.specs.Input.{Arrival}
+use Rattle.exb_model.specs.declared.arrival.Arrival.{Arrival}
 use Rattle.exb_frame.specs.TagValues.{tag_of}
 use Rattle.exb_frame.specs.declared.etag.ETag.{ETag}
 use Rattle.exb_lldp.specs.declared.announce.Announce.{Announce}

@@ -10,7 +10,7 @@ use Rattle.exb_model.specs.EagerHistory.{is_relayed_kind, arrival_event}
 use Rattle.exb_model.specs.Frames.{kind_of, is_control_frame, IsBytes}
 use Rattle.exb_model.specs.Tree.{Shape, device, on, trunk, is_extender, is_external, is_extended, port_number}
 use Rattle.exb_model.specs.Setup.{Limits}
-use Rattle.exb_model.specs.Input.{Arrival}
+use Rattle.exb_model.specs.declared.arrival.Arrival.{Arrival}
 use Rattle.exb_frame.specs.TagValues.{TagRoundTrip}
 use Rattle.exb_extender.specs.declared.sends.Side.TheVariants as side
 use Rattle.exb_extender.specs.Forwarding.{Sent, up, channel_tag, is_refused_kind, is_ignored, sent_from_external, emitted}

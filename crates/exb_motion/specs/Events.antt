@@ -5,7 +5,7 @@ use Rattle.exb_model.specs.declared.event.Event.TheVariants as event
 use Rattle.exb_model.specs.EagerHistory.{arrival_event}
 use Rattle.exb_model.specs.ETags.{stripped}
 use Rattle.exb_model.specs.History.{Basis, History}
-use Rattle.exb_model.specs.Input.{Arrival}
+use Rattle.exb_model.specs.declared.arrival.Arrival.{Arrival}
 use Rattle.exb_model.specs.Setup.{Limits}
 use Rattle.exb_model.specs.Tree.{Shape, device, on, port_number}
 use Rattle.exb_extender.specs.Forwarding.{is_ignored}

@@ -1,7 +1,7 @@
 -- What was given to a world so far: arrivals and commands, in order.
 use Rattle.std.specs.Prelude.{ℕ, ◌==◌, if◌then◌else◌, List, [], ◌∷◌, map}
 use Rattle.exb_model.specs.declared.command.Command.{Command}
-use Rattle.exb_model.specs.Input.{Arrival}
+use Rattle.exb_model.specs.declared.arrival.Arrival.{Arrival}
 use Rattle.exb_model.specs.History.{Basis}
 use Rattle.exb_machine.specs.Worlds.{Step, Arrive, Order}
 

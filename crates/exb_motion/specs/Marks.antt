@@ -4,7 +4,7 @@ use Rattle.std.specs.List.{range_with_len}
 use Rattle.exb_model.specs.declared.event.Event.{Event}
 use Rattle.exb_model.specs.History.{Basis, History}
 use Rattle.exb_model.specs.LegalHistory.{EachEvent, number_of, of_port, place_of, IsRelayOf, IsInOrder, IsDecided, IsEntered}
-use Rattle.exb_model.specs.Input.{Arrival}
+use Rattle.exb_model.specs.declared.arrival.Arrival.{Arrival}
 use Rattle.exb_model.specs.Setup.{Limits}
 use Rattle.exb_model.specs.Tree.{Shape, is_external, opening_ports}
 use Rattle.exb_machine.specs.Allowing.{IsSettled}

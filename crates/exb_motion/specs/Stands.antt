@@ -8,7 +8,7 @@ use Rattle.exb_model.specs.declared.event.Event.TheVariants as event
 use Rattle.exb_model.specs.Tree.{Shape, is_external, is_extended, opening_ports}
 use Rattle.exb_model.specs.Setup.{Limits}
 use Rattle.exb_model.specs.ETags.{stripped}
-use Rattle.exb_model.specs.Input.{Arrival}
+use Rattle.exb_model.specs.declared.arrival.Arrival.{Arrival}
 use Rattle.exb_model.specs.Lists.{numbered}
 use Rattle.exb_model.specs.History.{Basis, History, bridge_after, now_after}
 use Rattle.exb_model.specs.Learning.{remembered}

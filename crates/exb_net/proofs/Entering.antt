@@ -4,7 +4,7 @@ use Rattle.std.specs.Prelude.{Result, Ok, Err, OnOk}
 use Rattle.std.proofs.lemmas.Bool.{cases_Bool}
 use Rattle.exb_machine.specs.Worlds.{left_at, Arrive, Left}
 use Rattle.exb_nets.specs.NetHistory.{Crossing, crosses}
-use Rattle.exb_model.specs.Input.{Arrival}
+use Rattle.exb_model.specs.declared.arrival.Arrival.{Arrival}
 use Rattle.exb_boxes.specs.declared.log.Left.{Left as Leaving}
 use Rattle.exb_network.specs.Networks.{Network}
 use Rattle.exb_network.specs.Worlds.{all_left}

@@ -1,6 +1,6 @@
 -- What follows an arrival, delivery after delivery.
 use Rattle.std.specs.Prelude.{◌≡◌, ℕ, ◌+◌, ◌<◌, ◌≤◌, ◌^◌, true, false, List, []}
-use Rattle.exb_model.specs.Input.{Arrival}
+use Rattle.exb_model.specs.declared.arrival.Arrival.{Arrival}
 use Rattle.exb_machine.specs.Allowing.{Can}
 use Rattle.exb_machine.specs.Worlds.{Arrive}
 use Rattle.exb_machine.specs.Runs.Sessions.{Each}

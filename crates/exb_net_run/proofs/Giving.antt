@@ -3,7 +3,7 @@ use Rattle.std.proofs.Common.{◌≡◌, ℕ, ◌+◌, ◌-◌, ◌≤◌, ◌==
 use Rattle.std.specs.Prelude.{if◌then◌else◌, slice_get}
 use Rattle.std.proofs.lemmas.Option.{same_Some}
 use Rattle.exb_model.specs.declared.setup.Timed.{Timed}
-use Rattle.exb_model.specs.Input.{Arrival}
+use Rattle.exb_model.specs.declared.arrival.Arrival.{Arrival}
 use Rattle.exb_machine.specs.Worlds.{Step, Arrive, Order}
 use Rattle.exb_merge.specs.Arrivals.{arrival_with}
 use Rattle.exb_merge.specs.declared.agenda.NetNext.{NetNext}

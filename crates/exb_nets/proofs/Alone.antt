@@ -7,7 +7,8 @@ use Rattle.exb_model.specs.declared.event.Event.{Event}
 use Rattle.exb_model.specs.declared.event.Event.TheVariants as event
 use Rattle.exb_model.specs.EagerHistory.{with_tick, eager_segment, eager}
 use Rattle.exb_model.specs.History.{History}
-use Rattle.exb_model.specs.Input.{Input, Arrival, Coming, Ordered, Captured, all_arrivals, all_comings, alone, basis_of, bounds_of, by_moment, commands_from, least_or, merge, moment_of, put_in_order, second_of, segment_of, segments, segments_in, segments_since, start_second, tree_of}
+use Rattle.exb_model.specs.declared.arrival.Arrival.{Arrival}
+use Rattle.exb_model.specs.Input.{Input, Coming, Ordered, Captured, all_arrivals, all_comings, alone, basis_of, bounds_of, by_moment, commands_from, least_or, merge, moment_of, put_in_order, second_of, segment_of, segments, segments_in, segments_since, start_second, tree_of}
 use Rattle.exb_model.specs.Ports.{below}
 use Rattle.exb_model.specs.Tree.{external_ports}
 use Rattle.exb_nets.specs.Nets.{Net, far_end}

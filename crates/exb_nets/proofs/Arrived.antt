@@ -12,7 +12,8 @@ use Rattle.exb_model.specs.Configuration.{Bridge}
 use Rattle.exb_model.specs.EagerHistory.{arrival_event, is_relayed, opening, with_ups, with_tick, up_event, decided, refusal_of, risen}
 use Rattle.exb_model.specs.FlatBridge.{Sent, sent_by, flat}
 use Rattle.exb_model.specs.History.{Basis, History, bridge_after, command_of}
-use Rattle.exb_model.specs.Input.{Input, Arrival, Coming, Ordered, Captured, arrivals_at, arrivals_from, bounds_of, tree_of}
+use Rattle.exb_model.specs.declared.arrival.Arrival.{Arrival}
+use Rattle.exb_model.specs.Input.{Input, Coming, Ordered, Captured, arrivals_at, arrivals_from, bounds_of, tree_of}
 use Rattle.exb_model.specs.Learning.{Look, learned}
 use Rattle.exb_model.specs.Lists.{Pairwise, numbered}
 use Rattle.exb_model.specs.Ports.{below}

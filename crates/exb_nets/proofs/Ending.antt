@@ -7,7 +7,7 @@ use Rattle.exb_model.specs.declared.event.Event.TheVariants as event
 use Rattle.exb_model.specs.EagerHistory.{arrival_event}
 use Rattle.exb_model.specs.FlatBridge.{Sent, sent_by}
 use Rattle.exb_model.specs.History.{History, bridge_after}
-use Rattle.exb_model.specs.Input.{Arrival}
+use Rattle.exb_model.specs.declared.arrival.Arrival.{Arrival}
 use Rattle.exb_model.specs.Learning.{learned}
 use Rattle.exb_model.specs.Tree.{external_ports}
 use Rattle.exb_model.specs.Input.{tree_of}

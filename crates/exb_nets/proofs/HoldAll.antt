@@ -14,7 +14,8 @@ use Rattle.exb_model.specs.Configuration.{Bridge}
 use Rattle.exb_model.specs.EagerHistory.{arrival_event, decided, is_relayed, refusal_of, risen, up_event, with_tick, with_ups}
 use Rattle.exb_model.specs.FlatBridge.{Sent}
 use Rattle.exb_model.specs.History.{Basis, History, bridge_after, command_of}
-use Rattle.exb_model.specs.Input.{Arrival, Coming, Given, Ordered, Captured, arrivals_at, bounds_of, commands_from, number_in, tree_of}
+use Rattle.exb_model.specs.declared.arrival.Arrival.{Arrival}
+use Rattle.exb_model.specs.Input.{Coming, Given, Ordered, Captured, arrivals_at, bounds_of, commands_from, number_in, tree_of}
 use Rattle.exb_model.specs.LegalHistory.{EachEvent, IsDecided, IsEntered, number_of}
 use Rattle.exb_model.specs.Lists.{Pairwise, numbered}
 use Rattle.exb_model.specs.Refusals.{refusal}

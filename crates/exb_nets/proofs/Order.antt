@@ -4,7 +4,8 @@ use Rattle.std.specs.Prelude.{flat_map, AllPairs, All}
 use Rattle.std.specs.List.{range_with_len}
 use Rattle.std.proofs.lemmas.Bool.{cases_Bool, cases_eq, cases_lt, eq-eqb, ne_eqb, lt-ltb, le-ltb}
 use Rattle.std.proofs.lemmas.List.{append_assoc}
-use Rattle.exb_model.specs.Input.{Given, Arrival, Coming, Ordered, Captured, all_arrivals, commands_from}
+use Rattle.exb_model.specs.declared.arrival.Arrival.{Arrival}
+use Rattle.exb_model.specs.Input.{Given, Coming, Ordered, Captured, all_arrivals, commands_from}
 use Rattle.exb_model.specs.Ports.{below}
 use Rattle.exb_nets.specs.Nets.{Net}
 use Rattle.exb_nets.specs.NetHistory.{Due, all_due, due_at, due_moment, dues, dues_by_moment, put_due, start_of_all}

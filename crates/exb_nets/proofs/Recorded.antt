@@ -3,7 +3,8 @@ use Rattle.std.proofs.Common.{◌≡◌, ℕ, suc, ◌++◌, nat_lt, List, [], �
 use Rattle.std.specs.Prelude.{flat_map, max, slice_get}
 use Rattle.std.proofs.lemmas.Bool.{cases_Bool}
 use Rattle.std.proofs.lemmas.List.{append_assoc, length-append}
-use Rattle.exb_model.specs.Input.{Input, Arrival, Coming, Given, Record, Ordered, Captured, all_arrivals, arrivals_at, arrivals_from, commands_from}
+use Rattle.exb_model.specs.declared.arrival.Arrival.{Arrival}
+use Rattle.exb_model.specs.Input.{Input, Coming, Given, Record, Ordered, Captured, all_arrivals, arrivals_at, arrivals_from, commands_from}
 use Rattle.exb_model.specs.Lists.{numbered}
 use Rattle.exb_model.specs.Ports.{all_ports, below}
 use Rattle.exb_nets.specs.Nets.{Net}

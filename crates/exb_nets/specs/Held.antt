@@ -5,7 +5,8 @@ use Rattle.exb_model.specs.declared.event.Event.{Event}
 use Rattle.exb_model.specs.declared.event.Event.TheVariants as event
 use Rattle.exb_model.specs.FlatBridge.{Sent, flat}
 use Rattle.exb_model.specs.History.{History}
-use Rattle.exb_model.specs.Input.{Arrival, arrivals_at, bounds_of, tree_of}
+use Rattle.exb_model.specs.declared.arrival.Arrival.{Arrival}
+use Rattle.exb_model.specs.Input.{arrivals_at, bounds_of, tree_of}
 use Rattle.exb_model.specs.LegalHistory.{EachEvent, IsDecided, IsEntered, number_of}
 use Rattle.exb_model.specs.Lists.{Pairwise}
 use Rattle.exb_nets.specs.declared.wires.End.{End}

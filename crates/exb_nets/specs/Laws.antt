@@ -5,7 +5,8 @@ use Rattle.exb_model.specs.Configuration.{Bridge}
 use Rattle.exb_model.specs.EagerHistory.{arrival_event, eager}
 use Rattle.exb_model.specs.FlatBridge.{sent_by}
 use Rattle.exb_model.specs.History.{◌then◌}
-use Rattle.exb_model.specs.Input.{Input, Arrival}
+use Rattle.exb_model.specs.declared.arrival.Arrival.{Arrival}
+use Rattle.exb_model.specs.Input.{Input}
 use Rattle.exb_model.specs.Learning.{Look}
 use Rattle.exb_nets.specs.Nets.{Net}
 use Rattle.exb_nets.specs.NetHistory.{Due, Histories, Goes, NetEager, dues, openings}

@@ -5,7 +5,8 @@ use Rattle.exb_model.specs.declared.event.Event.TheVariants as event
 use Rattle.exb_model.specs.EagerHistory.{arrival_event, command_event, opening, with_tick}
 use Rattle.exb_model.specs.FlatBridge.{Sent, sent_by}
 use Rattle.exb_model.specs.History.{Basis, History, bridge_after}
-use Rattle.exb_model.specs.Input.{Arrival, Coming, Ordered, Captured, all_arrivals, basis_of, bounds_of, commands_from, least_or, moment_of, second_of, tree_of}
+use Rattle.exb_model.specs.declared.arrival.Arrival.{Arrival}
+use Rattle.exb_model.specs.Input.{Coming, Ordered, Captured, all_arrivals, basis_of, bounds_of, commands_from, least_or, moment_of, second_of, tree_of}
 use Rattle.exb_model.specs.Learning.{learned}
 use Rattle.exb_model.specs.Ports.{below}
 use Rattle.exb_model.specs.Tree.{external_ports}

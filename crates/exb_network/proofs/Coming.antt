@@ -13,7 +13,7 @@ use Rattle.exb_model.specs.Configuration.{Bridge}
 use Rattle.exb_model.specs.EagerHistory.{is_relayed, arrival_event}
 use Rattle.exb_model.specs.ETags.{tagged}
 use Rattle.exb_model.specs.Frames.{egress, kind_of, priority_of, IsBytes}
-use Rattle.exb_model.specs.Input.{Arrival}
+use Rattle.exb_model.specs.declared.arrival.Arrival.{Arrival}
 use Rattle.exb_model.specs.Learning.{passes, passes_as}
 use Rattle.exb_model.specs.Tree.{Shape, IsTree}
 use Rattle.exb_frame.specs.declared.egress.VlanTag.{VlanTag}

@@ -1,6 +1,6 @@
 -- A frame that came, as an arrival.
 use Rattle.std.specs.Prelude.{◌≡◌, ℕ, true}
-use Rattle.exb_model.specs.Input.{Arrival}
+use Rattle.exb_model.specs.declared.arrival.Arrival.{Arrival}
 use Rattle.exb_model.specs.Tree.{Shape, device, is_port, is_extender}
 use Rattle.exb_network.specs.declared.arrivals.Arrived.{Arrived}
 

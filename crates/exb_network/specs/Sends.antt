@@ -3,7 +3,7 @@ use Rattle.std.specs.Prelude.{◌≡◌, ℕ, ◌≤◌, ◌<◌, ◌++◌, Bool
 use Rattle.exb_model.specs.Configuration.{Bridge}
 use Rattle.exb_model.specs.ETags.{TagFits}
 use Rattle.exb_model.specs.EagerHistory.{is_relayed, arrival_event}
-use Rattle.exb_model.specs.Input.{Arrival}
+use Rattle.exb_model.specs.declared.arrival.Arrival.{Arrival}
 use Rattle.exb_model.specs.Learning.{passes}
 use Rattle.exb_model.specs.Tree.{Shape}
 use Rattle.exb_model.specs.Frames.{kind_of, priority_of}

@@ -7,7 +7,8 @@ use Rattle.std.proofs.lemmas.List.Elements.{filter-append, filter_map-append}
 use Rattle.std.proofs.lemmas.Bool.{cases_eq, ne_eqb, ltb-true}
 use Rattle.exb_model.specs.Ports.{below, all_ports}
 use Rattle.exb_model.specs.Lists.{numbered}
-use Rattle.exb_model.specs.Input.{Input, Given, Record, Arrival, Coming, Ordered, Captured, Segment, Group, Mode, Eager, Seeded, moment_of, arrivals_from, arrivals_at, all_arrivals, start_second, commands_from, all_comings, put_in_order, by_moment, merge, alone, joined, number_in, arrival_in, segment_of, second_of, segments_since, segments_in, groups_in, segments}
+use Rattle.exb_model.specs.declared.arrival.Arrival.{Arrival}
+use Rattle.exb_model.specs.Input.{Input, Given, Record, Coming, Ordered, Captured, Segment, Group, Mode, Eager, Seeded, moment_of, arrivals_from, arrivals_at, all_arrivals, start_second, commands_from, all_comings, put_in_order, by_moment, merge, alone, joined, number_in, arrival_in, segment_of, second_of, segments_since, segments_in, groups_in, segments}
 use Rattle.exb_model.specs.LegalHistory.{Rise}
 use Rattle.exb_oracle.proofs.PortOrder.{at_port}
 use Rattle.exb_oracle.proofs.EachEvents.{IsNumbered}

@@ -4,7 +4,8 @@ use Rattle.std.specs.Prelude.{is_some, filter_map, flat_map, slice_get}
 use Rattle.std.specs.List.{AllByRecursion}
 use Rattle.std.proofs.lemmas.List.{length-map}
 use Rattle.exb_model.specs.declared.command.Command.{Command}
-use Rattle.exb_model.specs.Input.{Input, Given, Arrival, Coming, Ordered, Captured, Segment, Mode, basis_of, all_arrivals, start_second, commands_from, all_comings, by_moment, merge, number_in, segments}
+use Rattle.exb_model.specs.declared.arrival.Arrival.{Arrival}
+use Rattle.exb_model.specs.Input.{Input, Given, Coming, Ordered, Captured, Segment, Mode, basis_of, all_arrivals, start_second, commands_from, all_comings, by_moment, merge, number_in, segments}
 use Rattle.exb_oracle.proofs.EachEvents.{IsThere}
 use Rattle.exb_oracle.proofs.Comings.{segments-commands, each_sorted}
 

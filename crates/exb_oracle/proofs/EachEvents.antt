@@ -12,7 +12,8 @@ use Rattle.exb_model.specs.Tree.{Shape, opening_ports}
 use Rattle.exb_model.specs.Setup.{Limits}
 use Rattle.exb_model.specs.History.{Basis, History, command_of, bridge_after}
 use Rattle.exb_model.specs.Refusals.{refusal}
-use Rattle.exb_model.specs.Input.{Arrival, Segment}
+use Rattle.exb_model.specs.declared.arrival.Arrival.{Arrival}
+use Rattle.exb_model.specs.Input.{Segment}
 use Rattle.exb_model.specs.EagerHistory.{is_relayed, arrival_event, command_event, up_event, decided, risen, refusal_of, with_ups, opening, with_tick, with_commands, with_arrivals, eager_segment, eagerly}
 use Rattle.exb_model.specs.LegalHistory.{EachEvent, IsDecided, IsEntered}
 use Rattle.exb_oracle.proofs.PlayRules.{entered}

@@ -3,7 +3,8 @@ use Rattle.std.proofs.Common.{◌≡◌, ℕ, suc, ◌+◌, ◌*◌, ◌<◌, �
 use Rattle.std.specs.Prelude.{nat_lt, filter_map, slice_index_or, AllPairs}
 use Rattle.std.specs.List.{AllByRecursion, range_with_len}
 use Rattle.std.proofs.lemmas.Bool.{cases_Bool, ltb-true}
-use Rattle.exb_model.specs.Input.{Given, Arrival, Coming, Ordered, Captured, moment_of, all_arrivals, start_second, commands_from, put_in_order, by_moment, merge, number_in, segments}
+use Rattle.exb_model.specs.declared.arrival.Arrival.{Arrival}
+use Rattle.exb_model.specs.Input.{Given, Coming, Ordered, Captured, moment_of, all_arrivals, start_second, commands_from, put_in_order, by_moment, merge, number_in, segments}
 use Rattle.exb_model.specs.LegalHistory.{number_of}
 use Rattle.exb_model.proofs.LegalPlays.{all_commands}
 use Rattle.exb_oracle.specs.Playing.{CommandsInFileOrder}

@@ -15,7 +15,8 @@ use Rattle.exb_model.specs.Lists.{Pairwise}
 use Rattle.exb_model.specs.Tree.{Shape}
 use Rattle.exb_model.specs.Setup.{Limits}
 use Rattle.exb_model.specs.History.{History, ◌then◌, command_of, bridge_after}
-use Rattle.exb_model.specs.Input.{Input, Given, Record, Arrival, Coming, Captured, Group, Segment, Mode, Eager, Seeded, basis_of, tree_of, bounds_of, moment_of, second_of, least_or, arrivals_from, arrivals_at, all_arrivals, start_second, commands_from, all_comings, by_moment, merge, joined, alone, groups_in, segments_since, segments_in, segments}
+use Rattle.exb_model.specs.declared.arrival.Arrival.{Arrival}
+use Rattle.exb_model.specs.Input.{Input, Given, Record, Coming, Captured, Group, Segment, Mode, Eager, Seeded, basis_of, tree_of, bounds_of, moment_of, second_of, least_or, arrivals_from, arrivals_at, all_arrivals, start_second, commands_from, all_comings, by_moment, merge, joined, alone, groups_in, segments_since, segments_in, segments}
 use Rattle.exb_model.specs.EagerHistory.{opening, refusal_of}
 use Rattle.exb_model.specs.LegalHistory.{EachEvent, Legal, IsOfSegment, IsDecided, IsRelayOf, PlaysArrivals, PlaysTick, number_of, place_of, tick_of, settled_each}
 use Rattle.exb_model.specs.Texts.{journal_text}

@@ -12,7 +12,8 @@ use Rattle.exb_model.specs.Lists.{Pairwise}
 use Rattle.exb_model.specs.Tree.{Shape}
 use Rattle.exb_model.specs.Setup.{Limits}
 use Rattle.exb_model.specs.History.{Basis, History, command_of, bridge_after}
-use Rattle.exb_model.specs.Input.{Arrival, Segment}
+use Rattle.exb_model.specs.declared.arrival.Arrival.{Arrival}
+use Rattle.exb_model.specs.Input.{Segment}
 use Rattle.exb_model.specs.EagerHistory.{is_relayed, arrival_event, command_event, decided, refusal_of, with_tick, eager_segment}
 use Rattle.exb_model.specs.LegalHistory.{IsOfSegment, number_of, place_of, tick_of, IsRelayOf, PlaysCommands, PlaysArrivals, PlaysTick}
 use Rattle.exb_oracle.proofs.Plays.{tick_play, arrivals_play, commands_play, before_arrivals, play, plays}

@@ -16,7 +16,8 @@ use Rattle.exb_model.specs.Tree.{Shape, opening_ports}
 use Rattle.exb_model.specs.Setup.{Limits}
 use Rattle.exb_model.specs.History.{Basis, History, ◌then◌, bridge_after}
 use Rattle.exb_model.specs.Refusals.{refusal}
-use Rattle.exb_model.specs.Input.{Input, Given, Record, Arrival, Coming, Captured, Segment, Mode, basis_of, tree_of, bounds_of, moment_of, arrivals_from, arrivals_at, all_arrivals, start_second, commands_from, all_comings, put_in_order, by_moment, merge, number_in, arrival_in, segments}
+use Rattle.exb_model.specs.declared.arrival.Arrival.{Arrival}
+use Rattle.exb_model.specs.Input.{Input, Given, Record, Coming, Captured, Segment, Mode, basis_of, tree_of, bounds_of, moment_of, arrivals_from, arrivals_at, all_arrivals, start_second, commands_from, all_comings, put_in_order, by_moment, merge, number_in, arrival_in, segments}
 use Rattle.exb_model.specs.EagerHistory.{up_event, risen, with_ups, opening}
 use Rattle.exb_model.specs.LegalHistory.{Legal, PlaysCommands, PlaysArrivals, number_of, place_of, settled_each}
 use Rattle.exb_model.proofs.LegalPlays.{all_arrivals as all_arrivals_played, all_commands}

@@ -6,7 +6,8 @@ use Rattle.exb_model.specs.declared.event.Event.TheVariants as event
 use Rattle.exb_model.specs.Tree.{Shape}
 use Rattle.exb_model.specs.Setup.{Limits}
 use Rattle.exb_model.specs.History.{Basis, History, ◌then◌, bridge_after}
-use Rattle.exb_model.specs.Input.{Arrival, Segment}
+use Rattle.exb_model.specs.declared.arrival.Arrival.{Arrival}
+use Rattle.exb_model.specs.Input.{Segment}
 use Rattle.exb_model.specs.EagerHistory.{arrival_event, command_event, with_tick, with_commands, with_arrivals, eager_segment, eagerly}
 use Rattle.exb_model.specs.LegalHistory.{settled_each}
 

@@ -12,7 +12,8 @@ use Rattle.exb_model.specs.Tree.{Shape, opening_ports, is_extended}
 use Rattle.exb_model.specs.Setup.{Limits}
 use Rattle.exb_model.specs.History.{Basis, History, ◌then◌, command_of, bridge_after}
 use Rattle.exb_model.specs.Refusals.{refusal}
-use Rattle.exb_model.specs.Input.{Arrival, Segment}
+use Rattle.exb_model.specs.declared.arrival.Arrival.{Arrival}
+use Rattle.exb_model.specs.Input.{Segment}
 use Rattle.exb_model.specs.EagerHistory.{is_relayed, arrival_event, command_event, up_event, decided, risen, refusal_of, with_ups, opening, with_tick, eager_segment}
 use Rattle.exb_model.specs.LegalHistory.{of_port, Rise, relays_and_late, IsInOrder, settled_each}
 use Rattle.exb_oracle.proofs.Plays.{tick_play, arrivals_play, commands_play, before_arrivals, play, plays}

@@ -10,7 +10,8 @@ use Rattle.exb_model.specs.declared.event.Event.TheVariants as event
 use Rattle.exb_model.specs.declared.event.Cause.{Cause}
 use Rattle.exb_model.specs.Lists.{numbered}
 use Rattle.exb_model.specs.History.{History, ◌then◌}
-use Rattle.exb_model.specs.Input.{Input, Arrival, arrivals_at}
+use Rattle.exb_model.specs.declared.arrival.Arrival.{Arrival}
+use Rattle.exb_model.specs.Input.{Input, arrivals_at}
 use Rattle.exb_model.specs.Texts.{port_name, cause_text, line_of, journal_text}
 use Rattle.exb_oracle.specs.Telling.{IsWord, IsPort, IsRecordOf, IsTold, JournalTellsHistory}
 use Rattle.exb_oracle.proofs.Plays.{then-append}

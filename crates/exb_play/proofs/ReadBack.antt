@@ -8,7 +8,8 @@ use Rattle.exb_model.specs.declared.event.Event.{Event}
 use Rattle.exb_model.specs.declared.event.Event.TheVariants as event
 use Rattle.exb_model.specs.EagerHistory.{opening, risen, up_event, with_ups}
 use Rattle.exb_model.specs.History.{Basis, History, ◌then◌, bridge_after}
-use Rattle.exb_model.specs.Input.{Input, Arrival, Segment, Mode, basis_of, bounds_of, tree_of, segments}
+use Rattle.exb_model.specs.declared.arrival.Arrival.{Arrival}
+use Rattle.exb_model.specs.Input.{Input, Segment, Mode, basis_of, bounds_of, tree_of, segments}
 use Rattle.exb_model.specs.LegalHistory.{EachEvent, IsRelayOf, Legal, PlaysArrivals, settled_each}
 use Rattle.exb_model.specs.Lists.{Pairwise}
 use Rattle.exb_model.specs.Refusals.{refusal}

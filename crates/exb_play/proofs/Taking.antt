@@ -8,7 +8,8 @@ use Rattle.std.proofs.lemmas.List.Elements.{filter-append}
 use Rattle.exb_model.specs.declared.setup.Timed.{Timed}
 use Rattle.exb_model.specs.declared.command.Command.{Command}
 use Rattle.exb_model.specs.History.{command_of}
-use Rattle.exb_model.specs.Input.{Input, Arrival, Coming, Ordered, Captured, Mode, Eager, Seeded, alone, arrival_in, basis_of, given_by, groups_in, moment_of, number_in, second_of, tree_of}
+use Rattle.exb_model.specs.declared.arrival.Arrival.{Arrival}
+use Rattle.exb_model.specs.Input.{Input, Coming, Ordered, Captured, Mode, Eager, Seeded, alone, arrival_in, basis_of, given_by, groups_in, moment_of, number_in, second_of, tree_of}
 use Rattle.exb_model.specs.Tree.{is_external}
 use Rattle.exb_merge.specs.Agendas.{begins_in}
 use Rattle.exb_merge.specs.Arrivals.{arrival_with}

@@ -1,7 +1,7 @@
 -- A frame that arrives, a command, seconds that pass and a mark keep a world going that is orderly before and after.
 use Rattle.std.proofs.Common.{◌≡◌, ℕ, nat_lt, Bool, true, false, cond, List, [], ◌∷◌, Option, Some, refl, sym, ◌∙◌, subst}
 use Rattle.exb_model.specs.declared.command.Command.{Command}
-use Rattle.exb_model.specs.Input.{Arrival}
+use Rattle.exb_model.specs.declared.arrival.Arrival.{Arrival}
 use Rattle.exb_model.specs.Setup.{Limits, NamesExternal}
 use Rattle.exb_model.specs.Tree.{Shape, IsTree, device, is_extender, port_number}
 use Rattle.exb_frame.specs.TagValues.{TagRoundTrip}

@@ -7,7 +7,7 @@ use Rattle.exb_model.specs.Tree.{Shape, HangsOn, IsTree, device, on, is_extender
 use Rattle.exb_model.specs.Setup.{Limits}
 use Rattle.exb_model.specs.ETags.{read_etag, stripped, tagged}
 use Rattle.exb_model.specs.Frames.{egress, kind_of, is_control_frame, IsBytes}
-use Rattle.exb_model.specs.Input.{Arrival}
+use Rattle.exb_model.specs.declared.arrival.Arrival.{Arrival}
 use Rattle.exb_model.specs.EagerHistory.{is_relayed, is_relayed_kind}
 use Rattle.exb_model.specs.Learning.{passes}
 use Rattle.exb_model.proofs.TreeHung.{trunk-low}

@@ -8,7 +8,8 @@ use Rattle.exb_model.specs.declared.event.Event.{Event}
 use Rattle.exb_model.specs.declared.event.Event.TheVariants as event
 use Rattle.exb_model.specs.EagerHistory.{risen, up_event, with_ups, opening}
 use Rattle.exb_model.specs.History.{Basis, History, ◌then◌, bridge_after}
-use Rattle.exb_model.specs.Input.{Input, Arrival, Segment, Mode, basis_of, tree_of, bounds_of, arrivals_at, segments}
+use Rattle.exb_model.specs.declared.arrival.Arrival.{Arrival}
+use Rattle.exb_model.specs.Input.{Input, Segment, Mode, basis_of, tree_of, bounds_of, arrivals_at, segments}
 use Rattle.exb_model.specs.LegalHistory.{Legal, PlaysArrivals, IsRelayOf, settled_each}
 use Rattle.exb_model.specs.Lists.{Pairwise}
 use Rattle.exb_model.specs.Refusals.{refusal}

@@ -4,7 +4,8 @@ use Rattle.std.specs.Prelude.{max}
 use Rattle.std.proofs.lemmas.Bool.{cases_lt, cases_eq, ne_eqb, cases_Bool, false≢true}
 use Rattle.exb_model.specs.FlatBridge.{Sent}
 use Rattle.exb_model.specs.History.{History, ◌then◌}
-use Rattle.exb_model.specs.Input.{Input, Record, Arrival, tree_of, bounds_of, arrivals_from, arrivals_at, segments}
+use Rattle.exb_model.specs.declared.arrival.Arrival.{Arrival}
+use Rattle.exb_model.specs.Input.{Input, Record, tree_of, bounds_of, arrivals_from, arrivals_at, segments}
 use Rattle.exb_model.specs.Lists.{numbered}
 use Rattle.exb_model.specs.Setup.{Limits}
 use Rattle.exb_model.specs.Tree.{Shape, is_external}

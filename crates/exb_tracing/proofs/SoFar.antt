@@ -9,7 +9,8 @@ use Rattle.exb_model.specs.declared.command.Command.{Command}
 use Rattle.exb_model.specs.EagerHistory.{opening}
 use Rattle.exb_model.specs.FlatBridge.{Sent, flat}
 use Rattle.exb_model.specs.History.{Basis, History, ◌then◌, command_of}
-use Rattle.exb_model.specs.Input.{Input, Arrival, Segment, Mode, tree_of, bounds_of, segments}
+use Rattle.exb_model.specs.declared.arrival.Arrival.{Arrival}
+use Rattle.exb_model.specs.Input.{Input, Segment, Mode, tree_of, bounds_of, segments}
 use Rattle.exb_model.specs.Input.{basis_of as basis_in, arrivals_at as arrivals_in}
 use Rattle.exb_model.specs.LegalHistory.{EachEvent, IsDecided, IsEntered, settled_each}
 use Rattle.exb_model.specs.Lists.{numbered}

@@ -5,7 +5,7 @@ use Rattle.std.proofs.lemmas.Bool.{and_parts, cases_Bool}
 use Rattle.std.proofs.lemmas.List.{length-map}
 use Rattle.exb_model.specs.declared.event.Event.{Event}
 use Rattle.exb_model.specs.History.{Basis, History}
-use Rattle.exb_model.specs.Input.{Arrival}
+use Rattle.exb_model.specs.declared.arrival.Arrival.{Arrival}
 use Rattle.exb_model.specs.Lists.{numbered}
 use Rattle.exb_model.specs.Setup.{Limits, shape_of, limits_of, start_of}
 use Rattle.exb_model.specs.Tree.{Shape, is_external}

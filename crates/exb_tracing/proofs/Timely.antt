@@ -4,7 +4,8 @@ use Rattle.std.specs.Prelude.{max, slice_get}
 use Rattle.exb_model.specs.declared.event.Event.{Event}
 use Rattle.exb_model.specs.declared.event.Event.TheVariants as event
 use Rattle.exb_model.specs.History.{History}
-use Rattle.exb_model.specs.Input.{Input, Arrival, Record, arrivals_from, arrivals_at}
+use Rattle.exb_model.specs.declared.arrival.Arrival.{Arrival}
+use Rattle.exb_model.specs.Input.{Input, Record, arrivals_from, arrivals_at}
 use Rattle.exb_model.specs.LegalHistory.{EachEvent}
 use Rattle.exb_model.specs.Lists.{numbered}
 use Rattle.exb_legal.specs.Entries.{IsFound}

@@ -13,7 +13,7 @@ use Rattle.exb_model.specs.Configuration.{Bridge}
 use Rattle.exb_model.specs.EagerHistory.{is_relayed, arrival_event, decided, up_event, risen, with_ups, opening}
 use Rattle.exb_model.specs.FlatBridge.{sent_by, flat}
 use Rattle.exb_model.specs.History.{Basis, History, ◌then◌, command_of, bridge_after, now_after}
-use Rattle.exb_model.specs.Input.{Arrival}
+use Rattle.exb_model.specs.declared.arrival.Arrival.{Arrival}
 use Rattle.exb_model.specs.Learning.{Look, learned}
 use Rattle.exb_model.specs.Lists.{numbered}
 use Rattle.exb_model.specs.Refusals.{refusal}

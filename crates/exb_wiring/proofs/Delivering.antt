@@ -11,7 +11,8 @@ use Rattle.exb_model.specs.declared.setup.Setup.{Setup}
 use Rattle.exb_model.specs.EagerHistory.{arrival_event, decided, is_relayed}
 use Rattle.exb_model.specs.FlatBridge.{Sent}
 use Rattle.exb_model.specs.History.{Basis, History, ◌then◌, bridge_after, now_after, seconds_of}
-use Rattle.exb_model.specs.Input.{Arrival, Captured}
+use Rattle.exb_model.specs.declared.arrival.Arrival.{Arrival}
+use Rattle.exb_model.specs.Input.{Captured}
 use Rattle.exb_model.specs.Input.{Given as Commanded}
 use Rattle.exb_model.specs.Refusals.{refusal}
 use Rattle.exb_model.specs.Setup.{Limits}

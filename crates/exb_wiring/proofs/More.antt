@@ -11,7 +11,8 @@ use Rattle.exb_model.specs.Configuration.{Bridge}
 use Rattle.exb_model.specs.EagerHistory.{arrival_event, decided, is_relayed}
 use Rattle.exb_model.specs.FlatBridge.{Sent}
 use Rattle.exb_model.specs.History.{History, ◌then◌}
-use Rattle.exb_model.specs.Input.{Arrival, Coming, Ordered, Captured}
+use Rattle.exb_model.specs.declared.arrival.Arrival.{Arrival}
+use Rattle.exb_model.specs.Input.{Coming, Ordered, Captured}
 use Rattle.exb_model.specs.Texts.{Counts, counted}
 use Rattle.exb_model.specs.Tree.{external_ports}
 use Rattle.exb_frame.specs.TagValues.{TagRoundTrip}

@@ -10,7 +10,8 @@ use Rattle.exb_model.specs.Configuration.{Bridge}
 use Rattle.exb_model.specs.EagerHistory.{arrival_event, decided, refusal_of}
 use Rattle.exb_model.specs.FlatBridge.{Sent, sent_by, flat}
 use Rattle.exb_model.specs.History.{Basis, History, ◌then◌, command_of, bridge_after}
-use Rattle.exb_model.specs.Input.{Arrival, Coming, Ordered, Captured}
+use Rattle.exb_model.specs.declared.arrival.Arrival.{Arrival}
+use Rattle.exb_model.specs.Input.{Coming, Ordered, Captured}
 use Rattle.exb_model.specs.Learning.{learned}
 use Rattle.exb_model.specs.Ports.{all_ports}
 use Rattle.exb_model.specs.Refusals.{refusal}

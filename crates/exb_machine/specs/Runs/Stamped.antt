@@ -6,7 +6,7 @@ use Rattle.exb_model.specs.Setup.{Limits}
 use Rattle.exb_model.specs.Configuration.{Bridge}
 use Rattle.exb_model.specs.ETags.{read_etag, stripped}
 use Rattle.exb_model.specs.declared.event.Event.TheVariants as event
-use Rattle.exb_model.specs.Input.{Arrival}
+use Rattle.exb_model.specs.declared.arrival.Arrival.{Arrival}
 use Rattle.exb_model.specs.EagerHistory.{arrival_event}
 use Rattle.exb_extender.specs.Forwarding.{is_ignored}
 use Rattle.exb_changing.specs.Runs.Planned.{IsSetting}

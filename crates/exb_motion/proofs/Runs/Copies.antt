@@ -10,7 +10,7 @@ use Rattle.exb_model.specs.EagerHistory.{is_relayed_kind}
 use Rattle.exb_model.specs.FlatBridge.{Sent, sent_as, sent_by, flat}
 use Rattle.exb_model.specs.Frames.{kind_of}
 use Rattle.exb_model.specs.History.{Basis, History, bridge_after}
-use Rattle.exb_model.specs.Input.{Arrival}
+use Rattle.exb_model.specs.declared.arrival.Arrival.{Arrival}
 use Rattle.exb_model.specs.Learning.{Look, passes, learned}
 use Rattle.exb_model.specs.LegalHistory.{EachEvent}
 use Rattle.exb_model.specs.Lists.{numbered}

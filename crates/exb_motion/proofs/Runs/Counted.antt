@@ -13,7 +13,7 @@ use Rattle.exb_model.specs.declared.event.Event.TheVariants as event
 use Rattle.exb_model.specs.declared.vlan.Kind.{Kind}
 use Rattle.exb_model.specs.FlatBridge.{Sent, sent_as, sent_by, flat}
 use Rattle.exb_model.specs.History.{Basis, History, ◌then◌, bridge_after}
-use Rattle.exb_model.specs.Input.{Arrival}
+use Rattle.exb_model.specs.declared.arrival.Arrival.{Arrival}
 use Rattle.exb_model.specs.Configuration.{Bridge}
 use Rattle.exb_model.specs.Learning.{Look, passes, learned}
 use Rattle.exb_model.specs.LegalHistory.{number_of, place_of}

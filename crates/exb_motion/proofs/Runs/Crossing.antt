@@ -9,7 +9,7 @@ use Rattle.exb_model.specs.EagerHistory.{is_relayed, is_relayed_kind, arrival_ev
 use Rattle.exb_model.specs.FlatBridge.{Sent, sent_as, sent_by}
 use Rattle.exb_model.specs.Frames.{kind_of}
 use Rattle.exb_model.specs.History.{bridge_after}
-use Rattle.exb_model.specs.Input.{Arrival}
+use Rattle.exb_model.specs.declared.arrival.Arrival.{Arrival}
 use Rattle.exb_model.specs.Learning.{Look, passes, learned}
 use Rattle.exb_model.specs.Refusals.{refusal}
 use Rattle.exb_model.specs.Setup.{Limits, shape_of, limits_of}

@@ -6,7 +6,7 @@ use Rattle.exb_model.specs.Configuration.{Bridge}
 use Rattle.exb_model.specs.EagerHistory.{is_relayed, is_relayed_kind}
 use Rattle.exb_model.specs.ETags.{read_etag, tagged, stripped}
 use Rattle.exb_model.specs.Frames.{kind_of, source, is_group, egress, IsBytes}
-use Rattle.exb_model.specs.Input.{Arrival}
+use Rattle.exb_model.specs.declared.arrival.Arrival.{Arrival}
 use Rattle.exb_model.specs.Learning.{passes}
 use Rattle.exb_model.specs.Setup.{Limits}
 use Rattle.exb_model.specs.Tree.{Shape, IsTree, device, on, trunk, any_below, is_port, is_cascade, is_extender, is_external, port_number}

@@ -6,7 +6,8 @@ use Rattle.exb_model.specs.declared.event.Event.{Event}
 use Rattle.exb_model.specs.EagerHistory.{is_relayed}
 use Rattle.exb_model.specs.FlatBridge.{Sent}
 use Rattle.exb_model.specs.History.{Basis, History, ◌then◌, bridge_after}
-use Rattle.exb_model.specs.Input.{Arrival, tree_of, bounds_of}
+use Rattle.exb_model.specs.declared.arrival.Arrival.{Arrival}
+use Rattle.exb_model.specs.Input.{tree_of, bounds_of}
 use Rattle.exb_model.specs.Input.{basis_of as basis_in}
 use Rattle.exb_model.specs.LegalHistory.{EachEvent, IsEntered}
 use Rattle.exb_model.specs.Lists.{numbered}

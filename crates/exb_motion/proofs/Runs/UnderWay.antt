@@ -8,7 +8,8 @@ use Rattle.std.proofs.lemmas.List.Sums.{sum_by-append, sum_by-cons}
 use Rattle.exb_model.specs.declared.command.Command.{Command}
 use Rattle.exb_model.specs.FlatBridge.{Sent}
 use Rattle.exb_model.specs.History.{Basis, History, ◌then◌}
-use Rattle.exb_model.specs.Input.{Input, Arrival, Segment, Mode, tree_of, bounds_of, segments}
+use Rattle.exb_model.specs.declared.arrival.Arrival.{Arrival}
+use Rattle.exb_model.specs.Input.{Input, Segment, Mode, tree_of, bounds_of, segments}
 use Rattle.exb_model.specs.Input.{basis_of as basis_in, arrivals_at as arrivals_in_file}
 use Rattle.exb_model.specs.Setup.{Limits}
 use Rattle.exb_model.specs.Tree.{Shape, is_external}

@@ -2,7 +2,7 @@
 use Rattle.std.specs.Prelude.{◌≡◌, ℕ, ◌<◌, ◌≤◌, ◌^◌, true, List, [], ◌∷◌, length, All}
 use Rattle.exb_model.specs.declared.command.Command.{Command}
 use Rattle.exb_model.specs.declared.setup.Setup.{Setup}
-use Rattle.exb_model.specs.Input.{Arrival}
+use Rattle.exb_model.specs.declared.arrival.Arrival.{Arrival}
 use Rattle.exb_model.specs.Setup.{IsValid, shape_of, limits_of}
 use Rattle.exb_model.specs.Tree.{Shape, is_external}
 use Rattle.exb_machine.specs.Allowing.{Can, IsSettled}

@@ -2,7 +2,8 @@
 use Rattle.std.specs.Prelude.{◌≡◌, ℕ, ◌+◌, ◌*◌, ◌≤◌, ◌==◌, ◌++◌, true, List, [], ◌∷◌, length, filter, filter_map, flat_map, fold, sum_by, All, Contains}
 use Rattle.exb_model.specs.FlatBridge.{flat}
 use Rattle.exb_model.specs.History.{◌then◌, command_of}
-use Rattle.exb_model.specs.Input.{Input, Arrival, Segment, Mode, Eager, Seeded, basis_of, tree_of, bounds_of, segments}
+use Rattle.exb_model.specs.declared.arrival.Arrival.{Arrival}
+use Rattle.exb_model.specs.Input.{Input, Segment, Mode, Eager, Seeded, basis_of, tree_of, bounds_of, segments}
 use Rattle.exb_model.specs.EagerHistory.{eager}
 use Rattle.exb_model.specs.LegalHistory.{Legal}
 use Rattle.exb_model.specs.Lists.{Pairwise}

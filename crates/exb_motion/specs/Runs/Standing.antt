@@ -2,7 +2,8 @@
 use Rattle.std.specs.Prelude.{◌≡◌, ℕ, ◌≤◌, ◌++◌, true, List, [], filter_map, flat_map, length, All, Contains, IsPermutation}
 use Rattle.exb_model.specs.declared.setup.Setup.{Setup}
 use Rattle.exb_model.specs.History.{Basis, History, ◌then◌, command_of}
-use Rattle.exb_model.specs.Input.{Input, Arrival, Segment, Mode, tree_of, bounds_of}
+use Rattle.exb_model.specs.declared.arrival.Arrival.{Arrival}
+use Rattle.exb_model.specs.Input.{Input, Segment, Mode, tree_of, bounds_of}
 use Rattle.exb_model.specs.Input.{basis_of as basis_in}
 use Rattle.exb_model.specs.LegalHistory.{place_of}
 use Rattle.exb_model.specs.Setup.{Limits, IsValid, shape_of, limits_of}
