@@ -95,7 +95,7 @@ impl Members {
         }
     }
 
-    /// Whether a device may have a member, 0 for the bridge: false exactly where both sets have no port of it.
+    /// Whether a device may have a member, 0 for the bridge. Where it is false, no port of the device is a member.
     pub fn is_on(&self, device: u8) -> bool
         requires { device < 65 }
         ensures { result ≡ false → (q : ℕ) → q / 64 ≡ device → kind_in self.now.tagged self.now.untagged q ≡ None }
