@@ -37,7 +37,7 @@ bounds_of n = limits_in n.site
 -- ---- steps
 -- a step of the code as one of the machine
 abbrev pub step_of : Made → Step
-step_of (made.Arrive p i m bytes) = Arrive (record { port = p; index = i; moment = m; bytes = bytes.now })
+step_of (made.Arrive a) = Arrive a.now
 step_of (made.Carry n way) = Carry n (way_of way)
 step_of (made.Control n way k keep) = Control n (way_of way) k keep
 step_of (made.Lose n way k) = Lose n (way_of way) k

@@ -1,8 +1,8 @@
 //! Which steps may be made.
 ghost use Rattle.std.specs.Prelude.{◌↔◌, ◌+◌, ◌<◌, ◌≤◌, ◌^◌, IsTrue};
 ghost use Rattle.exb_model.specs.Setup.{NamesExternal};
-ghost use Rattle.exb_machine.specs.Allowing.{Can, MayArrive};
-ghost use Rattle.exb_machine.specs.Worlds.{Carry, Lose, Order};
+ghost use Rattle.exb_machine.specs.Allowing.{Can};
+ghost use Rattle.exb_machine.specs.Worlds.{Arrive, Carry, Lose, Order};
 ghost use Rattle.exb_network.specs.Networks.{step_of};
 ghost use Rattle.exb_network.specs.Steps.{way_of, IsFree};
 ghost use Rattle.exb_network.specs.Worlds.{world_in, IsAt};
@@ -10,8 +10,8 @@ ghost use Rattle.exb_network.specs.Worlds.{world_in, IsAt};
 use crate::site::{Core, Site};
 use crate::step::{Step, Way};
 use crate::world::{is_settled, link_of};
+use exb_model::arrival::Arrival;
 use exb_model::command::Command;
-use exb_model::port::PortId;
 use exb_model::tree::Tree;
 
 /// How many bytes a frame has at most.
@@ -28,14 +28,14 @@ fn names_external(tree: &Tree, command: &Command) -> bool
 }
 
 /// Whether a frame may arrive.
-fn may_arrive(site: &Site, core: &Core, port: PortId, index: u64, length: usize) -> bool
+fn may_arrive(site: &Site, core: &Core, arrival: &Arrival) -> bool
     requires { IsAt site.now core.now }
-    ensures { IsTrue result ↔ MayArrive site.now.tree (world_in core.now) port index length }
+    ensures { IsTrue result ↔ Can site.now.tree (world_in core.now) (Arrive arrival.now) }
 {
-    site.tree().is_external(port)
-        && index == core.next.next(port)
-        && index < 1 << 63
-        && length <= LONGEST
+    site.tree().is_external(arrival.port)
+        && arrival.index == core.next.next(arrival.port)
+        && arrival.index < 1 << 63
+        && arrival.bytes.as_slice().len() <= LONGEST
 }
 
 /// Whether a data word may be taken.
@@ -102,12 +102,7 @@ pub(crate) fn can(site: &Site, core: &Core, step: &Step<'_>) -> bool
     ensures { IsTrue result ↔ Can site.now.tree (world_in core.now) (step_of step.now) }
 {
     match step {
-        Step::Arrive {
-            port,
-            index,
-            bytes,
-            ..
-        } => may_arrive(site, core, *port, *index, bytes.len()),
+        Step::Arrive { arrival } => may_arrive(site, core, *arrival),
         Step::Carry { link, way } => may_carry(site, core, *link, *way),
         Step::Control { link, way, at, .. } => may_deliver(site, core, *link, *way, *at),
         Step::Lose { link, way, at } => may_lose(site, core, *link, *way, *at),

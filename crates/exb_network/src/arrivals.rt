@@ -1,30 +1,19 @@
 //! Frames that come to the network.
 ghost use Rattle.std.specs.Prelude.{◌≡◌};
 ghost use Rattle.exb_machine.specs.Extending.{stamp_of};
-ghost use Rattle.exb_network.specs.Arrivals.{arrival_of};
 
 use exb_link::Stamp;
-use exb_model::port::PortId;
+use exb_model::arrival::Arrival;
 
-/// A frame that came: record `index` of its port, numbered from 1, at `moment` nanoseconds.
-#[derive(Clone, Copy)]
-pub(crate) struct Arrived<'a> {
-    pub(crate) port: PortId,
-    pub(crate) index: u64,
-    pub(crate) moment: u64,
-    pub(crate) bytes: &'a [u8],
-}
-
-impl<'a> Arrived<'a> {
-    /// The stamp of its words.
-    pub(crate) fn stamp(&self) -> Stamp
-        ensures { result ≡ stamp_of (arrival_of self.now) }
-    {
-        Stamp {
-            port: self.port,
-            index: self.index,
-            moment: self.moment,
-        }
+/// The stamp of the words of an arrival.
+#[inline(always)]
+pub(crate) fn stamp_of(arrival: &Arrival) -> Stamp
+    ensures { result ≡ stamp_of arrival.now }
+{
+    Stamp {
+        port: arrival.port,
+        index: arrival.index,
+        moment: arrival.moment,
     }
 }
 

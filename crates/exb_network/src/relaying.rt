@@ -10,14 +10,13 @@ ghost use Rattle.exb_extender.specs.Forwarding.{has_etag_type};
 ghost use Rattle.exb_machine.specs.Effects.{each};
 ghost use Rattle.exb_machine.specs.Extending.{hung_on};
 ghost use Rattle.exb_machine.specs.Relaying.{arrival_by, bridge_takes, comes, comes_from, holder_by, puts_word, sends_for, sends_in, takes_control};
-ghost use Rattle.exb_network.specs.Arrivals.{arrival_of};
 ghost use Rattle.exb_machine.specs.Runs.Asks.{AsksWell};
 ghost use Rattle.exb_boxes.specs.declared.log.Log.{Log};
 ghost use Rattle.exb_network.specs.Sends.{CanSend, HasPassed, is_passed, learns, sent_for};
 ghost use Rattle.exb_network.specs.Sites.{limits_in};
 ghost use Rattle.exb_network.specs.Worlds.{world_in, IsAt, Does, HasLeft, KeepsTrace};
 
-use crate::arrivals::Arrived;
+use crate::arrivals::stamp_of;
 use crate::hearing::hear;
 use crate::sending::hung_on;
 use crate::site::{Core, Room, Site};
@@ -28,6 +27,7 @@ use exb_control::{Ingress, Outbox, SendTo};
 use exb_frame::egress::{VlanTag, egress_into, tagged_egress_into};
 use exb_frame::etag::{E_TAG_TYPE, ETag, strip_in_place, strip_into};
 use exb_link::{Stamp, Word};
+use exb_model::arrival::Arrival;
 use exb_model::bytes::{Bytes, are_bytes, number_at};
 use exb_model::event::Event;
 use exb_model::memory::NoMemory;
@@ -94,27 +94,27 @@ fn put_word(
 /// One send of the bridge for a frame that passed with this VLAN tag: it leaves there, or goes down there with an E-TAG.
 fn send(
     site: &Site,
-    arrived: &Arrived,
+    arrival: &Arrival,
     tag: &VlanTag,
     send: &SendTo,
     core: &mut Core,
     post: &mut Post,
 ) -> Result<(), NoMemory>
     requires at { IsAt site.now core.old }
-    requires passed { HasPassed arrived.now.bytes.now tag.now }
+    requires passed { HasPassed arrival.now.bytes tag.now }
     requires send { CanSend send.now }
-    ensures { OnOk result (Does (sends_in site.now.tree (arrival_of arrived.now) tag.now.vid send.now (world_in core.old)) site.now core.new post.old.log post.new.log) }
+    ensures { OnOk result (Does (sends_in site.now.tree arrival.now tag.now.vid send.now (world_in core.old)) site.now core.new post.old.log post.new.log) }
 {
-    let frame = arrived.bytes;
+    let frame = arrival.bytes.as_slice();
     let mut buffer = post.store.buffer(post.alloc);
     match &send.tag {
         None => {
             egress_into(frame, send.kind, tag, &mut buffer)?;
             let bytes = Bytes::from_vec(buffer);
-            leave_bridge(send.bridge_port, arrived.moment, bytes, post)
+            leave_bridge(send.bridge_port, arrival.moment, bytes, post)
         }
         Some(etag) => {
-            let stamp = arrived.stamp();
+            let stamp = stamp_of(arrival);
             tagged_egress_into(frame, send.kind, tag, etag, &mut buffer)?;
             let bytes = Bytes::from_vec(buffer);
             put_word(site, send.bridge_port, bytes, stamp, core, post)
@@ -125,19 +125,19 @@ fn send(
 /// All sends of the bridge for a frame that passed, in order.
 fn send_all(
     site: &Site,
-    arrived: &Arrived,
+    arrival: &Arrival,
     tag: &VlanTag,
     sends: &[SendTo],
     core: &mut Core,
     post: &mut Post,
 ) -> Result<(), NoMemory>
     requires at { IsAt site.now core.old }
-    requires passed { HasPassed arrived.now.bytes.now tag.now }
+    requires passed { HasPassed arrival.now.bytes tag.now }
     requires sends { All CanSend sends.now }
-    ensures { OnOk result (Does (each (sends_in site.now.tree (arrival_of arrived.now) tag.now.vid) sends.now (world_in core.old)) site.now core.new post.old.log post.new.log) }
+    ensures { OnOk result (Does (each (sends_in site.now.tree arrival.now tag.now.vid) sends.now (world_in core.old)) site.now core.new post.old.log post.new.log) }
 {
     for one in sends {
-        send(site, arrived, tag, one, core, post)?;
+        send(site, arrival, tag, one, core, post)?;
     }
     Ok(())
 }
@@ -155,23 +155,24 @@ fn has_passed(ingress: &Ingress) -> bool
 #[inline(always)]
 fn relay(
     site: &Site,
-    arrived: &Arrived,
+    arrival: &Arrival,
     outbox: &mut Outbox,
     core: &mut Core,
 ) -> Result<bool, NoMemory>
     requires at { IsAt site.now core.old }
-    requires external { is_external site.now.tree arrived.now.port ≡ true }
-    ensures relayed { IfOk result (λ relayed. relayed ≡ is_relayed (world_in core.old).control.bridge arrived.now.port arrived.now.bytes.now) }
-    ensures does { OnOk result ((log : Log) → Does (learns (arrival_of arrived.now) (world_in core.old)) site.now core.new log log) }
-    ensures sends { OnOk result (outbox.new.sends.items ≡ sends_for site.now.tree (world_in core.old) (arrival_of arrived.now)) }
+    requires external { is_external site.now.tree arrival.now.port ≡ true }
+    ensures relayed { IfOk result (λ relayed. relayed ≡ is_relayed (world_in core.old).control.bridge arrival.now.port arrival.now.bytes) }
+    ensures does { OnOk result ((log : Log) → Does (learns arrival.now (world_in core.old)) site.now core.new log log) }
+    ensures sends { OnOk result (outbox.new.sends.items ≡ sends_for site.now.tree (world_in core.old) arrival.now) }
     ensures can { OnOk result (All CanSend outbox.new.sends.items) }
-    ensures ingress { OnOk result (outbox.new.ingress ≡ ingress_for (world_in core.old).control.bridge arrived.now.port arrived.now.bytes.now) }
+    ensures ingress { OnOk result (outbox.new.ingress ≡ ingress_for (world_in core.old).control.bridge arrival.now.port arrival.now.bytes) }
 {
     core.control.is_active_config();
     spaces_number();
     let _ = site;
-    are_bytes(arrived.bytes);
-    match core.control.frame(arrived.port, arrived.bytes, outbox) {
+    let frame = arrival.bytes.as_slice();
+    are_bytes(frame);
+    match core.control.frame(arrival.port, frame, outbox) {
         Ok(relayed) => Ok(relayed),
         Err(_) => Err(NoMemory),
     }
@@ -181,18 +182,18 @@ fn relay(
 #[inline(never)]
 fn relay_on(
     site: &Site,
-    arrived: &Arrived,
+    arrival: &Arrival,
     room: &mut Room,
     core: &mut Core,
 ) -> Result<bool, NoMemory>
     requires at { IsAt site.now core.old }
-    requires external { is_external site.now.tree arrived.now.port ≡ true }
-    ensures relayed { IfOk result (λ relayed. relayed ≡ is_relayed (world_in core.old).control.bridge arrived.now.port arrived.now.bytes.now) }
-    ensures does { OnOk result (Does (sent_for site.now.tree (arrival_of arrived.now) (world_in core.old)) site.now core.new room.old.post.log room.new.post.log) }
-    ensures ingress { OnOk result (room.new.outbox.ingress ≡ ingress_for (world_in core.old).control.bridge arrived.now.port arrived.now.bytes.now) }
+    requires external { is_external site.now.tree arrival.now.port ≡ true }
+    ensures relayed { IfOk result (λ relayed. relayed ≡ is_relayed (world_in core.old).control.bridge arrival.now.port arrival.now.bytes) }
+    ensures does { OnOk result (Does (sent_for site.now.tree arrival.now (world_in core.old)) site.now core.new room.old.post.log room.new.post.log) }
+    ensures ingress { OnOk result (room.new.outbox.ingress ≡ ingress_for (world_in core.old).control.bridge arrival.now.port arrival.now.bytes) }
 {
-    are_bytes(arrived.bytes);
-    let relayed = relay(site, arrived, &mut room.outbox, core)?;
+    are_bytes(arrival.bytes.as_slice());
+    let relayed = relay(site, arrival, &mut room.outbox, core)?;
     match &room.outbox.ingress {
         Ingress::Dropped => Ok(relayed),
         Ingress::Passed { vid, pcp, dei } => {
@@ -202,7 +203,7 @@ fn relay_on(
                 vid: *vid,
             };
             let sends = room.outbox.sends.as_slice();
-            send_all(site, arrived, &tag, sends, core, &mut room.post)?;
+            send_all(site, arrival, &tag, sends, core, &mut room.post)?;
             Ok(relayed)
         }
     }
@@ -210,17 +211,23 @@ fn relay_on(
 
 /// Tells that a frame was relayed, and whether it passed. Its bytes go into what is told.
 #[inline(always)]
-fn tell(stamp: &Stamp, bytes: Bytes, passed: bool, log: &mut Log) -> Result<(), NoMemory>
-    ensures events { OnOk result (log.new.events ≡ log.old.events ++ Event.Relay stamp.now.port stamp.now.index stamp.now.moment bytes ∷ []) }
+fn tell(arrival: Arrival, passed: bool, log: &mut Log) -> Result<(), NoMemory>
+    ensures events { OnOk result (log.new.events ≡ log.old.events ++ Event.Relay arrival.port arrival.index arrival.moment arrival.bytes ∷ []) }
     ensures passed { OnOk result (log.new.passed ≡ log.old.passed ++ passed ∷ []) }
     ensures left { log.new.left ≡ log.old.left }
     ensures trace { KeepsTrace log.old log.new }
 {
     log.passed.push(passed)?;
+    let Arrival {
+        port,
+        index,
+        moment,
+        bytes,
+    } = arrival;
     log.events.push(Event::Relay {
-        port: stamp.port,
-        index: stamp.index,
-        moment: stamp.moment,
+        port,
+        index,
+        moment,
         bytes,
     })
 }
@@ -228,21 +235,27 @@ fn tell(stamp: &Stamp, bytes: Bytes, passed: bool, log: &mut Log) -> Result<(), 
 /// A frame comes to the bridge: it is ignored, or relayed and then learned from.
 pub(crate) fn come(
     site: &Site,
-    arrived: &Arrived,
+    arrival: &Arrival,
     room: &mut Room,
     core: &mut Core,
 ) -> Result<(), NoMemory>
     requires at { IsAt site.now core.old }
-    requires external { is_external site.now.tree arrived.now.port ≡ true }
-    ensures { OnOk result (Does (comes site.now.tree (arrival_of arrived.now) (world_in core.old)) site.now core.new room.old.post.log room.new.post.log) }
+    requires external { is_external site.now.tree arrival.now.port ≡ true }
+    ensures { OnOk result (Does (comes site.now.tree arrival.now (world_in core.old)) site.now core.new room.old.post.log room.new.post.log) }
 {
-    let relayed = relay_on(site, arrived, room, core)?;
+    let relayed = relay_on(site, arrival, room, core)?;
     if !relayed {
-        return ignore(arrived, &mut room.post.log);
+        return ignore(arrival, &mut room.post.log);
     }
     let passed = has_passed(&room.outbox.ingress);
-    let bytes = room.post.store.copy(room.post.alloc, arrived.bytes)?;
-    tell(&arrived.stamp(), bytes, passed, &mut room.post.log)
+    let bytes = room.post.store.copy(room.post.alloc, arrival.bytes.as_slice())?;
+    let copy = Arrival {
+        port: arrival.port,
+        index: arrival.index,
+        moment: arrival.moment,
+        bytes,
+    };
+    tell(copy, passed, &mut room.post.log)
 }
 
 /// The frame of a word comes to the bridge, as `come`: its bytes are not copied.
@@ -258,18 +271,18 @@ fn come_in(
     requires external { is_external site.now.tree stamp.now.port ≡ true }
     ensures { OnOk result (Does (comes site.now.tree (arrival_by stamp.now.port stamp.now bytes) (world_in core.old)) site.now core.new room.old.post.log room.new.post.log) }
 {
-    let arrived = Arrived {
+    let arrival = Arrival {
         port: stamp.port,
         index: stamp.index,
         moment: stamp.moment,
-        bytes: bytes.as_slice(),
+        bytes,
     };
-    let relayed = relay_on(site, &arrived, room, core)?;
+    let relayed = relay_on(site, &arrival, room, core)?;
     if !relayed {
-        return ignore(&arrived, &mut room.post.log);
+        return ignore(&arrival, &mut room.post.log);
     }
     let passed = has_passed(&room.outbox.ingress);
-    tell(stamp, bytes, passed, &mut room.post.log)
+    tell(arrival, passed, &mut room.post.log)
 }
 
 /// The port whose channel the E-TAG of a frame names, at a cascade port of the bridge.

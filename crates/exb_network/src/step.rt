@@ -1,7 +1,7 @@
 //! The steps of a network.
 
+use exb_model::arrival::Arrival;
 use exb_model::command::Command;
-use exb_model::port::PortId;
 
 /// A direction of the link above an extender: up to the bridge, or down from it.
 #[derive(Clone, Copy, Debug, PartialEq, Eq)]
@@ -13,13 +13,9 @@ pub enum Way {
 /// One step.
 #[derive(Clone, Copy)]
 pub enum Step<'a> {
-    /// A frame arrives at an external port: record `index` (from 1) of that port, at `moment` nanoseconds. It has
-    /// at most 262,144 bytes.
+    /// A frame of at most 262,144 bytes arrives at an external port.
     Arrive {
-        port: PortId,
-        index: u64,
-        moment: u64,
-        bytes: &'a [u8],
+        arrival: &'a Arrival,
     },
     /// The first data word of a direction is taken.
     Carry {

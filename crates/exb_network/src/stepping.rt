@@ -5,7 +5,6 @@ ghost use Rattle.exb_model.specs.Tree.{is_extender, is_external};
 ghost use Rattle.exb_machine.specs.Stepping.{arrives, control_at, done_by, takes, takes_up, with_words, words_on};
 ghost use Rattle.exb_machine.specs.Worlds.{Carry, Control, Down, Lose, Mark, Order, Tick, Up};
 ghost use Rattle.exb_link.specs.Words.{is_control, without_control};
-ghost use Rattle.exb_network.specs.Arrivals.{arrival_of};
 ghost use Rattle.exb_machine.specs.Runs.Asks.{AsksWell};
 ghost use Rattle.exb_boxes.specs.Directions.{words_of};
 ghost use Rattle.exb_boxes.specs.Numbers.{IsNumber};
@@ -13,7 +12,6 @@ ghost use Rattle.exb_network.specs.Sites.{limits_in};
 ghost use Rattle.exb_network.specs.Steps.{way_of};
 ghost use Rattle.exb_network.specs.Worlds.{world_in, IsAt, Does};
 
-use crate::arrivals::Arrived;
 use crate::asking::follow;
 use crate::relaying::{self, come};
 use crate::site::{Core, Room, Site};
@@ -21,6 +19,7 @@ use crate::step::Way;
 use crate::taking::{arrive_at, take_from_above, take_from_below};
 use exb_boxes::{Direction, Log};
 use exb_link::Word;
+use exb_model::arrival::Arrival;
 use exb_model::bytes::Bytes;
 use exb_model::command::Command;
 use exb_model::event::Event;
@@ -234,20 +233,20 @@ pub(crate) fn lose(site: &Site, number: u8, way: Way, place: u64, core: &mut Cor
 #[inline(always)]
 pub(crate) fn arrive(
     site: &Site,
-    arrived: &Arrived,
+    arrival: &Arrival,
     room: &mut Room,
     core: &mut Core,
 ) -> Result<(), NoMemory>
     requires at { IsAt site.now core.old }
-    requires external { is_external site.now.tree arrived.now.port ≡ true }
-    requires few { (world_in core.old).next arrived.now.port < 2 ^ 63 }
-    ensures { OnOk result (Does (arrives site.now.tree (arrival_of arrived.now) (world_in core.old)) site.now core.new room.old.post.log room.new.post.log) }
+    requires external { is_external site.now.tree arrival.now.port ≡ true }
+    requires few { (world_in core.old).next arrival.now.port < 2 ^ 63 }
+    ensures { OnOk result (Does (arrives site.now.tree arrival.now (world_in core.old)) site.now core.new room.old.post.log room.new.post.log) }
 {
-    core.next.count(arrived.port);
-    if arrived.port.device() == 0 {
-        come(site, arrived, room, core)
+    core.next.count(arrival.port);
+    if arrival.port.device() == 0 {
+        come(site, arrival, room, core)
     } else {
-        arrive_at(site, arrived, room, core)
+        arrive_at(site, arrival, room, core)
     }
 }
 

@@ -3,17 +3,18 @@ ghost use Rattle.std.specs.Prelude.{◌≡◌, ◌++◌, ◌∷◌, [], true, On
 ghost use Rattle.exb_model.specs.Tree.{device, is_extender, port_number};
 ghost use Rattle.exb_extender.specs.Machine.{Arrives, Beats, CanTake};
 ghost use Rattle.exb_machine.specs.Extending.{arrives_at, reacts, takes_from_above, takes_from_below};
-ghost use Rattle.exb_network.specs.Arrivals.{arrival_of, IsPortAt};
+ghost use Rattle.exb_network.specs.Arrivals.{IsPortAt};
 ghost use Rattle.exb_boxes.specs.Devices.{far_of};
 ghost use Rattle.exb_network.specs.Worlds.{world_in, IsAt, Does, KeepsTrace};
 
-use crate::arrivals::{Arrived, Came};
+use crate::arrivals::{Came, stamp_of};
 use crate::passing::pass_on;
 use crate::sending::{send_all, send_frame};
 use crate::site::{Core, Room, Site};
 use exb_boxes::Log;
 use exb_extender::{Out, Side};
 use exb_link::Word;
+use exb_model::arrival::Arrival;
 use exb_model::event::Event;
 use exb_model::memory::NoMemory;
 use exb_model::port::PortId;
@@ -108,15 +109,15 @@ pub(crate) fn take_from_below(
 /// A frame is ignored.
 #[cold]
 #[inline(never)]
-pub(crate) fn ignore(arrived: &Arrived, log: &mut Log) -> Result<(), NoMemory>
-    ensures events { OnOk result (log.new.events ≡ log.old.events ++ Event.Ignored arrived.now.port arrived.now.index ∷ []) }
+pub(crate) fn ignore(arrival: &Arrival, log: &mut Log) -> Result<(), NoMemory>
+    ensures events { OnOk result (log.new.events ≡ log.old.events ++ Event.Ignored arrival.now.port arrival.now.index ∷ []) }
     ensures passed { log.new.passed ≡ log.old.passed }
     ensures left { log.new.left ≡ log.old.left }
     ensures trace { KeepsTrace log.old log.new }
 {
     log.events.push(Event::Ignored {
-        port: arrived.port,
-        index: arrived.index,
+        port: arrival.port,
+        index: arrival.index,
     })
 }
 
@@ -124,26 +125,27 @@ pub(crate) fn ignore(arrived: &Arrived, log: &mut Log) -> Result<(), NoMemory>
 #[inline(never)]
 pub(crate) fn arrive_at(
     site: &Site,
-    arrived: &Arrived,
+    arrival: &Arrival,
     room: &mut Room,
     core: &mut Core,
 ) -> Result<(), NoMemory>
     requires at { IsAt site.now core.old }
-    requires port { IsPortAt site.now.tree arrived.now.port }
-    ensures { OnOk result (Does (arrives_at site.now.tree (arrival_of arrived.now) (world_in core.old)) site.now core.new room.old.post.log room.new.post.log) }
+    requires port { IsPortAt site.now.tree arrival.now.port }
+    ensures { OnOk result (Does (arrives_at site.now.tree arrival.now (world_in core.old)) site.now core.new room.old.post.log room.new.post.log) }
 {
-    let number = arrived.port.device();
+    let number = arrival.port.device();
     site.has_low_number(number);
-    let port = arrived.port.place() + 1;
+    let port = arrival.port.place() + 1;
     if core.far.cascade(number, port) {
-        return ignore(arrived, &mut room.post.log);
+        return ignore(arrival, &mut room.post.log);
     }
-    match core.far.form_in(number, port, arrived.bytes) {
-        None => ignore(arrived, &mut room.post.log),
+    let frame = arrival.bytes.as_slice();
+    match core.far.form_in(number, port, frame) {
+        None => ignore(arrival, &mut room.post.log),
         Some(form) => {
             let came = Came {
-                frame: arrived.bytes,
-                stamp: Some(arrived.stamp()),
+                frame,
+                stamp: Some(stamp_of(arrival)),
             };
             let out = Out { to: Side::Up, form };
             send_frame(site, number, &came, &out, core, &mut room.post)

@@ -111,7 +111,7 @@ pub(crate) fn tell_ins(
     ensures { OnOk result (to.new ≡ to.old ++ all_told (lines_in site.now.tree (step_of step.now) (world_in core.now))) }
 {
     match step {
-        Step::Arrive { port, bytes, .. } => put_at(alloc, *port, *bytes, to),
+        Step::Arrive { arrival } => put_at(alloc, arrival.port, arrival.bytes.as_slice(), to),
         Step::Carry { link, way } => {
             site.has_low_number(*link);
             let word = link_of(core, *link, *way).first_data();

@@ -10,7 +10,6 @@ ghost use Rattle.exb_machine.specs.Stepping.{done_by, words_on};
 ghost use Rattle.exb_machine.specs.Worlds.{Arrive, Beat, Carry, Mark, first_world};
 ghost use Rattle.exb_machine.specs.Runs.Asks.{AsksWell};
 ghost use Rattle.exb_machine.specs.Runs.Laws.{HasBytes};
-ghost use Rattle.exb_network.specs.Arrivals.{arrival_of};
 ghost use Rattle.exb_network.specs.Idle.{IsIdle};
 ghost use Rattle.exb_network.specs.Networks.{network_of, step_of, IsLive, IsStepped};
 ghost use Rattle.exb_boxes.specs.Numbers.{IsNumber};
@@ -19,7 +18,6 @@ ghost use Rattle.exb_network.specs.Steps.{way_of};
 ghost use Rattle.exb_network.specs.Turns.{order_of, IsTurn};
 ghost use Rattle.exb_network.specs.Worlds.{world_in, IsAt, Does};
 
-use crate::arrivals::Arrived;
 use crate::busy::Turn;
 use crate::site::{Core, Room, Site};
 use crate::step::{Step, Way};
@@ -32,6 +30,7 @@ use exb_machine::laws::{
     asks_can_be_sent, begins_written, runs_stay_sound, setups_begin_sound, steps_stay_written,
     written_are_short,
 };
+use exb_model::arrival::Arrival;
 use exb_model::bytes::are_bytes;
 use exb_model::event::Event;
 use exb_model::memory::NoMemory;
@@ -246,8 +245,8 @@ impl World {
 fn brings_bytes(step: &Step<'_>)
     ensures { HasBytes (step_of step.now) }
 {
-    if let Step::Arrive { bytes, .. } = step {
-        are_bytes(*bytes);
+    if let Step::Arrive { arrival } = step {
+        are_bytes(arrival.bytes.as_slice());
     }
 }
 
@@ -277,20 +276,7 @@ fn traced(site: &Site, step: &Step<'_>, room: &mut Room, core: &mut Core) -> Res
     ensures made { OnOk result ((failed : Bool) → IsStepped (step_of step.now) (network_of site.now core.old room.old.post.log failed) (network_of site.now core.new room.new.post.log failed)) }
 {
     match step {
-        Step::Arrive {
-            port,
-            index,
-            moment,
-            bytes,
-        } => {
-            let arrived = Arrived {
-                port: *port,
-                index: *index,
-                moment: *moment,
-                bytes: *bytes,
-            };
-            traced_arrive(site, &arrived, room, core)
-        }
+        Step::Arrive { arrival } => traced_arrive(site, *arrival, room, core),
         Step::Carry { link, way } => traced_carry(site, *link, *way, room, core),
         Step::Beat => traced_beat(site, room, core),
         Step::Mark => traced_mark(site, room, core),
@@ -303,23 +289,17 @@ fn traced(site: &Site, step: &Step<'_>, room: &mut Room, core: &mut Core) -> Res
 #[inline(never)]
 fn traced_arrive(
     site: &Site,
-    arrived: &Arrived<'_>,
+    arrival: &Arrival,
     room: &mut Room,
     core: &mut Core,
 ) -> Result<(), NoMemory>
     requires live { IsLive site.now core.old }
-    requires can { Can site.now.tree (world_in core.old) (Arrive (arrival_of arrived.now)) }
+    requires can { Can site.now.tree (world_in core.old) (Arrive arrival.now) }
     requires tracing { room.old.post.log.tracing ≡ true }
     ensures live { OnOk result (IsLive site.now core.new) }
-    ensures made { OnOk result ((failed : Bool) → IsStepped (Arrive (arrival_of arrived.now)) (network_of site.now core.old room.old.post.log failed) (network_of site.now core.new room.new.post.log failed)) }
+    ensures made { OnOk result ((failed : Bool) → IsStepped (Arrive arrival.now) (network_of site.now core.old room.old.post.log failed) (network_of site.now core.new room.new.post.log failed)) }
 {
-    let step = Step::Arrive {
-        port: arrived.port,
-        index: arrived.index,
-        moment: arrived.moment,
-        bytes: arrived.bytes,
-    };
-    make_traced(site, &step, room, core)
+    make_traced(site, &Step::Arrive { arrival }, room, core)
 }
 
 /// A data word is taken, and its lines are told.
@@ -436,20 +416,7 @@ fn make(site: &Site, step: &Step<'_>, room: &mut Room, core: &mut Core) -> Resul
     ensures { OnOk result (Does (done_by site.now.tree (limits_in site.now) (step_of step.now) (world_in core.old)) site.now core.new room.old.post.log room.new.post.log) }
 {
     match step {
-        Step::Arrive {
-            port,
-            index,
-            moment,
-            bytes,
-        } => {
-            let arrived = Arrived {
-                port: *port,
-                index: *index,
-                moment: *moment,
-                bytes: *bytes,
-            };
-            arrive(site, &arrived, room, core)
-        }
+        Step::Arrive { arrival } => arrive(site, *arrival, room, core),
         Step::Carry { link, way } => carry(site, *link, *way, room, core),
         Step::Control {
             link,

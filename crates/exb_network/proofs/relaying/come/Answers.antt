@@ -1,8 +1,6 @@
 use Rattle.std.proofs.Common.{List, ℕ, ◌++◌, ◌∷◌, [], sym, ap, ◌∙◌}
 use Rattle.std.proofs.lemmas.Result.{on_ok_weaker}
 use Rattle.exb_model.specs.declared.event.Event.TheVariants.{Relay}
-use Rattle.exb_link.specs.declared.word.Stamp.{Stamp}
-use Rattle.exb_network.specs.Arrivals.{arrival_of}
 use Rattle.exb_network.specs.Sends.{is_passed}
 use Rattle.exb_network.specs.Worlds.{world_in}
 use Rattle.exb_network.proofs.Coming.{comes_told, on_ok_two, told_ignored, told_relayed}
@@ -11,7 +9,7 @@ use Rattle.exb_network.proofs.relaying.come.Goals as goal
 pub returns-then-not-relayed : goal.returns-then-not-relayed
 returns-then-not-relayed c =
     let w = world_in c.args.core.now in
-    let a = arrival_of c.args.arrived.now in
+    let a = c.args.arrival.now in
     let sent = c.in_ok-relayed.ensures in
     let mid = c.relay_on.new.room.post.log in
     on_ok_weaker c.ignore.result
@@ -23,14 +21,13 @@ returns-then-not-relayed c =
 pub returns : goal.returns
 returns c =
     let w = world_in c.args.core.now in
-    let a = arrival_of c.args.arrived.now in
+    let a = c.args.arrival.now in
     let sent = c.in_ok-relayed.ensures in
     let mid = c.relay_on.new.room.post.log in
     on_ok_two c.tell.result
     (λ events passed.
     comes_told c.args.site.now a w c.relay_on.new.core c.args.room.now.post.log mid c.tell.new.log sent.does
     (told_relayed w.control.bridge a c.has_passed-passed.result mid c.tell.new.log (sym sent.relayed ∙ c.if-not-relayed.false) (c.has_passed-passed.ensures ∙ ap is_passed sent.ingress)
-    (events ∙ ap (λ (t : Stamp). mid.events ++ Relay t.port t.index t.moment c.in_ok-bytes.bytes ∷ []) c.stamp.ensures
-    ∙ ap (λ (f : List ℕ). mid.events ++ Relay a.port a.index a.moment f ∷ []) c.in_ok-bytes.ensures)
+    (events ∙ ap (λ (f : List ℕ). mid.events ++ Relay a.port a.index a.moment f ∷ []) (c.in_ok-bytes.ensures ∙ c.as_slice.ensures))
     passed c.tell.ensures.left c.tell.ensures.trace))
     c.tell.ensures.events c.tell.ensures.passed

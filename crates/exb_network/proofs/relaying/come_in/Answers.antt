@@ -1,39 +1,34 @@
-use Rattle.std.proofs.Common.{List, ℕ, ◌++◌, ◌∷◌, [], sym, ap, subst, ◌∙◌}
+use Rattle.std.proofs.Common.{sym, ap, ◌∙◌}
 use Rattle.std.proofs.lemmas.Result.{on_ok_weaker}
-use Rattle.exb_model.specs.declared.event.Event.TheVariants.{Relay}
-use Rattle.exb_machine.specs.Relaying.{arrival_by, comes}
+use Rattle.exb_machine.specs.Relaying.{arrival_by}
 use Rattle.exb_network.specs.Sends.{is_passed}
-use Rattle.exb_network.specs.Worlds.{world_in, Does}
+use Rattle.exb_network.specs.Worlds.{world_in}
 use Rattle.exb_network.proofs.Coming.{comes_told, on_ok_two, told_ignored, told_relayed}
 use Rattle.exb_network.proofs.relaying.come_in.Goals as goal
 
 pub returns-then-not-relayed : goal.returns-then-not-relayed
 returns-then-not-relayed c =
-    let s = c.args.site.now in
     let w = world_in c.args.core.now in
     let stamp = c.args.stamp.now in
-    let a = arrival_by stamp.port stamp c.as_slice.result.now in
+    let a = arrival_by stamp.port stamp c.args.bytes in
     let sent = c.in_ok-relayed.ensures in
     let mid = c.relay_on.new.room.post.log in
     on_ok_weaker c.ignore.result
     (λ events.
-    subst (λ (f : List ℕ). Does (comes s.tree (arrival_by stamp.port stamp f) w) s c.relay_on.new.core c.args.room.now.post.log c.ignore.new.log) c.as_slice.ensures (
-    comes_told s a w c.relay_on.new.core c.args.room.now.post.log mid c.ignore.new.log sent.does
-    (told_ignored w.control.bridge a mid c.ignore.new.log (sym sent.relayed ∙ c.if-not-relayed.true) events c.ignore.ensures.passed c.ignore.ensures.left c.ignore.ensures.trace)))
+    comes_told c.args.site.now a w c.relay_on.new.core c.args.room.now.post.log mid c.ignore.new.log sent.does
+    (told_ignored w.control.bridge a mid c.ignore.new.log (sym sent.relayed ∙ c.if-not-relayed.true) events c.ignore.ensures.passed c.ignore.ensures.left c.ignore.ensures.trace))
     c.ignore.ensures.events
 
 pub returns : goal.returns
 returns c =
-    let s = c.args.site.now in
     let w = world_in c.args.core.now in
     let stamp = c.args.stamp.now in
-    let a = arrival_by stamp.port stamp c.as_slice.result.now in
+    let a = arrival_by stamp.port stamp c.args.bytes in
     let sent = c.in_ok-relayed.ensures in
     let mid = c.relay_on.new.room.post.log in
     on_ok_two c.tell.result
     (λ events passed.
-    subst (λ (f : List ℕ). Does (comes s.tree (arrival_by stamp.port stamp f) w) s c.relay_on.new.core c.args.room.now.post.log c.tell.new.log) c.as_slice.ensures (
-    comes_told s a w c.relay_on.new.core c.args.room.now.post.log mid c.tell.new.log sent.does
+    comes_told c.args.site.now a w c.relay_on.new.core c.args.room.now.post.log mid c.tell.new.log sent.does
     (told_relayed w.control.bridge a c.has_passed-passed.result mid c.tell.new.log (sym sent.relayed ∙ c.if-not-relayed.false) (c.has_passed-passed.ensures ∙ ap is_passed sent.ingress)
-    (events ∙ ap (λ (f : List ℕ). mid.events ++ Relay stamp.port stamp.index stamp.moment f ∷ []) (sym c.as_slice.ensures)) passed c.tell.ensures.left c.tell.ensures.trace)))
+    events passed c.tell.ensures.left c.tell.ensures.trace))
     c.tell.ensures.events c.tell.ensures.passed

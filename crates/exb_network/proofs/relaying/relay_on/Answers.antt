@@ -3,7 +3,6 @@ use Rattle.exb_model.specs.Learning.{passes}
 use Rattle.exb_relay.specs.declared.send.SendTo.{SendTo}
 use Rattle.exb_machine.specs.Effects.{each, only}
 use Rattle.exb_machine.specs.Relaying.{sends_all, sends_for, sends_in}
-use Rattle.exb_network.specs.Arrivals.{arrival_of}
 use Rattle.exb_network.specs.Sends.{learns}
 use Rattle.exb_network.specs.Worlds.{world_in, Does}
 use Rattle.exb_network.proofs.Coming.{has_passed, sends_none, sends_some}
@@ -17,13 +16,13 @@ send_all-requires-clause-at c = (c.in_ok-relayed.ensures.does c.args.room.now.po
 
 pub send_all-requires-clause-passed : goal.send_all-requires-clause-passed
 send_all-requires-clause-passed c =
-    has_passed (world_in c.args.core.now).control.bridge (arrival_of c.args.arrived.now) _ c.are_bytes.ensures (sym c.in_ok-relayed.ensures.ingress ∙ c.in-Passed.is)
+    has_passed (world_in c.args.core.now).control.bridge c.args.arrival.now _ (rw c.as_slice.ensures at c.are_bytes.ensures) (sym c.in_ok-relayed.ensures.ingress ∙ c.in-Passed.is)
 
 pub returns-in-Dropped-clause-does : goal.returns-in-Dropped-clause-does
 returns-in-Dropped-clause-does c =
     let s = c.args.site.now in
     let w = world_in c.args.core.now in
-    let a = arrival_of c.args.arrived.now in
+    let a = c.args.arrival.now in
     let d = c.relay.new.core in
     let log = c.args.room.now.post.log in
     let done = c.in_ok-relayed.ensures in

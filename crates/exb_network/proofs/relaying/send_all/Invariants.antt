@@ -1,7 +1,6 @@
 use Rattle.std.proofs.Common.{drop}
 use Rattle.exb_machine.specs.Effects.{each}
 use Rattle.exb_machine.specs.Relaying.{sends_in}
-use Rattle.exb_network.specs.Arrivals.{arrival_of}
 use Rattle.exb_network.specs.Leading.{Leads}
 use Rattle.exb_network.specs.Worlds.{world_in, IsAt}
 use Rattle.exb_network.proofs.relaying.send_all.Given as goal
@@ -9,5 +8,5 @@ use Rattle.exb_network.proofs.relaying.send_all.Given as goal
 -- those that are left lead to the whole
 abbrev pub invariant-loop-one : goal.invariant-loop-one
 invariant-loop-one l =
-    Leads (each (sends_in l.site.tree (arrival_of l.arrived) l.tag.vid) l.sends (world_in l.fn.core))
-    (each (sends_in l.site.tree (arrival_of l.arrived) l.tag.vid) (drop l.one-index l.sends) (world_in l.core)) l.fn.post.log l.post.log × IsAt l.site l.core
+    Leads (each (sends_in l.site.tree l.arrival l.tag.vid) l.sends (world_in l.fn.core))
+    (each (sends_in l.site.tree l.arrival l.tag.vid) (drop l.one-index l.sends) (world_in l.core)) l.fn.post.log l.post.log × IsAt l.site l.core

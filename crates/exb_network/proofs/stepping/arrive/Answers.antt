@@ -1,26 +1,25 @@
 use Rattle.std.proofs.Common.{◌<◌, ◌≤◌, arith}
 use Rattle.std.proofs.lemmas.Result.{on_ok_weaker}
-use Rattle.exb_network.specs.Arrivals.{arrival_of}
 use Rattle.exb_network.proofs.Stepped.{arrives_below, arrives_deeper, external_at, next_is}
 use Rattle.exb_network.proofs.stepping.arrive.Goals as goal
 
 pub returns-then-device-eq0 : goal.returns-then-device-eq0
 returns-then-device-eq0 c =
-    let low : c.args.arrived.now.port < 64 = let b = c.device.ensures.value in let z = c.if-device-eq0.true in omega (arith, b, z) in
+    let low : c.args.arrival.now.port < 64 = let b = c.device.ensures.value in let z = c.if-device-eq0.true in omega (arith, b, z) in
     on_ok_weaker c.come.result (λ done.
-    arrives_below c.args.site.now c.args.core.now (record c.args.core.now { next = c.count.new.self }) c.come.new.core (arrival_of c.args.arrived.now) c.args.room.now.post.log c.come.new.room.post.log
+    arrives_below c.args.site.now c.args.core.now (record c.args.core.now { next = c.count.new.self }) c.come.new.core c.args.arrival.now c.args.room.now.post.log c.come.new.room.post.log
     (next_is c.args.core.now c.count.new.self _ c.count.ensures) low done)
     c.come.ensures
 
 pub arrive_at-requires-clause-port : goal.arrive_at-requires-clause-port
 arrive_at-requires-clause-port c =
-    let deep : 64 ≤ c.args.arrived.now.port = let b = c.device.ensures.value in let z = c.if-device-eq0.false in omega (arith, b, z) in
-    external_at c.args.site.now.tree c.args.arrived.now.port c.requires.external deep
+    let deep : 64 ≤ c.args.arrival.now.port = let b = c.device.ensures.value in let z = c.if-device-eq0.false in omega (arith, b, z) in
+    external_at c.args.site.now.tree c.args.arrival.now.port c.requires.external deep
 
 pub returns-else-device-eq0 : goal.returns-else-device-eq0
 returns-else-device-eq0 c =
-    let deep : 64 ≤ c.args.arrived.now.port = let b = c.device.ensures.value in let z = c.if-device-eq0.false in omega (arith, b, z) in
+    let deep : 64 ≤ c.args.arrival.now.port = let b = c.device.ensures.value in let z = c.if-device-eq0.false in omega (arith, b, z) in
     on_ok_weaker c.arrive_at.result (λ done.
-    arrives_deeper c.args.site.now c.args.core.now (record c.args.core.now { next = c.count.new.self }) c.arrive_at.new.core (arrival_of c.args.arrived.now) c.args.room.now.post.log c.arrive_at.new.room.post.log
+    arrives_deeper c.args.site.now c.args.core.now (record c.args.core.now { next = c.count.new.self }) c.arrive_at.new.core c.args.arrival.now c.args.room.now.post.log c.arrive_at.new.room.post.log
     (next_is c.args.core.now c.count.new.self _ c.count.ensures) deep done)
     c.arrive_at.ensures
