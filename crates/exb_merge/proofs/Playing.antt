@@ -10,8 +10,7 @@ use Rattle.exb_capture.specs.declared.replay.Replay.{Replay}
 use Rattle.exb_capture.specs.Reading.{IsAt, MovesOn}
 use Rattle.exb_capture.specs.Replaying.{ComesAt, HasGiven, IsPlayed, IsReplaying, IsSameReplay, IsSince}
 use Rattle.exb_merge.specs.declared.replays.Again.{Again}
-use Rattle.exb_merge.specs.declared.replays.Came.{Came}
-use Rattle.exb_merge.specs.Arrivals.{arrival_with}
+use Rattle.exb_model.specs.declared.arrival.Arrival.{Arrival}
 use Rattle.exb_merge.specs.Replays.{Apart, AreReplays, HasCome, HasNext, HasPort, IsOpened, ReadsOn, gone_on, next_in, number_of, standing_of}
 use Rattle.exb_merge.specs.Streams.{Stream, to_come}
 use Rattle.exb_merge.specs.Turns.{IsFirst}
@@ -51,7 +50,7 @@ module _ (xs : List Again) (m place : ℕ) (s s' : Again) (h : IsNext xs m place
       (subst (AllByRecursion (λ (t : Again). IfSome t.next (λ n. m ≤ n))) (sym put_is)
       (all_put (λ (t : Again). IfSome t.next (λ n. m ≤ n)) h.at.before h.at.after s s' (λ _. own) (subst (AllByRecursion (λ (t : Again). IfSome t.next (λ n. m ≤ n))) h.at.split none)))
 
-  pub next_come : (c : Came) → Apart xs → s'.port ≡ s.port → s'.index ≡ suc s.index → s'.replay.least ≡ m → c.port ≡ s.port → c.index ≡ s.index → c.moment ≡ m → 1 ≤ s.index → s.index < 2 ^ 63 →
+  pub next_come : (c : Arrival) → Apart xs → s'.port ≡ s.port → s'.index ≡ suc s.index → s'.replay.least ≡ m → c.port ≡ s.port → c.index ≡ s.index → c.moment ≡ m → 1 ≤ s.index → s.index < 2 ^ 63 →
       m < 2 ^ 32 * 1_000_000_000 → length c.bytes ≤ 262_144 → HasCome (map standing_of xs) c (map standing_of (set xs place s'))
   next_come c apart port index least own_port own_index own_moment first numbers in_time short =
       let others = apart_before h.at.before h.at.after s (subst Apart h.at.split apart) in
@@ -122,13 +121,13 @@ module _ (file : Files) (given : ℕ → Id) (xs : List Again) (m place : ℕ) (
       }
 
   -- so what came is the first of all, and the rest is left
-  pub order_next : (now : Files) (ids : ℕ → Id) (looked : Replay) (port index : ℕ) (next : Option ℕ) (c : Came) (streams : List Stream) → Apart xs →
+  pub order_next : (now : Files) (ids : ℕ → Id) (looked : Replay) (port index : ℕ) (next : Option ℕ) (c : Arrival) (streams : List Stream) → Apart xs →
       IsFirst (map next_in xs) m place → c.port ≡ s.port → c.index ≡ s.index → c.moment ≡ m → port ≡ s.port → index ≡ suc s.index → looked.least ≡ m →
       IsAt (given taken.file.id) taken.file.got → MovesOn taken.file.id given ids → SameFiles file now → IsSameReplay taken looked →
       ((ys : List Record) → HasGiven (bytes_of (file (given taken.file.id).name)) ys taken → HasGiven (bytes_of (file (given taken.file.id).name)) ys looked) →
       IfNone next ((ys : List Record) → HasGiven (bytes_of (file (given taken.file.id).name)) ys taken → IsPlayed taken.told (bytes_of (file (given taken.file.id).name)) ys) →
       AreReplays file given xs streams → HasRest streams c.bytes →
-      (rest : List Stream) × (to_come streams ≡ Captured (arrival_with c) ∷ to_come rest) × AreReplays now ids (set xs place (record { port = port; index = index; next = next; replay = looked })) rest
+      (rest : List Stream) × (to_come streams ≡ Captured c ∷ to_come rest) × AreReplays now ids (set xs place (record { port = port; index = index; next = next; replay = looked })) rest
   order_next now ids looked port index next c streams apart first own_port own_index own_moment port_is index_is least at moves files later gives_on end told t =
       let q = t.there in
       let opened = subst (AllByRecursion (IsOpened given)) h.at.split each in

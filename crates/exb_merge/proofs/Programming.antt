@@ -12,7 +12,6 @@ use Rattle.exb_merge.specs.declared.programme.Next.{Next}
 use Rattle.exb_merge.specs.declared.programme.Next.TheVariants as next
 use Rattle.exb_merge.specs.declared.programme.Programme.{Programme}
 use Rattle.exb_merge.specs.declared.replays.Again.{Again}
-use Rattle.exb_merge.specs.declared.replays.Came.{Came}
 use Rattle.exb_merge.specs.declared.replays.CaptureFault.{CaptureFault}
 use Rattle.exb_merge.specs.declared.replays.Replays.{Replays}
 use Rattle.exb_merge.specs.Agendas.{ToPlay, comes_first, commands_left, first_moment, is_of, still_to_come}
@@ -213,7 +212,7 @@ pub command_kept : (ids : ℕ → Id) (p : Programme) → p.taken < length p.com
 command_kept ids p low all = record { opened = all.opened; start = all.start; since = all.since; taken = omega (arith, low); few = all.few; rising = all.rising }
 
 -- ---- a record
-pub record_coming : (ids : ℕ → Id) (p : Programme) (new : Replays) (c : Came) (command captured : Option ℕ) (b : Bool) → IsProgramme ids p → command ≡ first_moment (commands_left (played_with [] p)) →
+pub record_coming : (ids : ℕ → Id) (p : Programme) (new : Replays) (c : Arrival) (command captured : Option ℕ) (b : Bool) → IsProgramme ids p → command ≡ first_moment (commands_left (played_with [] p)) →
     IsEarliest captured p.captures → b ≡ comes_first command captured → b ≡ false → HasCome (standings p.captures) c (standings new) → IsEarliest (Some c.moment) p.captures →
     NoneIsBefore c.moment new → p.start ≤ second_of c.moment → left_in new + 16 ≤ left_in p.captures → ids_in new ≡ ids_in p.captures → IsComing p (next.Record c) (record p { captures = new })
 record_coming ids p new c command captured b all left e test other come first rises since less same =

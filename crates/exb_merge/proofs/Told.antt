@@ -17,8 +17,6 @@ use Rattle.exb_capture.proofs.Going.{taken_read}
 use Rattle.exb_capture.proofs.Looking.{kept_bytes}
 use Rattle.exb_capture.proofs.Replaying.{next_replayed, end_replayed}
 use Rattle.exb_merge.specs.declared.replays.Again.{Again}
-use Rattle.exb_merge.specs.declared.replays.Came.{Came}
-use Rattle.exb_merge.specs.Arrivals.{arrival_with}
 use Rattle.exb_merge.specs.Replays.{IsOpened, IsReplayOf, AreReplays}
 use Rattle.exb_merge.specs.Streams.{Stream, arrivals_of, next_moment, to_come}
 use Rattle.exb_merge.proofs.Arriving.{NoneArrives, none_arrives-append, none_arrives-next, to_come-first, to_come-none}
@@ -143,21 +141,21 @@ replay_at files ids (f ∷ front) back s (x ∷ xs) t =
 abbrev pub gone_behind : Stream → ℕ → List Record → Stream
 gone_behind x m rest = record { port = x.port; index = suc x.index; least = m; records = rest }
 
-arrival_is : (x : Stream) (r : Record) (rest : List Record) (m : ℕ) (c : Came) → x.records ≡ r ∷ rest → m ≡ max x.least r.time → c.port ≡ x.port → c.index ≡ x.index → c.moment ≡ m → c.bytes ≡ r.bytes →
-    arrivals_of x ≡ arrival_with c ∷ arrivals_of (gone_behind x m rest)
+arrival_is : (x : Stream) (r : Record) (rest : List Record) (m : ℕ) (c : Arrival) → x.records ≡ r ∷ rest → m ≡ max x.least r.time → c.port ≡ x.port → c.index ≡ x.index → c.moment ≡ m → c.bytes ≡ r.bytes →
+    arrivals_of x ≡ c ∷ arrivals_of (gone_behind x m rest)
 arrival_is x r rest m c first is port index moment bytes =
-    let own : record { port = x.port; index = x.index; moment = max x.least r.time; bytes = r.bytes } ≡ arrival_with c = rw (port, index, moment, bytes, is) refl in
+    let own : record { port = x.port; index = x.index; moment = max x.least r.time; bytes = r.bytes } ≡ record { port = c.port; index = c.index; moment = c.moment; bytes = c.bytes } = rw (port, index, moment, bytes, is) refl in
     ap (arrivals_from x.port x.index x.least) first
     ∙ ap (λ (a : Arrival). a ∷ arrivals_from x.port (suc x.index) (max x.least r.time) rest) own
-    ∙ ap (λ n. arrival_with c ∷ arrivals_from x.port (suc x.index) n rest) (sym is)
+    ∙ ap (λ n. c ∷ arrivals_from x.port (suc x.index) n rest) (sym is)
 
-pub told_first : (xs before after : List Stream) (x : Stream) (m : ℕ) (r : Record) (rest : List Record) (c : Came) → xs ≡ before ++ x ∷ after →
+pub told_first : (xs before after : List Stream) (x : Stream) (m : ℕ) (r : Record) (rest : List Record) (c : Arrival) → xs ≡ before ++ x ∷ after →
     NoneArrives (suc m) (flat_map arrivals_of before) → NoneArrives m (flat_map arrivals_of after) →
     x.records ≡ r ∷ rest → m ≡ max x.least r.time → c.port ≡ x.port → c.index ≡ x.index → c.moment ≡ m → c.bytes ≡ r.bytes →
-    to_come xs ≡ Captured (arrival_with c) ∷ to_come (before ++ gone_behind x m rest ∷ after)
+    to_come xs ≡ Captured c ∷ to_come (before ++ gone_behind x m rest ∷ after)
 told_first xs before after x m r rest c split ahead behind first is port index when bytes =
     ap to_come split
-    ∙ to_come-first before after x (gone_behind x m rest) (arrival_with c) (arrival_is x r rest m c first is port index when bytes)
+    ∙ to_come-first before after x (gone_behind x m rest) c (arrival_is x r rest m c first is port index when bytes)
     (subst (λ k. NoneArrives (suc k) (flat_map arrivals_of before)) (sym when) ahead) (subst (λ k. NoneArrives k (flat_map arrivals_of after)) (sym when) behind)
 
 no_next : (xs : List Arrival) → next_moment xs ≡ None → xs ≡ []

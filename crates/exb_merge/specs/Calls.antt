@@ -9,7 +9,7 @@ use Rattle.exb_capture.specs.Captures.{capture_records}
 use Rattle.exb_capture.specs.Scans.{scanned_of}
 use Rattle.exb_merge.specs.declared.programme.Next.{Next}
 use Rattle.exb_merge.specs.declared.programme.Programme.{Programme}
-use Rattle.exb_merge.specs.declared.replays.Came.{Came}
+use Rattle.exb_model.specs.declared.arrival.Arrival.{Arrival}
 use Rattle.exb_merge.specs.declared.replays.CaptureFault.{CaptureFault}
 use Rattle.exb_merge.specs.declared.replays.CaptureFault.TheVariants.{Read, Changed}
 use Rattle.exb_merge.specs.declared.replays.Replays.{Replays}
@@ -43,7 +43,7 @@ pub record AddsCapture {X : Type 0} (tells : Type 0) (were are : Files) (had has
   pub failed : IsErrOf result Read → Rose f.reads g.reads
 
 -- it takes the record that comes next of some captures
-pub record TakesRecord (tells : Type 0) (were are : Files) (had has : ℕ → Id) (f g : Faults) (old new : Replays) (result : Result (Option Came) CaptureFault) : Type 0 where
+pub record TakesRecord (tells : Type 0) (were are : Files) (had has : ℕ → Id) (f g : Faults) (old new : Replays) (result : Result (Option Arrival) CaptureFault) : Type 0 where
   pub opened : OnOk result (AreOpened has new)
   -- Whatever the files hold.
   pub come : IfOk result (λ next. IfSome next (λ c. HasCome (standings old) c (standings new)))

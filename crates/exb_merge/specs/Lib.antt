@@ -1,5 +1,4 @@
 pub mod Streams
-pub mod Arrivals
 pub mod Turns
 pub mod Agendas
 pub mod Programmes

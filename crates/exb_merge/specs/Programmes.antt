@@ -7,7 +7,6 @@ use Rattle.exb_merge.specs.declared.programme.Next.{Next}
 use Rattle.exb_merge.specs.declared.programme.Next.TheVariants as next
 use Rattle.exb_merge.specs.declared.programme.Programme.{Programme}
 use Rattle.exb_merge.specs.Agendas.{ToPlay, comes_first, commands_left, first_moment, still_to_come}
-use Rattle.exb_merge.specs.Arrivals.{arrival_with}
 use Rattle.exb_merge.specs.Replays.{AreOpened, AreReplays, AreToldSince, HasCome, IsEarliest, NoneIsBefore, ids_in, left_in, standings}
 use Rattle.exb_merge.specs.Streams.{Stream, to_come}
 
@@ -18,7 +17,7 @@ played_with streams p = record { start = p.start; commands = p.commands.now; tak
 -- what comes, without where it lies in memory
 abbrev pub what : Next → Coming
 what (next.Command number moment) = Ordered moment number
-what (next.Record c) = Captured (arrival_with c)
+what (next.Record c) = Captured c
 
 -- Its captures were opened, its commands come in the order of their seconds, and nothing that was told of them is before its start.
 pub record IsProgramme (ids : ℕ → Id) (p : Programme) : Type 0 where

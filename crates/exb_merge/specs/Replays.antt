@@ -11,9 +11,8 @@ use Rattle.exb_capture.specs.declared.replay.ReplayFault.{ReplayFault}
 use Rattle.exb_capture.specs.declared.replay.ReplayFault.TheVariants as replay
 use Rattle.exb_merge.specs.declared.replays.CaptureFault.{CaptureFault}
 use Rattle.exb_merge.specs.declared.replays.CaptureFault.TheVariants.{Memory, Read, Changed}
-use Rattle.exb_merge.specs.declared.replays.Came.{Came}
+use Rattle.exb_model.specs.declared.arrival.Arrival.{Arrival}
 use Rattle.exb_merge.specs.declared.replays.Replays.{Replays}
-use Rattle.exb_merge.specs.Arrivals.{arrival_with}
 use Rattle.exb_merge.specs.Streams.{Stream, to_come}
 use Rattle.exb_merge.specs.Turns.{AreTurns}
 
@@ -96,7 +95,7 @@ IsWithin p at [] = ⊥
 IsWithin p at (s ∷ rest) = ((s.port ≡ p) × (at ≤ s.replay.told.bytes + 1)) ⊎ IsWithin p at rest
 
 -- A record came: it is the next one of its port, whose moments never fall, and within its limits.
-pub record HasCome (old : List Standing) (c : Came) (new : List Standing) : Type 0 where
+pub record HasCome (old : List Standing) (c : Arrival) (new : List Standing) : Type 0 where
   pub port : HasPort c.port old
   pub number : c.index ≡ number_of old c.port
   pub first : 1 ≤ c.index
@@ -140,6 +139,6 @@ AreReplays files ids (s ∷ ss) [] = ⊥
 AreReplays files ids (s ∷ ss) (x ∷ xs) = IsReplayOf files ids s x × AreReplays files ids ss xs
 
 -- what came is the first of what was still to come of these streams, and what is left of them is what is left; or nothing was
-abbrev pub ComesFirst : List Stream → Option Came → (List Stream → Type 0) → Type 0
+abbrev pub ComesFirst : List Stream → Option Arrival → (List Stream → Type 0) → Type 0
 ComesFirst streams None Rest = to_come streams ≡ []
-ComesFirst streams (Some c) Rest = (rest : List Stream) × (to_come streams ≡ Captured (arrival_with c) ∷ to_come rest) × Rest rest
+ComesFirst streams (Some c) Rest = (rest : List Stream) × (to_come streams ≡ Captured c ∷ to_come rest) × Rest rest

@@ -18,7 +18,7 @@ use exb_shelf::Shelf;
 use std::alloc::Global;
 
 /// What comes next, and the bridge to which it comes.
-#[derive(Debug, Drop)]
+#[derive(Drop)]
 pub struct NetNext {
     /// The bridge, counted from 0 in the order in which programmes were added.
     pub bridge: u8,

@@ -13,4 +13,4 @@ pub mod turns;
 
 pub use agenda::{Agenda, BridgeFault, NetNext};
 pub use programme::{Next, Programme};
-pub use replays::{Came, CaptureFault, Replays};
+pub use replays::{CaptureFault, Replays};

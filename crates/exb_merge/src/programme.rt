@@ -8,7 +8,8 @@ ghost use Rattle.exb_merge.specs.Programmes.{IsProgramme, IsSoonest, played_with
 ghost use Rattle.exb_merge.specs.Replays.{AreOpened, AreToldSince, NoneIsBefore};
 ghost use Rattle.exb_merge.specs.Calls.{TakesCommand, TakesNext, TakesWithin};
 
-use crate::replays::{Came, CaptureFault, Replays};
+use crate::replays::{CaptureFault, Replays};
+use exb_model::arrival::Arrival;
 use exb_model::setup::Timed;
 use exb_shelf::Shelf;
 
@@ -66,12 +67,12 @@ fn turn_by(command: Option<u64>, captured: Option<u64>) -> Option<u64>
 }
 
 /// What comes next.
-#[derive(Debug, Drop)]
+#[derive(Drop)]
 pub enum Next {
     /// A command of the topology, with its number, from 1, and its moment in nanoseconds.
     Command { number: u32, moment: u64 },
-    /// A record of a capture.
-    Record(Came),
+    /// A record of a capture: below 2^32 seconds, and at most 262,144 bytes.
+    Record(Arrival),
 }
 
 impl Next {

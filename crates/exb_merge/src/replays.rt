@@ -6,7 +6,7 @@ ghost use Rattle.exb_merge.specs.Calls.{AddsCapture, TakesRecord};
 
 use crate::turns::Turns;
 use exb_capture::{Replay, ReplayFault, Scanned};
-use exb_model::bytes::Bytes;
+use exb_model::arrival::Arrival;
 use exb_model::port::PortId;
 use exb_shelf::Shelf;
 use std::alloc::Global;
@@ -33,20 +33,6 @@ fn fault_at(port: PortId, fault: ReplayFault) -> CaptureFault
         ReplayFault::Read => CaptureFault::Read,
         ReplayFault::Changed { at } => CaptureFault::Changed { port, at },
     }
-}
-
-/// A record that came, with its bytes.
-#[derive(Debug, Drop)]
-pub struct Came {
-    /// The port of its capture.
-    pub port: PortId,
-    /// Its number among the records of the port, from 1.
-    pub index: u64,
-    /// Its time in nanoseconds since the epoch, or the moment of the record before it at this port if
-    /// that is greater: below 2^32 seconds.
-    pub moment: u64,
-    /// Its frame, at most 262,144 bytes.
-    pub bytes: Bytes,
 }
 
 /// A capture that is read again, looked at as far as its next record.
@@ -142,7 +128,7 @@ impl Replays {
         &mut self,
         shelf: &mut S,
         buffer: Vec<u8>,
-    ) -> Result<Option<Came>, CaptureFault>
+    ) -> Result<Option<Arrival>, CaptureFault>
         requires opened { AreOpened (S.ids shelf.old) self.old }
         ensures { TakesRecord S.tells (S.file shelf.old) (S.file shelf.new) (S.ids shelf.old) (S.ids shelf.new) (S.faults shelf.old) (S.faults shelf.new) self.old self.new result }
     {
@@ -154,7 +140,7 @@ impl Replays {
             Ok(bytes) => bytes,
             Err(_) => return Err(CaptureFault::Memory),
         };
-        let came = Came {
+        let came = Arrival {
             port: source.port,
             index: source.index,
             moment,

@@ -1,7 +1,6 @@
 use Rattle.std.proofs.Common.{true, false, Some, None, arith, rules}
 use Rattle.std.proofs.lemmas.Grind.{common_steps}
 use Rattle.exb_model.specs.Input.{Captured}
-use Rattle.exb_merge.specs.Arrivals.{arrival_with}
 use Rattle.exb_merge.specs.Programmes.{played_with}
 use Rattle.exb_merge.specs.Streams.{to_come}
 use Rattle.exb_merge.proofs.Among.{record-next, none-left}
@@ -66,7 +65,7 @@ returns-in-Some g c =
           let first = rw c.in-Some.is at first_of in
           let behind = first_told (S.file c.args.shelf.now) (S.ids c.args.shelf.now) p streams c.command_moment.result c.moment.result c.comes_first.result false c.requires.programme told
           c.command_moment.ensures.value c.moment.ensures c.comes_first.ensures c.if-comes_first.false in
-          (first.0, record-next (played_with streams p) (Captured (arrival_with c.in-Some.came)) (to_come first.0) c.requires.programme.rising first.1 behind, first.2)));
+          (first.0, record-next (played_with streams p) (Captured c.in-Some.came) (to_come first.0) c.requires.programme.rising first.1 behind, first.2)));
       nothing = first_of (search rules, grind (arith, common_steps));
       never = first_of (search rules, grind (arith, common_steps));
       reads = first_of (search rules, grind (arith, common_steps));

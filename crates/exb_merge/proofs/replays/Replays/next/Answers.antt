@@ -3,7 +3,7 @@ use Rattle.std.proofs.lemmas.Grind.{common_steps}
 use Rattle.exb_shelf.specs.Files.{bytes_of}
 use Rattle.exb_capture.proofs.Replaying.{never_replayed}
 use Rattle.exb_merge.specs.declared.replays.Again.{Again}
-use Rattle.exb_merge.specs.declared.replays.Came.{Came}
+use Rattle.exb_model.specs.declared.arrival.Arrival.{Arrival}
 use Rattle.exb_merge.specs.Replays.{IsOpened, next_in}
 use Rattle.exb_merge.specs.declared.replays.CaptureFault.TheVariants.{Changed}
 use Rattle.exb_merge.proofs.Counts.{not_read, port_at, turn_port, turn_within}
@@ -164,7 +164,7 @@ returns g c =
     let taken = c.take.new.self in
     let looked = c.ahead.new.self in
     let s' : Again = record { port = s.port; index = s.index + 1; next = c.in-Ok-ahead.next; replay = looked } in
-    let came : Came = record { port = s.port; index = s.index; moment = m; bytes = c.in-Ok.bytes } in
+    let came : Arrival = record { port = s.port; index = s.index; moment = m; bytes = c.in-Ok.bytes } in
     let least = c.ahead.ensures.before.least ∙ c.in-Ok.ensures.least in
     let id = c.ahead.ensures.same.file.id ∙ c.take.ensures.same.file.id in
     let moves = moves_taken given s taken c.take.ensures.same ids c.ahead.ensures.moves in
