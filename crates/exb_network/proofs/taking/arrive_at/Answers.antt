@@ -11,7 +11,7 @@ returns-in-None c =
     let core = c.args.core.now in
     let a = c.args.arrival.now in
     let outer = rw (c.device-number.ensures.value, c.place-port.ensures.value) at (sym c.cascade.ensures ∙ c.if-cascade.false) in
-    let ignored = rw (c.device-number.ensures.value, c.place-port.ensures.value, c.as_slice.ensures) at (sym c.form_in.ensures.ignored ∙ ap is_none c.in-None.is) in
+    let ignored = rw (c.device-number.ensures.value, c.place-port.ensures.value, c.as_slice-frame.ensures) at (sym c.form_in.ensures.ignored ∙ ap is_none c.in-None.is) in
     on_ok_weaker c.ignore-in-None.result
     (λ told.
     arrives_ignored s.tree a s core c.args.room.now.post.log c.ignore-in-None.new.log outer ignored
@@ -20,7 +20,7 @@ returns-in-None c =
 
 pub send_frame-requires-clause-can : goal.send_frame-requires-clause-can
 send_frame-requires-clause-can c =
-    let f = c.as_slice.result.now in
+    let f = c.as_slice-frame.result.now in
     record { side = tt; form = subst (λ r. IfSome r (CanBeGiven f)) c.in-Some.is c.form_in.ensures.given }
 
 pub returns-in-Some : goal.returns-in-Some
@@ -29,10 +29,10 @@ returns-in-Some c =
     let core = c.args.core.now in
     let a = c.args.arrival.now in
     let outer = rw (c.device-number.ensures.value, c.place-port.ensures.value) at (sym c.cascade.ensures ∙ c.if-cascade.false) in
-    let isnt = rw (c.device-number.ensures.value, c.place-port.ensures.value, c.as_slice.ensures) at (sym c.form_in.ensures.ignored ∙ ap is_none c.in-Some.is) in
-    let are = rw (c.device-number.ensures.value, c.place-port.ensures.value, c.as_slice.ensures) at (sym (ap (form_sent c.as_slice.result.now) c.in-Some.is) ∙ c.form_in.ensures.sends) in
+    let isnt = rw (c.device-number.ensures.value, c.place-port.ensures.value, c.as_slice-frame.ensures) at (sym c.form_in.ensures.ignored ∙ ap is_none c.in-Some.is) in
+    let are = rw (c.device-number.ensures.value, c.place-port.ensures.value, c.as_slice-frame.ensures) at (sym (ap (form_sent c.as_slice-frame.result.now) c.in-Some.is) ∙ c.form_in.ensures.sends) in
     on_ok_weaker c.send_frame.result
     (λ done.
     arrives_up s.tree a s core c.send_frame.new.core c.in-Some.form c.args.room.now.post.log c.send_frame.new.post.log outer isnt are
-    (rw (c.stamp_of.ensures, c.device-number.ensures.value, c.as_slice.ensures) at done))
+    (rw (c.stamp_of.ensures, c.device-number.ensures.value, c.as_slice-frame.ensures) at done))
     c.send_frame.ensures
