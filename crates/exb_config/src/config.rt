@@ -207,6 +207,15 @@ impl Config {
         self.statics.at(at as usize)
     }
 
+    /// The VLAN of the static entry at a place in their order, counted from 0; None exactly where there is none at it.
+    #[tactic(auto, unfolding(crate::specs::Tables::bridge_of))]
+    #[inline(always)]
+    pub fn static_vid(&self, at: u64) -> Option<Vid>
+        ensures { result ≡ option_map (λ e. e.vid) (slice_get (bridge_of self.now).statics at) }
+    {
+        self.statics.vid_at(at as usize)
+    }
+
     /// The present members of a VLAN in a kind, among some ports.
     #[tactic(auto, unfolding(crate::specs::Tables::bridge_of))]
     pub fn part(&self, vid: Vid, among: &PortSet, kind: Kind) -> PortSet

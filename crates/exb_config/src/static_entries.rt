@@ -72,6 +72,15 @@ impl StaticEntries {
         })
     }
 
+    /// The VLAN of the entry at a place, counted from 0.
+    #[inline(always)]
+    pub fn vid_at(&self, place: usize) -> Option<Vid>
+        ensures { result ≡ option_map (λ e. e.vid) (slice_get self.now place) }
+    {
+        let (destination, _) = self.entries.get_index(place)?;
+        Some(destination.vid)
+    }
+
     /// Puts an entry. One that is there takes the new ports and keeps its place.
     pub fn put(&mut self, entry: StaticAt) -> Result<(), NoMemory>
         ensures ok { OnOk result (self.new ≡ put_static entry self.old) }
