@@ -14,9 +14,9 @@ use Rattle.exb_model.specs.Tree.{port_number, Shape, device}
 use Rattle.exb_model.specs.ETags.{stripped}
 use Rattle.exb_boxes.specs.declared.log.Log.{Log}
 use Rattle.exb_network.specs.declared.site.Core.{Core}
-use Rattle.exb_network.specs.Leading.{Leads}
+use Rattle.exb_bridge.specs.Leading.{Leads}
 use Rattle.exb_boxes.specs.Rows.{Row, ports_in}
-use Rattle.exb_network.specs.Sites.{Site}
+use Rattle.exb_bridge.specs.Sites.{Site}
 use Rattle.exb_network.specs.Worlds.{world_in, IsAt}
 
 -- what is sent of a frame that goes out without its E-TAG at these ports

@@ -5,11 +5,11 @@ ghost use Rattle.exb_machine.specs.Stepping.{words_on};
 ghost use Rattle.exb_boxes.specs.Directions.{words_of};
 ghost use Rattle.exb_boxes.specs.Numbers.{IsNumber};
 ghost use Rattle.exb_network.specs.Steps.{way_of};
-ghost use Rattle.exb_network.specs.Sites.{ArePlaces};
+ghost use Rattle.exb_bridge.specs.Sites.{ArePlaces};
 ghost use Rattle.exb_network.specs.Turns.{order_of, IsEarlier, IsFirst, IsTurn};
 ghost use Rattle.exb_network.specs.Worlds.{world_in};
 
-use crate::site::{Core, Site};
+use crate::site::Core;
 use crate::step::Way;
 use exb_boxes::Direction;
 use exb_model::port::DEVICES;
@@ -117,6 +117,6 @@ pub(crate) fn next_busy(site: &Site, core: &Core, way: Way, from: u8) -> Option<
     site.tree().is_tree();
     match way {
         Way::Up => first_busy(site.upwards(), site.upward_places(), &core.up, from),
-        Way::Down => first_busy(site.downwards(), site.downward_places(), &core.down, from),
+        Way::Down => first_busy(site.downwards(), site.downward_places(), &core.bridge.down, from),
     }
 }

@@ -13,7 +13,7 @@ ghost use Rattle.exb_boxes.specs.Rows.{ports_in};
 ghost use Rattle.exb_network.specs.Worlds.{world_in, IsAt, Does};
 
 use crate::arrivals::Came;
-use crate::site::{Core, Site};
+use crate::site::Core;
 use exb_boxes::forms::put_form;
 use exb_boxes::log::{note_out, note_row};
 use exb_boxes::{Left, Post, Row};
@@ -25,18 +25,6 @@ use exb_model::memory::NoMemory;
 use exb_model::port::PortId;
 use exb_model::role::Role;
 use exb_model::tree::Tree;
-
-/// The extender that hangs on a port.
-#[inline(always)]
-pub(crate) fn hung_on(tree: &Tree, port: PortId) -> Option<u8>
-    ensures { result ≡ hung_on tree.now port }
-{
-    tree.is_tree();
-    match tree.role(port) {
-        Role::Cascade { extender } => Some(extender),
-        _ => None,
-    }
-}
 
 /// The moment of the record by which a word came in; 0 where it has none.
 #[inline(always)]
@@ -76,7 +64,7 @@ fn send_at(
     let tree = site.tree();
     tree.is_tree();
     match hung_on(tree, place) {
-        Some(below) => core.down.push(below, word),
+        Some(below) => core.bridge.down.push(below, word),
         None => {
             let moment = moment_of(&word.stamp);
             post.log.left.push(Left {
