@@ -72,7 +72,7 @@ fn beat_near_any(
 
 /// All of the bridge's ends count the beat, by extender. One that sends nothing has nothing to count.
 #[inline(always)]
-fn beat_all_near(
+pub fn beat_ends(
     site: &Site,
     buffers: &mut Buffers,
     bridge: &mut Bridge,
@@ -106,7 +106,7 @@ fn beat_working(site: &Site, room: &mut Room, bridge: &mut Bridge) -> Result<(),
 
 /// The control counts the beat. Where no change is at work there is nothing to count.
 #[inline(always)]
-fn beat_control(site: &Site, room: &mut Room, bridge: &mut Bridge) -> Result<(), NoMemory>
+pub fn beat_control(site: &Site, room: &mut Room, bridge: &mut Bridge) -> Result<(), NoMemory>
     ghost rest: { Rest }
     requires at { IsAt site.now (whole rest bridge.old) }
     requires asks { AsksWell site.now.tree (limits_in site.now) (world_in (whole rest bridge.old)).control }

@@ -18,7 +18,7 @@ use exb_model::memory::NoMemory;
 /// The clock goes on.
 #[cold]
 #[inline(never)]
-pub(crate) fn tick(
+pub fn tick(
     site: &Site,
     seconds: u32,
     room: &mut Room,
@@ -40,7 +40,7 @@ pub(crate) fn tick(
 /// A command is given.
 #[cold]
 #[inline(never)]
-pub(crate) fn order(
+pub fn order(
     site: &Site,
     command: &Command,
     room: &mut Room,

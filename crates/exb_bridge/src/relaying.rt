@@ -239,7 +239,7 @@ fn tell(arrival: Arrival, passed: bool, log: &mut Log) -> Result<(), NoMemory>
 }
 
 /// A frame comes to the bridge: it is ignored, or relayed and then learned from.
-pub(crate) fn come(
+pub fn come(
     site: &Site,
     arrival: &Arrival,
     room: &mut Room,
@@ -390,7 +390,7 @@ fn take_data(
 
 /// The bridge takes a word at its port on which an extender hangs.
 #[inline(always)]
-pub(crate) fn take(
+pub fn take(
     site: &Site,
     bridge_port: u8,
     below: u8,

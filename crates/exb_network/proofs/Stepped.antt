@@ -141,21 +141,6 @@ pub lost : (s : Site) (l : Limits) (c d : Whole) (n : ℕ) (way : Way) (k : ℕ)
 lost s l c d n way k log world is_at =
     tells_nothing (done_by s.tree l (Lose n way k) (world_in c)) s d log world refl refl refl refl is_at
 
-pub ticked : (s : Site) (l : Limits) (c : Whole) (p : Parts) (seconds : ℕ) (out : Outbox) (old new : Log) → HasTicked seconds c.control p out → IsAt s c →
-    new.events ≡ old.events ++ event.Tick seconds ∷ [] → new.passed ≡ old.passed → new.left ≡ old.left → KeepsTrace old new →
-    Does (done_by s.tree l (Ticks seconds) (world_in c)) s (record c { control = p }) old new
-ticked s l c p seconds out old new ticks is_at events passed left trace =
-    record {
-      world = learned_world s c p ticks.rest _ ticks.table;
-      events = events;
-      passed = passed ∙ sym (append-nil old.passed);
-      left = ap all_left left ∙ sym (append-nil (all_left old.left));
-      outs = trace.outs ∙ sym (append-nil old.outs.items);
-      lines = trace.lines;
-      tracing = trace.tracing;
-      at = learned_at s c p ticks.rest is_at;
-    }
-
 pub marked : (s : Site) (l : Limits) (c : Whole) (old new : Log) → IsAt s c → new.events ≡ old.events ++ event.Settled ∷ [] → new.passed ≡ old.passed → new.left ≡ old.left → KeepsTrace old new →
     Does (done_by s.tree l Mark (world_in c)) s c old new
 marked s l c old new is_at events passed left trace =
@@ -204,10 +189,3 @@ module _ (s : Site) (c d e : Whole) (a : Arrival) (old new : Log) (world : world
 
   pub arrives_deeper : 64 ≤ a.port → Does (arrives_at s.tree a (world_in d)) s e old new → Does (arrives s.tree a (world_in c)) s e old new
   arrives_deeper deep done = rw (le-ltb a.port 64 deep) (subst (λ (w : World). Does (arrives_at s.tree a w) s e old new) world done)
-
--- ---- commands
-pub ordered_at : (s : Site) (c : Whole) (command : Command) (p : Parts) (out : Outbox) → IsAt s c →
-    IsMoved (ordered (decide_of c.control.active) command (state_of c.control)) c.control p out → IsMoved (ordered (decide s.tree (limits_in s)) command (world_in c).control) c.control p out
-ordered_at s c command p out is_at moved =
-    subst (λ (l : Limits). IsMoved (ordered (decide s.tree l) command (state_of c.control)) c.control p out) is_at.limits
-    (subst (λ (t : Shape). IsMoved (ordered (decide t c.control.active.limits) command (state_of c.control)) c.control p out) is_at.shape moved)

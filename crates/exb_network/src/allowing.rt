@@ -10,6 +10,7 @@ ghost use Rattle.exb_network.specs.Worlds.{world_in, IsAt};
 use crate::site::Core;
 use crate::step::{Step, Way};
 use crate::world::{is_settled, link_of};
+use exb_bridge::Site;
 use exb_model::arrival::Arrival;
 use exb_model::command::Command;
 use exb_model::tree::Tree;

@@ -1,22 +1,18 @@
 //! A beat of the network.
-ghost use Rattle.std.specs.Prelude.{◌≡◌, ◌≤◌, true, OnOk, None, length};
-ghost use Rattle.exb_model.specs.Tree.{is_extender};
-ghost use Rattle.exb_ecp.specs.Machine.{sent_payload};
+ghost use Rattle.std.specs.Prelude.{OnOk, None};
 ghost use Rattle.exb_extender.specs.Machine.{Beats};
 ghost use Rattle.exb_machine.specs.Effects.{each};
 ghost use Rattle.exb_machine.specs.Extending.{reacts};
-ghost use Rattle.exb_machine.specs.Hearing.{beats_control, beats_near};
 ghost use Rattle.exb_machine.specs.Stepping.{all_extenders, beats_all, if_there};
 ghost use Rattle.exb_machine.specs.Runs.Asks.{AsksWell};
 ghost use Rattle.exb_bridge.specs.Sites.{limits_in};
 ghost use Rattle.exb_network.specs.Worlds.{world_in, IsAt, Does};
 
-use crate::asking::{follow, send_to_extender, spell_request};
+use crate::bridging::{beat_control, beat_ends};
 use crate::site::Core;
 use crate::taking;
-use exb_boxes::Post;
 use exb_boxes::numbers::first_in;
-use exb_ecp::{Beat, Ecp};
+use exb_bridge::{Room, Site};
 use exb_model::memory::NoMemory;
 
 /// The beat passes at all extenders: first at those that rest, which send nothing, then at the others by number.
@@ -45,7 +41,7 @@ pub(crate) fn beat(site: &Site, room: &mut Room, core: &mut Core) -> Result<(), 
     ensures { OnOk result (Does (beats_all site.now.tree (world_in core.old)) site.now core.new room.old.post.log room.new.post.log) }
 {
     core.beats = core.beats.saturating_add(1);
-    beat_all_near(site, &mut room.buffers, core, &mut room.post)?;
+    beat_ends(site, room, core)?;
     beat_control(site, room, core)?;
     beat_all_far(site, room, core)
 }

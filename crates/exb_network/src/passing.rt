@@ -11,6 +11,7 @@ use crate::arrivals::Came;
 use crate::sending::{send_frame, send_to};
 use crate::site::Core;
 use exb_boxes::Post;
+use exb_bridge::Site;
 use exb_extender::{Form, Out, Side};
 use exb_frame::etag::strip_in_place;
 use exb_link::Word;

@@ -17,14 +17,13 @@ use crate::site::Core;
 use exb_boxes::forms::put_form;
 use exb_boxes::log::{note_out, note_row};
 use exb_boxes::{Left, Post, Row};
+use exb_bridge::{Site, hung_on};
 use exb_extender::{Form, Out, Sends, Side};
 use exb_frame::etag::strip_into;
 use exb_link::{Stamp, Word};
 use exb_model::bytes::Bytes;
 use exb_model::memory::NoMemory;
 use exb_model::port::PortId;
-use exb_model::role::Role;
-use exb_model::tree::Tree;
 
 /// The moment of the record by which a word came in; 0 where it has none.
 #[inline(always)]

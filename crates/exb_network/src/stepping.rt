@@ -12,16 +12,15 @@ ghost use Rattle.exb_bridge.specs.Sites.{limits_in};
 ghost use Rattle.exb_network.specs.Steps.{way_of};
 ghost use Rattle.exb_network.specs.Worlds.{world_in, IsAt, Does};
 
-use crate::asking::follow;
-use crate::relaying::{self, come};
+use crate::bridging::{self, come};
 use crate::site::Core;
 use crate::step::Way;
 use crate::taking::{arrive_at, take_from_above, take_from_below};
 use exb_boxes::{Direction, Log};
+use exb_bridge::{Room, Site};
 use exb_link::Word;
 use exb_model::arrival::Arrival;
 use exb_model::bytes::Bytes;
-use exb_model::command::Command;
 use exb_model::event::Event;
 use exb_model::memory::NoMemory;
 use std::alloc::Global;
@@ -44,7 +43,7 @@ fn take_up(
     let port = site.on(number);
     if port.device() == 0 {
         let bridge_port = port.place() + 1;
-        relaying::take(site, bridge_port, number, word, room, core)
+        bridging::take(site, bridge_port, number, word, room, core)
     } else {
         take_from_below(site, port, word, room, core)
     }

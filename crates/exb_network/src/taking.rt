@@ -5,18 +5,16 @@ ghost use Rattle.exb_extender.specs.Machine.{Arrives, Beats, CanTake};
 ghost use Rattle.exb_machine.specs.Extending.{arrives_at, reacts, takes_from_above, takes_from_below};
 ghost use Rattle.exb_network.specs.Arrivals.{IsPortAt};
 ghost use Rattle.exb_boxes.specs.Devices.{far_of};
-ghost use Rattle.exb_bridge.specs.Worlds.{KeepsTrace};
 ghost use Rattle.exb_network.specs.Worlds.{world_in, IsAt, Does};
 
-use crate::arrivals::{Came, stamp_of};
+use crate::arrivals::Came;
 use crate::passing::pass_on;
 use crate::sending::{send_all, send_frame};
 use crate::site::Core;
-use exb_boxes::Log;
+use exb_bridge::{Room, Site, ignore, stamp_of};
 use exb_extender::{Out, Side};
 use exb_link::Word;
 use exb_model::arrival::Arrival;
-use exb_model::event::Event;
 use exb_model::memory::NoMemory;
 use exb_model::port::PortId;
 

@@ -14,6 +14,7 @@ ghost use Rattle.exb_network.specs.Worlds.{world_in};
 use crate::site::Core;
 use crate::step::{Step, Way};
 use crate::world::link_of;
+use exb_bridge::Site;
 use exb_link::Word;
 use exb_model::bytes::Bytes;
 use exb_model::event::Event;

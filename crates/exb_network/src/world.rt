@@ -21,10 +21,12 @@ ghost use Rattle.exb_network.specs.Worlds.{world_in, IsAt, Does};
 use crate::busy::Turn;
 use crate::site::Core;
 use crate::step::{Step, Way};
-use crate::stepping::{arrive, carry, deliver, lose, mark, order, repeat, tick};
+use crate::bridging::{order, tick};
+use crate::stepping::{arrive, carry, deliver, lose, mark, repeat};
 use crate::telling::{tell_ins, tell_outs};
 use crate::{allowing, beating, busy};
 use exb_boxes::Left;
+use exb_bridge::{Room, Site};
 use exb_link::{Counts, Link};
 use exb_machine::laws::{
     asks_can_be_sent, begins_written, runs_stay_sound, setups_begin_sound, steps_stay_written,

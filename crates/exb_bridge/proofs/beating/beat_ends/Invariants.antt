@@ -1,7 +1,7 @@
 use Rattle.std.proofs.Common.{◌-◌, ◌<◌, ◌≤◌}
 use Rattle.exb_bridge.specs.Worlds.{whole, world_in}
 use Rattle.exb_bridge.proofs.Beats.{NearLeft}
-use Rattle.exb_bridge.proofs.beating.beat_all_near.Given as goal
+use Rattle.exb_bridge.proofs.beating.beat_ends.Given as goal
 
 -- those that are left lead to the whole
 abbrev pub invariant-numbers : goal.invariant-numbers
