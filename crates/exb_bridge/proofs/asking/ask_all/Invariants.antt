@@ -9,3 +9,6 @@ use Rattle.exb_bridge.proofs.asking.ask_all.Given as goal
 abbrev pub invariant-loop-one : goal.invariant-loop-one
 invariant-loop-one g l =
     Leads (each (asks l.site.tree) l.asked (world_in (whole g.rest l.fn.bridge))) (each (asks l.site.tree) (drop l.one-index l.asked) (world_in (whole g.rest l.bridge))) l.fn.post.log l.post.log × IsAt l.site (whole g.rest l.bridge)
+
+abbrev pub ghost-ask : goal.ghost-ask
+ghost-ask g a = g.rest

@@ -9,3 +9,6 @@ invariant-numbers g l = (0 < l.from) × (l.from ≤ 65) × NearLeft l.site.tree 
 
 abbrev pub decreases-numbers : goal.decreases-numbers
 decreases-numbers g l = 65 - l.from
+
+abbrev pub ghost-beat_near_any : goal.ghost-beat_near_any
+ghost-beat_near_any g a = g.rest
