@@ -9,11 +9,12 @@ use Rattle.exb_machine.specs.Stepping.{done_by, line_at, lines_in, stepped}
 use Rattle.exb_machine.specs.Telling.{all_told, told}
 use Rattle.exb_machine.specs.Worlds.{Line, Journal, Step}
 use Rattle.exb_boxes.specs.declared.log.Log.{Log}
-use Rattle.exb_bridge.specs.Worlds.{Whole}
+use Rattle.exb_network.specs.declared.site.Core.{Core}
 use Rattle.exb_network.specs.Networks.{IsStepped, network_of}
 use Rattle.exb_bridge.specs.Sites.{Site, limits_in}
 use Rattle.exb_boxes.specs.Logs.{if_tracing}
-use Rattle.exb_bridge.specs.Worlds.{world_in, all_left, Does}
+use Rattle.exb_bridge.specs.Worlds.{all_left}
+use Rattle.exb_network.specs.Worlds.{world_in, Does}
 
 -- ---- where a trace is kept, and where it isn't
 pub all_kept : (xs : List TraceLine) → if_tracing true xs ≡ xs
@@ -101,7 +102,7 @@ parts_told ins events outs =
     ∙ ap (λ xs. xs ++ all_told outs) (map-append told ins (map Journal events))
     ∙ append_assoc (all_told ins) (all_told (map Journal events)) (all_told outs)
 
-pub stepped_is : (s : Site) (c d : Whole) (step : Step) (old begun done new : Log) (f : Bool) (events : List Event) → IsBegun (lines_in s.tree step (world_in c)) old begun →
+pub stepped_is : (s : Site) (c d : Core) (step : Step) (old begun done new : Log) (f : Bool) (events : List Event) → IsBegun (lines_in s.tree step (world_in c)) old begun →
     Does (done_by s.tree (limits_in s) step (world_in c)) s d begun done → events ≡ drop (length old.events) done.events → IsTold events done new →
     IsStepped step (network_of s c old f) (network_of s d new f)
 unfolding stepped
@@ -128,7 +129,7 @@ stepped_is s c d step old begun done new f events first does behind last =
     }
 
 -- no trace is kept
-pub stepped_silently : (s : Site) (c d : Whole) (step : Step) (old new : Log) (f : Bool) → old.tracing ≡ false → Does (done_by s.tree (limits_in s) step (world_in c)) s d old new →
+pub stepped_silently : (s : Site) (c d : Core) (step : Step) (old new : Log) (f : Bool) → old.tracing ≡ false → Does (done_by s.tree (limits_in s) step (world_in c)) s d old new →
     IsStepped step (network_of s c old f) (network_of s d new f)
 unfolding stepped
 stepped_silently s c d step old new f off does =

@@ -10,7 +10,7 @@ ghost use Rattle.exb_boxes.specs.Forms.{IsSide, CanGo};
 ghost use Rattle.exb_network.specs.Leaving.{row_sent, AreOuter, GoesBehind, Joins, JoinsAt};
 ghost use Rattle.exb_boxes.specs.Numbers.{IsNumber};
 ghost use Rattle.exb_boxes.specs.Rows.{ports_in};
-ghost use Rattle.exb_network.specs.Worlds.{world_in, IsAt, Does};
+ghost use Rattle.exb_network.specs.Worlds.{whole_of, world_in, IsAt, Does};
 
 use crate::arrivals::Came;
 use crate::site::Core;
@@ -230,7 +230,7 @@ fn send_behind(
     requires outer { AreOuter site.now.tree row.old.device came.now.frame.now (ports_in row.old) }
     ensures device { row.new.device ≡ row.old.device }
     ensures outer { AreOuter site.now.tree row.old.device came.now.frame.now (ports_in row.new) }
-    ensures sent { OnOk result (GoesBehind site.now came.now.stamp came.now.frame.now out.now row.old row.new core.old core.new post.old.log post.new.log) }
+    ensures sent { OnOk result (GoesBehind site.now came.now.stamp came.now.frame.now out.now row.old row.new (whole_of core.old) (whole_of core.new) post.old.log post.new.log) }
 {
     let number = row.device();
     if joins(site, number, out, row) {

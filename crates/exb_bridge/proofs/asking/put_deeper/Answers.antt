@@ -1,4 +1,4 @@
-use Rattle.std.proofs.Common.{◌≡◌, ℕ, ◌-◌, List, sym, ap, subst, ◌∙◌, arith}
+use Rattle.std.proofs.Common.{rules, ◌≡◌, ◌<◌, ℕ, ◌-◌, List, sym, ap, subst, ◌∙◌, arith}
 use Rattle.std.proofs.lemmas.Result.{on_ok_weaker}
 use Rattle.exb_model.specs.ETags.{Tag, TagFits, tagged}
 use Rattle.exb_extender.specs.Forwarding.{channel_tag}
@@ -17,8 +17,12 @@ tag_into-requires-clause-fits g c =
     let f = c.args.bridge.now.control.active in
     subst TagFits (sym c.channel_tag.ensures) (channel_fits f.shape (held_in f) c.on.result c.in-Some-of.channel (sym c.of.ensures ∙ c.in-Some-of.is))
 
-pub put-requires-clause-known : goal.put-requires-clause-known
-put-requires-clause-known g c = hung_numbered c.tree-tree.result.now c.is_tree.ensures c.at.result c.in-Some.below (sym c.hung_on.ensures ∙ c.in-Some.is)
+pub put-requires : goal.put-requires
+put-requires g c =
+    let low : c.trunk-trunk.result - 1 < 64 = search rules in (
+    c.requires.0,
+    (low, hung_numbered c.tree-tree.result.now c.is_tree.ensures c.at.result c.in-Some.below (sym c.hung_on.ensures ∙ c.in-Some.is)),
+  )
 
 pub returns : goal.returns
 returns g c =
@@ -27,7 +31,7 @@ returns g c =
     let core = (whole g.rest c.args.bridge.now) in
     let f = core.control.active in
     let below = trunk_below t c.tree-tree.result.now n c.at.result c.trunk-trunk.result c.hung_on.result c.in-Some.below c.tree-tree.ensures c.trunk-trunk.ensures.value c.at.ensures c.hung_on.ensures c.in-Some.is in
-    let has = channel_has t f.shape (held_in f) n c.on.result c.of.result c.in-Some-of.channel c.requires.at.shape c.on.ensures c.of.ensures c.in-Some-of.is in
+    let has = channel_has t f.shape (held_in f) n c.on.result c.of.result c.in-Some-of.channel c.requires.0.shape c.on.ensures c.of.ensures c.in-Some-of.is in
     let spelled = c.from_vec.ensures ∙ c.in_ok-tag_into.ensures ∙ ap (λ (x : Tag). tagged c.args.frame.now x) c.channel_tag.ensures in
     let top = c.trunk-trunk.ensures.value in
     let place : c.trunk-trunk.result - 1 ≡ trunk c.tree-tree.result.now n = omega (arith, top) in

@@ -4,7 +4,7 @@ use Rattle.exb_bridge.proofs.Beats.{near_first, near_last, near_next, near_skip}
 use Rattle.exb_bridge.proofs.beating.beat_ends.Goals as goal
 
 pub numbers-init : goal.numbers-init
-numbers-init g c = (omega arith, omega arith, near_first c.args.site.now.tree c.args.site.now (whole g.rest c.args.bridge.now) c.args.post.now.log c.requires.at)
+numbers-init g c = (omega arith, omega arith, near_first c.args.site.now.tree c.args.site.now (whole g.rest c.args.bridge.now) c.args.post.now.log c.requires)
 
 pub numbers-preserved : goal.numbers-preserved
 numbers-preserved g c =

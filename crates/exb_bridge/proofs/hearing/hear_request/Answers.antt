@@ -17,10 +17,14 @@ returns-then-not-received g c =
     stale_on s.tree (limits_in s) c.args.number c.args.sequence c.args.payload.now c.as_slice-frame.result.now s (whole g.rest c.args.bridge.now) mid c.received.new.self c.args.room.now.post.log c.send_to_extender.new.post.log spelled
     c.in_ok-send_to_extender.ensures c.received.ensures.state (sym c.received.ensures.fresh ∙ c.if-not-received.true)
 
-pub hear_message-requires-clause-asks : goal.hear_message-requires-clause-asks
-hear_message-requires-clause-asks g c =
+pub hear_message-requires : goal.hear_message-requires
+hear_message-requires g c =
     let s = c.args.site.now in
-    still_asks s.tree (limits_in s) c.args.number c.as_slice-frame.result.now s (whole g.rest c.args.bridge.now) (whole g.rest c.send_to_extender.new.bridge) c.args.room.now.post.log c.send_to_extender.new.post.log c.in_ok-send_to_extender.ensures c.requires.asks
+    let mid = whole g.rest c.send_to_extender.new.bridge in
+    let sent = c.in_ok-send_to_extender.ensures in (
+      near_at s mid sent.at c.received.new.self,
+      (c.requires.1.0, still_asks s.tree (limits_in s) c.args.number c.as_slice-frame.result.now s (whole g.rest c.args.bridge.now) mid c.args.room.now.post.log c.send_to_extender.new.post.log sent c.requires.1.1),
+    )
 
 pub returns-in-Ok : goal.returns-in-Ok
 returns-in-Ok g c =

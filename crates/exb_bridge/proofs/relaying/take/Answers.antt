@@ -6,9 +6,11 @@ use Rattle.exb_bridge.specs.Worlds.{whole}
 use Rattle.exb_bridge.proofs.Relayed.{bridge_control}
 use Rattle.exb_bridge.proofs.relaying.take.Goals as goal
 
-pub take_data-requires-clause-cascade : goal.take_data-requires-clause-cascade
-take_data-requires-clause-cascade g c =
-    hung_cascade c.args.site.now.tree (subst IsTree c.tree.ensures c.is_tree.ensures) c.args.below (c.args.bridge_port - 1) c.requires.hangs
+pub take_data-requires : goal.take_data-requires
+take_data-requires g c = (
+  c.requires.0,
+  (c.requires.1.0, (c.requires.1.1.0, hung_cascade c.args.site.now.tree (subst IsTree c.tree.ensures c.is_tree.ensures) c.args.below (c.args.bridge_port - 1) c.requires.1.1.1.0)),
+)
 
 pub returns-in_ok-take_control : goal.returns-in_ok-take_control
 returns-in_ok-take_control g c =
