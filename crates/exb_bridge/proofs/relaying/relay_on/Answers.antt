@@ -17,7 +17,7 @@ send_all-requires g c = (
   (c.in_ok-relayed.ensures.does c.args.room.now.post.log).at,
   (
     has_passed (world_in (whole g.rest c.args.bridge.now)).control.bridge c.args.arrival.now _ (rw c.as_slice.ensures at c.are_bytes.ensures) (sym c.in_ok-relayed.ensures.ingress ∙ c.in-Passed.is),
-    subst (All CanSend) (sym c.as_slice-sends.ensures) c.in_ok-relayed.ensures.can,
+    subst (All CanSend) (sym c.as_slice-sends.ensures.value) c.in_ok-relayed.ensures.can,
   ),
 )
 
