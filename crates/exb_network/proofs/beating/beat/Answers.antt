@@ -1,3 +1,4 @@
+use Rattle.std.proofs.Common.{refl}
 use Rattle.std.proofs.lemmas.Result.{on_ok_weaker}
 use Rattle.exb_machine.specs.Stepping.{all_extenders}
 use Rattle.exb_bridge.specs.Sites.{limits_in}
@@ -5,10 +6,14 @@ use Rattle.exb_network.specs.Worlds.{whole_of}
 use Rattle.exb_network.proofs.Beats.{near_asks, beat_is, all_beaten}
 use Rattle.exb_network.proofs.beating.beat.Goals as goal
 
-pub beat_control-requires-clause-asks : goal.beat_control-requires-clause-asks
-beat_control-requires-clause-asks c =
+pub beat_control-requires : goal.beat_control-requires
+beat_control-requires c =
     let s = c.args.site.now in
-    near_asks s.tree (limits_in s) all_extenders s (record (whole_of c.args.core.now) { beats = c.saturating_add-core.result }) (whole_of c.beat_ends.new.core) c.args.room.now.post.log c.beat_ends.new.room.post.log c.in_ok-beat_ends.ensures c.requires.asks
+    let sent = c.in_ok-beat_ends.ensures in
+    let asks =
+    near_asks s.tree (limits_in s) all_extenders s (record (whole_of c.args.core.now) { beats = c.saturating_add-core.result }) (whole_of c.beat_ends.new.core) c.args.room.now.post.log c.beat_ends.new.room.post.log
+    sent c.requires.asks in
+    (refl, (sent.at, asks))
 
 pub returns : goal.returns
 returns c =

@@ -6,16 +6,14 @@ use Rattle.exb_bridge.specs.Sites.{limits_in}
 use Rattle.exb_bridge.specs.Worlds.{Rest, whole, world_in, IsAt, Does}
 use Rattle.exb_network.proofs.bridging.beat_control.Goals as goal
 
-pub beat_control-requires-clause-at : goal.beat_control-requires-clause-at
-beat_control-requires-clause-at g c = subst (λ (r : Rest). IsAt c.args.site.now (whole r c.args.core.now.bridge)) (sym c.requires.own) c.requires.at
-
-pub beat_control-requires-clause-asks : goal.beat_control-requires-clause-asks
-beat_control-requires-clause-asks g c =
-    let s = c.args.site.now in
-    subst (λ (r : Rest). AsksWell s.tree (limits_in s) (world_in (whole r c.args.core.now.bridge)).control) (sym c.requires.own) c.requires.asks
+pub beat_control-requires : goal.beat_control-requires
+beat_control-requires g c = (
+  subst (λ (r : Rest). IsAt c.args.site.now (whole r c.args.core.now.bridge)) (sym c.requires.0) c.requires.1.0,
+  subst (λ (r : Rest). AsksWell c.args.site.now.tree (limits_in c.args.site.now) (world_in (whole r c.args.core.now.bridge)).control) (sym c.requires.0) c.requires.1.1,
+)
 
 pub returns : goal.returns
 returns g c =
     let s = c.args.site.now in
     let bridge = c.args.core.now.bridge in
-    subst (λ (r : Rest). OnOk c.beat_control.result (Does (beats_control s.tree (world_in (whole r bridge))) s (whole r c.beat_control.new.bridge) c.args.room.now.post.log c.beat_control.new.room.post.log)) c.requires.own c.beat_control.ensures
+    subst (λ (r : Rest). OnOk c.beat_control.result (Does (beats_control s.tree (world_in (whole r bridge))) s (whole r c.beat_control.new.bridge) c.args.room.now.post.log c.beat_control.new.room.post.log)) c.requires.0 c.beat_control.ensures

@@ -5,11 +5,14 @@ use Rattle.exb_bridge.specs.Sites.{limits_in}
 use Rattle.exb_bridge.specs.Worlds.{Rest, whole, world_in, IsAt, Does}
 use Rattle.exb_network.proofs.bridging.come.Goals as goal
 
-pub come-requires-clause-at : goal.come-requires-clause-at
-come-requires-clause-at g c = subst (λ (r : Rest). IsAt c.args.site.now (whole r c.args.core.now.bridge)) (sym c.requires.own) c.requires.at
+pub come-requires : goal.come-requires
+come-requires g c = (
+  subst (λ (r : Rest). IsAt c.args.site.now (whole r c.args.core.now.bridge)) (sym c.requires.0) c.requires.1.0,
+  c.requires.1.1,
+)
 
 pub returns : goal.returns
 returns g c =
     let s = c.args.site.now in
     let bridge = c.args.core.now.bridge in
-    subst (λ (r : Rest). OnOk c.come.result (Does (comes s.tree c.args.arrival.now (world_in (whole r bridge))) s (whole r c.come.new.bridge) c.args.room.now.post.log c.come.new.room.post.log)) c.requires.own c.come.ensures
+    subst (λ (r : Rest). OnOk c.come.result (Does (comes s.tree c.args.arrival.now (world_in (whole r bridge))) s (whole r c.come.new.bridge) c.args.room.now.post.log c.come.new.room.post.log)) c.requires.0 c.come.ensures

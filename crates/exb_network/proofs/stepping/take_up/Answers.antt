@@ -1,4 +1,4 @@
-use Rattle.std.proofs.Common.{◌≡◌, ◌+◌, ◌-◌, ◌<◌, ◌≤◌, arith, subst, sym}
+use Rattle.std.proofs.Common.{refl, rules, ◌≡◌, ◌+◌, ◌-◌, ◌<◌, ◌≤◌, arith, subst, sym}
 use Rattle.std.proofs.lemmas.Result.{on_ok_weaker}
 use Rattle.exb_model.specs.Tree.{HangsOn, IsTree, on}
 use Rattle.exb_network.specs.Arrivals.{IsPortAt}
@@ -7,13 +7,15 @@ use Rattle.exb_network.specs.Worlds.{whole_of}
 use Rattle.exb_network.proofs.Stepped.{at_bridge, at_extender, hung, port_above}
 use Rattle.exb_network.proofs.stepping.take_up.Goals as goal
 
-pub take-requires-clause-hangs : goal.take-requires-clause-hangs
-take-requires-clause-hangs c =
+pub take-requires : goal.take-requires
+take-requires c =
     let t = c.args.site.now.tree in
     let n = c.args.number in
     let tree : IsTree t = subst IsTree c.tree.ensures c.is_tree.ensures in
     let is : c.place-bridge_port.result + 1 - 1 ≡ on t n = let a = c.on-port.ensures in let b = c.device.ensures.value in let z = c.if-device-eq0.true in let p = c.place-bridge_port.ensures.value in omega (arith, a, b, z, p) in
-    subst (HangsOn t n) (sym is) (hung t tree n c.requires.there)
+    let first : 1 ≤ c.place-bridge_port.result + 1 = search rules in
+    let last : c.place-bridge_port.result + 1 ≤ 64 = search rules in
+    (refl, (c.requires.at, (first, (last, (subst (HangsOn t n) (sym is) (hung t tree n c.requires.there), c.requires.asks)))))
 
 pub returns-then-device-eq0 : goal.returns-then-device-eq0
 returns-then-device-eq0 c =
