@@ -136,8 +136,8 @@ def main():
         parser.error(f"crates.txt has no crate {crate}")
     order = below(crate, needs)[:-1]
     kit = os.path.dirname(subprocess.run(["rt", "doc"], capture_output=True, text=True, check=True).stdout.split()[0])
-    if asked.anew or not os.path.isdir(FOLDER):
-        for name in order:
+    for name in order:
+        if asked.anew or not os.path.isdir(f"{FOLDER}/{name}"):
             shutil.rmtree(f"{FOLDER}/{name}", ignore_errors=True)
             write(name)
     command = [f"{kit}/bin/rattle", "check", "--crate-name", crate, "src/lib.rt", "--allow-holes", "--incremental", f"{FOLDER}/kept"]

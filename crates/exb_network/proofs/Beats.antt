@@ -20,25 +20,25 @@ use Rattle.exb_machine.specs.Worlds.{World, next_beat}
 use Rattle.exb_machine.specs.Runs.Asks.{AsksWell}
 use Rattle.exb_boxes.specs.Numbers.{number_in}
 use Rattle.exb_boxes.specs.declared.log.Log.{Log}
-use Rattle.exb_network.specs.declared.site.Core.{Core}
+use Rattle.exb_bridge.specs.Worlds.{Whole}
 use Rattle.exb_boxes.specs.Devices.{Devices, state_at, far_of, has_extender, if_rests, is_there}
 use Rattle.exb_boxes.specs.Ends.{near_of}
-use Rattle.exb_network.specs.Leading.{Leads}
-use Rattle.exb_network.specs.Sites.{Site}
-use Rattle.exb_network.specs.Worlds.{world_in, IsAt, Does}
-use Rattle.exb_network.proofs.Cores.{tells_nothing}
-use Rattle.exb_network.proofs.Doing.{leads_first, does_then}
-use Rattle.exb_network.proofs.Loops.{numbers_lead, numbers_told, numbers_skip}
-use Rattle.exb_network.proofs.Again.{all_near_control, idle_near}
+use Rattle.exb_bridge.specs.Leading.{Leads}
+use Rattle.exb_bridge.specs.Sites.{Site}
+use Rattle.exb_bridge.specs.Worlds.{world_in, IsAt, Does}
+use Rattle.exb_bridge.proofs.Cores.{tells_nothing}
+use Rattle.exb_bridge.proofs.Doing.{leads_first, does_then}
+use Rattle.exb_bridge.proofs.Loops.{numbers_lead, numbers_told, numbers_skip}
+use Rattle.exb_bridge.proofs.Again.{all_near_control, idle_near}
 use Rattle.exb_network.proofs.Idling.{mark}
 use Rattle.exb_network.proofs.Resting.{beats_at, wakes_at, resting_in, rested_world, rest_first}
 
 -- what is asked still can go after the bridge's ends have had their beat
-pub near_asks : (t : Shape) (l : Limits) (ns : List ℕ) (s : Site) (c d : Core) (old new : Log) → Does (each (if_there t (beats_near t)) ns (world_in c)) s d old new → AsksWell t l (world_in c).control →
+pub near_asks : (t : Shape) (l : Limits) (ns : List ℕ) (s : Site) (c d : Whole) (old new : Log) → Does (each (if_there t (beats_near t)) ns (world_in c)) s d old new → AsksWell t l (world_in c).control →
     AsksWell t l (world_in d).control
 near_asks t l ns s c d old new done asks = subst (AsksWell t l) (sym (ap (λ (w : World). w.control) done.world ∙ all_near_control t ns (world_in c))) asks
 
-pub all_beaten : (t : Shape) (s : Site) (c near control far : Core) (beats : ℕ) (old so_far told new : Log) → beats ≡ next_beat c.beats →
+pub all_beaten : (t : Shape) (s : Site) (c near control far : Whole) (beats : ℕ) (old so_far told new : Log) → beats ≡ next_beat c.beats →
     Does (each (if_there t (beats_near t)) all_extenders (world_in (record c { beats = beats }))) s near old so_far → Does (beats_control t (world_in near)) s control so_far told →
     Does (each (if_there t (λ n. reacts t n None Beats)) all_extenders (world_in control)) s far told new → Does (beats_all t (world_in c)) s far old new
 unfolding beats_all
@@ -55,51 +55,12 @@ unfolding next_beat
 beat_is old new is = is
 
 -- ---- the extenders that are left, from a number on
--- of the bridge's ends
-pub record NearLeft (t : Shape) (s : Site) (w : World) (old : Log) (n : ℕ) (c : Core) (log : Log) : Type 0 where
-  pub rest : Leads (each (if_there t (beats_near t)) all_extenders w) (each (if_there t (beats_near t)) (drop (n - 1) all_extenders) (world_in c)) old log
-  pub here : IsAt s c
-
-pub near_first : (t : Shape) (s : Site) (c : Core) (log : Log) → IsAt s c → NearLeft t s (world_in c) log 1 c log
-near_first t s c log at = record { rest = leads_first (each (if_there t (beats_near t)) all_extenders (world_in c)) log; here = at }
-
-pub near_next : (t : Shape) (s : Site) (w : World) (n : ℕ) (c d : Core) (old told new : Log) → 0 < n → n < 65 → NearLeft t s w old n c told → Does (if_there t (beats_near t) n (world_in c)) s d told new →
-    NearLeft t s w old (n + 1) d new
-near_next t s w n c d old told new some few left done =
-    record {
-      rest = numbers_lead (if_there t (beats_near t)) (each (if_there t (beats_near t)) all_extenders w) n s c d old told new some few left.rest done;
-      here = done.at;
-    }
-
--- an end that sends nothing stays
-pub quiet_near : (t : Shape) (n : ℕ) (w : World) → (w.near n).sending ≡ None → if_there t (beats_near t) n w ≡ only w
-quiet_near t n w quiet = by_test (is_extender t n)
-  where
-    by_test : (b : Bool) → (if b then beats_near t n w else only w) ≡ only w
-    by_test true = idle_near t n w quiet
-    by_test false = refl
-
-pub near_skip : (t : Shape) (s : Site) (w : World) (n m : ℕ) (c : Core) (old log : Log) → 0 < n → n ≤ m → m ≤ 65 → ((k : ℕ) → n ≤ k → k < m → (near_of c.near k).sending ≡ None) →
-    NearLeft t s w old n c log → NearLeft t s w old m c log
-near_skip t s w n m c old log some up few quiet left =
-    let e : n + (m - n) ≡ m = omega arith in
-    let on : NearLeft t s w old (n + (m - n)) c log =
-    record {
-      rest = numbers_skip (if_there t (beats_near t)) (each (if_there t (beats_near t)) all_extenders w) (m - n) n s c old log some (omega arith) left.here
-          (λ k from before. quiet_near t k (world_in c) (quiet k from (omega (arith, before)))) left.rest;
-      here = left.here;
-    } in
-    subst (λ (k : ℕ). NearLeft t s w old k c log) e on
-
-pub near_last : (t : Shape) (s : Site) (w : World) (n : ℕ) (c : Core) (old log : Log) → 65 ≤ n → NearLeft t s w old n c log → Does (each (if_there t (beats_near t)) all_extenders w) s c old log
-near_last t s w n c old log all left = numbers_told (if_there t (beats_near t)) (each (if_there t (beats_near t)) all_extenders w) n s c old log all left.rest left.here
-
--- Of the extenders themselves: the beat has passed at those that rest in a world, and passes at the others.
-pub record FarLeft (t : Shape) (s : Site) (w : World) (old : Log) (n : ℕ) (c : Core) (log : Log) : Type 0 where
+-- the beat has passed at those that rest in a world, and passes at the others.
+pub record FarLeft (t : Shape) (s : Site) (w : World) (old : Log) (n : ℕ) (c : Whole) (log : Log) : Type 0 where
   pub rest : Leads (each (wakes_at t (resting_in w)) all_extenders (rested_world w)) (each (wakes_at t (resting_in w)) (drop (n - 1) all_extenders) (world_in c)) old log
   pub here : IsAt s c
 
-pub far_first : (t : Shape) (s : Site) (c : Core) (far : Devices) (log : Log) → ((n : ℕ) → far_of far n ≡ if_rests (far_of c.far n)) → IsAt s (record c { far = far }) →
+pub far_first : (t : Shape) (s : Site) (c : Whole) (far : Devices) (log : Log) → ((n : ℕ) → far_of far n ≡ if_rests (far_of c.far n)) → IsAt s (record c { far = far }) →
     FarLeft t s (world_in c) log 1 (record c { far = far }) log
 far_first t s c far log is at =
     let same : world_in (record c { far = far }) ≡ rested_world (world_in c) = ap (λ (f : ℕ → ExtenderState). record (world_in c) { far = f }) (fun_ext (λ n. is n)) in
@@ -110,7 +71,7 @@ far_first t s c far log is at =
     }
 
 -- one that doesn't rest has its beat
-pub far_next : (t : Shape) (s : Site) (w : World) (n : ℕ) (c d : Core) (old told new : Log) → 0 < n → n < 65 → resting_in w n ≡ false → is_extender t n ≡ true → FarLeft t s w old n c told →
+pub far_next : (t : Shape) (s : Site) (w : World) (n : ℕ) (c d : Whole) (old told new : Log) → 0 < n → n < 65 → resting_in w n ≡ false → is_extender t n ≡ true → FarLeft t s w old n c told →
     Does (reacts t n None Beats (world_in c)) s d told new → FarLeft t s w old (n + 1) d new
 far_next t s w n c d old told new some few awake there left does =
     let done : Does (wakes_at t (resting_in w) n (world_in c)) s d told new = rw (awake, there) does in
@@ -120,7 +81,7 @@ far_next t s w n c d old told new some few awake there left does =
     }
 
 -- at one that rests, and where there is no extender, nothing is done
-pub far_skip : (t : Shape) (s : Site) (w : World) (n m : ℕ) (c : Core) (old log : Log) → 0 < n → n ≤ m → m ≤ 65 → ((k : ℕ) → n ≤ k → k < m → (is_extender t k && not (resting_in w k)) ≡ false) →
+pub far_skip : (t : Shape) (s : Site) (w : World) (n m : ℕ) (c : Whole) (old log : Log) → 0 < n → n ≤ m → m ≤ 65 → ((k : ℕ) → n ≤ k → k < m → (is_extender t k && not (resting_in w k)) ≡ false) →
     FarLeft t s w old n c log → FarLeft t s w old m c log
 far_skip t s w n m c old log some up few none left =
     let e : n + (m - n) ≡ m = omega arith in
@@ -138,7 +99,7 @@ far_skip t s w n m c old log some up few none left =
     nothing k false false e = refl
     nothing k false true e = absurd (false≢true (sym e))
 
-pub far_last : (t : Shape) (s : Site) (w : World) (n : ℕ) (c : Core) (old log : Log) → 65 ≤ n → IsTree t → ((k : ℕ) → resting_in w k ≡ true → is_extender t k ≡ true) → FarLeft t s w old n c log →
+pub far_last : (t : Shape) (s : Site) (w : World) (n : ℕ) (c : Whole) (old log : Log) → 65 ≤ n → IsTree t → ((k : ℕ) → resting_in w k ≡ true → is_extender t k ≡ true) → FarLeft t s w old n c log →
     Does (each (beats_at t) all_extenders w) s c old log
 far_last t s w n c old log all tree there left =
     subst (λ (e : Effect). Does e s c old log) (rest_first t w tree there)
@@ -146,7 +107,7 @@ far_last t s w n c old log all tree there left =
 
 -- ---- those that rest, and those that wait
 -- all that rest are extenders
-pub resting_there : (s : Site) (c : Core) → IsAt s c → (k : ℕ) → resting_in (world_in c) k ≡ true → is_extender s.tree k ≡ true
+pub resting_there : (s : Site) (c : Whole) → IsAt s c → (k : ℕ) → resting_in (world_in c) k ≡ true → is_extender s.tree k ≡ true
 resting_there s c at k rest = at.only k (by_get (slice_get c.far.extenders k) (sym (rests_rested c.far.passed _) ∙ rest))
   where
     by_get : (x : Option (Option Fields)) → rests (state_at x k (slice_index c.far.ports k)) ≡ true → is_there x ≡ true
@@ -163,7 +124,7 @@ still_rests s =
     ]
 
 -- after it, those whose bits are set are the extenders that don't rest
-pub waiting_bit : (s : Site) (c : Core) (far : Devices) (waiting : ℕ) → IsAt s (record c { far = far }) → ((n : ℕ) → far_of far n ≡ if_rests (far_of c.far n)) →
+pub waiting_bit : (s : Site) (c : Whole) (far : Devices) (waiting : ℕ) → IsAt s (record c { far = far }) → ((n : ℕ) → far_of far n ≡ if_rests (far_of c.far n)) →
     ((n : ℕ) → number_in waiting n ≡ (if has_extender far n && not (rests (far_of far n)) then 1 else 0)) →
     (k : ℕ) → number_in waiting k ≡ (if is_extender s.tree k && not (resting_in (world_in c) k) then 1 else 0)
 waiting_bit s c far waiting at is bits k =
@@ -198,15 +159,3 @@ who_waits t w n e =
     turned : (b : Bool) → not b ≡ true → b ≡ false
     turned false e = refl
     turned true e = absurd (false≢true e)
-
--- ---- the control, where no change is at work
-none_is : {X : Type 0} (o : Option X) → is_none o ≡ true → o ≡ None
-none_is None e = refl
-none_is (Some x) e = absurd (false≢true e)
-
-pub beats_settled : (t : Shape) (s : Site) (c : Core) (log : Log) → is_settled (world_in c).control ≡ true → IsAt s c → Does (beats_control t (world_in c)) s c log log
-beats_settled t s c log settled is =
-    let m : State = (world_in c).control in
-    let idle : m.work ≡ None = none_is m.work (and_parts (is_empty m.queue) (is_none m.work) settled).1 in
-    subst (λ (moved : Moved). Does (moves t moved (world_in c)) s c log log) (sym (ap (λ (work : Option Work). beats_in work m) idle))
-    (tells_nothing (moves t (still m) (world_in c)) s c log refl refl refl refl refl is)

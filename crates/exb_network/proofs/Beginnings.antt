@@ -13,13 +13,13 @@ use Rattle.exb_learn.specs.Entries.{table_of}
 use Rattle.exb_changing.specs.Machine.{State}
 use Rattle.exb_control.specs.Controls.{state_of, first_of}
 use Rattle.exb_machine.specs.Worlds.{World, first_world}
-use Rattle.exb_network.specs.declared.site.Core.{Core}
+use Rattle.exb_bridge.specs.Worlds.{Whole}
 use Rattle.exb_boxes.specs.Devices.{far_of, first_far, has_extender}
 use Rattle.exb_boxes.specs.Directions.{words_of}
 use Rattle.exb_boxes.specs.Ends.{near_of}
 use Rattle.exb_boxes.specs.Indices.{next_of}
-use Rattle.exb_network.specs.Sites.{Site, limits_in}
-use Rattle.exb_network.specs.Worlds.{world_in, IsAt}
+use Rattle.exb_bridge.specs.Sites.{Site, limits_in}
+use Rattle.exb_bridge.specs.Worlds.{world_in, IsAt}
 use Rattle.exb_boxes.proofs.Places.{alike}
 
 abbrev world_from : State → Table → (ℕ → Ecp) → (ℕ → ExtenderState) → (ℕ → List Word) → (ℕ → List Word) → (ℕ → ℕ) → World
@@ -29,7 +29,7 @@ same_world : (s s' : State) (u u' : Table) (near near' : ℕ → Ecp) (far far' 
     s ≡ s' → u ≡ u' → near ≡ near' → far ≡ far' → down ≡ down' → up ≡ up' → next ≡ next' → world_from s u near far down up next ≡ world_from s' u' near' far' down' up' next'
 same_world s s' u u' near near' far far' down down' up up' next next' a b c d e f g = rw (a, b, c, d, e, f, g) refl
 
-pub begins : (x : Setup) (c : Core) → c.beats ≡ 0 → state_of c.control ≡ first_of x → table_of c.control.learned ≡ empty_table x.ageing → near_of c.near ≡ alike new_state →
+pub begins : (x : Setup) (c : Whole) → c.beats ≡ 0 → state_of c.control ≡ first_of x → table_of c.control.learned ≡ empty_table x.ageing → near_of c.near ≡ alike new_state →
     far_of c.far ≡ first_far (shape_of x) → words_of c.down ≡ alike [] → words_of c.up ≡ alike [] → next_of c.next ≡ alike 1 →
     world_in c ≡ first_world (shape_of x) (limits_of x) (start_of x) x.ageing
 begins x c beats control table near far down up next =
@@ -42,7 +42,7 @@ ports_on : (n ports : ℕ) → (at_power_on n ports).tables.ports ≡ ports
 unfolding powered_on
 ports_on n ports = refl
 
-pub begins_at : (x : Setup) (c : Core) → c.control.active.shape ≡ shape_of x → c.control.active.limits ≡ limits_of x → c.control.failed ≡ false → far_of c.far ≡ first_far (shape_of x) →
+pub begins_at : (x : Setup) (c : Whole) → c.control.active.shape ≡ shape_of x → c.control.active.limits ≡ limits_of x → c.control.failed ≡ false → far_of c.far ≡ first_far (shape_of x) →
     ((n : ℕ) → is_extender (shape_of x) n ≡ true → has_extender c.far n ≡ true) → ((n : ℕ) → has_extender c.far n ≡ true → is_extender (shape_of x) n ≡ true) → (s : Site) → s.tree ≡ shape_of x → limits_in s ≡ limits_of x → IsAt s c
 begins_at x c shape limits awake far there only s tree l =
     record {

@@ -3,7 +3,7 @@ use Rattle.std.proofs.Common.{◌≡◌, ℕ, Bool, true, false, refl, sym, ◌�
 use Rattle.std.specs.Prelude.{if◌then◌else◌}
 use Rattle.exb_model.specs.Tree.{Shape, is_extender}
 use Rattle.exb_boxes.specs.Numbers.{number_in}
-use Rattle.exb_network.specs.Sites.{AreExtenders}
+use Rattle.exb_bridge.specs.Sites.{AreExtenders}
 
 abbrev pub mark : Bool → ℕ
 mark b = if b then 1 else 0

@@ -24,12 +24,12 @@ use Rattle.exb_boxes.specs.declared.log.Log.{Log}
 use Rattle.exb_network.specs.declared.site.Core.{Core}
 use Rattle.exb_network.specs.Idle.{IsIdle}
 use Rattle.exb_network.specs.Networks.{IsLive}
-use Rattle.exb_network.specs.Sites.{Site, limits_in}
+use Rattle.exb_bridge.specs.Sites.{Site, limits_in}
 use Rattle.exb_network.specs.Worlds.{world_in, IsAt, Does}
-use Rattle.exb_network.proofs.ToExtenders.{serials_low}
+use Rattle.exb_bridge.proofs.ToExtenders.{serials_low}
 
 -- ---- a step
-pub setting_of : (s : Site) (c : Core) → IsActiveConfig c.control.active → IsAt s c → IsSetting s.tree (limits_in s)
+pub setting_of : (s : Site) (c : Core) → IsActiveConfig c.bridge.control.active → IsAt s c → IsSetting s.tree (limits_in s)
 setting_of s c active is_at =
     record {
       tree = subst IsTree is_at.shape active.tree;
@@ -37,10 +37,10 @@ setting_of s c active is_at =
       groups = subst (λ (l : Limits). l.groups ≤ 12288) is_at.limits active.groups;
     }
 
-pub asks_well : AsksCanBeSent → (s : Site) (c : Core) → IsActiveConfig c.control.active → IsLive s c → AsksWell s.tree (limits_in s) (world_in c).control
+pub asks_well : AsksCanBeSent → (s : Site) (c : Core) → IsActiveConfig c.bridge.control.active → IsLive s c → AsksWell s.tree (limits_in s) (world_in c).control
 asks_well law s c active live = law s.tree (limits_in s) (world_in c) (setting_of s c active live.at) live.sound
 
-pub live_after : RunsStaySound → StepsStayWritten → WrittenAreShort → (s : Site) (c d : Core) (step : Step) (old new : Log) → IsActiveConfig c.control.active → IsLive s c → Can s.tree (world_in c) step → HasBytes step →
+pub live_after : RunsStaySound → StepsStayWritten → WrittenAreShort → (s : Site) (c d : Core) (step : Step) (old new : Log) → IsActiveConfig c.bridge.control.active → IsLive s c → Can s.tree (world_in c) step → HasBytes step →
     ((n : ℕ) → ((world_in c).control.askers n).serial < 2 ^ 40) → ((n : ℕ) → ((world_in d).control.askers n).serial < 2 ^ 40) →
     Does (done_by s.tree (limits_in s) step (world_in c)) s d old new → IsLive s d
 unfolding run stepped
@@ -105,8 +105,8 @@ pub settled_idle : (t : Shape) (w : World) → IsSettled t w → (n : ℕ) → i
 settled_idle t w settled n e = record { near = settled.near n e; far = settled.far n e; down = settled.down n e; up = settled.up n e }
 
 -- how many are still to come
-pub planned_at : (s : Site) (c : Core) (state : State) (count : ℕ) → IsAt s c → count ≡ planned c.control.active.shape (decide_of c.control.active) state →
+pub planned_at : (s : Site) (c : Core) (state : State) (count : ℕ) → IsAt s c → count ≡ planned c.bridge.control.active.shape (decide_of c.bridge.control.active) state →
     count ≡ planned s.tree (decide s.tree (limits_in s)) state
 planned_at s c state count is_at is =
     subst (λ (l : Limits). count ≡ planned s.tree (decide s.tree l) state) is_at.limits
-    (subst (λ (t : Shape). count ≡ planned t (decide t c.control.active.limits) state) is_at.shape is)
+    (subst (λ (t : Shape). count ≡ planned t (decide t c.bridge.control.active.limits) state) is_at.shape is)

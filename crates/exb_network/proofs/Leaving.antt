@@ -21,16 +21,16 @@ use Rattle.exb_model.specs.Traces.{TraceLine}
 use Rattle.exb_model.proofs.TreeHung.{hung_cascade}
 use Rattle.exb_boxes.specs.declared.log.Left.{Left}
 use Rattle.exb_boxes.specs.declared.log.Log.{Log}
-use Rattle.exb_network.specs.declared.site.Core.{Core}
+use Rattle.exb_bridge.specs.Worlds.{Whole}
 use Rattle.exb_boxes.specs.Forms.{CanGo}
-use Rattle.exb_network.specs.Leading.{Leads}
+use Rattle.exb_bridge.specs.Leading.{Leads}
 use Rattle.exb_network.specs.Leaving.{row_sent, AreOuter, GoesBehind, IsOuter, Joins}
 use Rattle.exb_boxes.specs.Rows.{Row, ports_in, HasSome}
-use Rattle.exb_network.specs.Sites.{Site}
+use Rattle.exb_bridge.specs.Sites.{Site}
 use Rattle.exb_boxes.specs.Logs.{if_tracing, row_outs}
-use Rattle.exb_network.specs.Worlds.{world_in, all_left, copies_of, IsAt, Does}
-use Rattle.exb_network.proofs.Cores.{left_more}
-use Rattle.exb_network.proofs.Doing.{each_parts, leads_end, leads_on}
+use Rattle.exb_bridge.specs.Worlds.{world_in, all_left, copies_of, IsAt, Does}
+use Rattle.exb_bridge.proofs.Cores.{left_more}
+use Rattle.exb_bridge.proofs.Doing.{each_parts, leads_end, leads_on}
 
 -- ---- what has left
 -- how many, with one row more
@@ -90,7 +90,7 @@ module _ (t : Shape) (n : ℕ) (stamp : Option Stamp) (f : List ℕ) where
       ∙ ap (λ (d : ℕ). told (LineOut d (Port (port_number q)) (stripped f)) ∷ row_outs (stripped f) qs) (sym outer.0.device)
 
   -- it leaves at all of them
-  pub row_leaves : (s : Site) (c : Core) (r : Row) (old new : Log) (bytes : List ℕ) → IsAt s c → AreOuter t n f (ports_in r) → bytes ≡ stripped f →
+  pub row_leaves : (s : Site) (c : Whole) (r : Row) (old new : Log) (bytes : List ℕ) → IsAt s c → AreOuter t n f (ports_in r) → bytes ≡ stripped f →
       new.left ≡ old.left ++ record { row = r; moment = moment_of stamp; bytes = bytes } ∷ [] →
       new.outs.items ≡ old.outs.items ++ if_tracing old.tracing (row_outs bytes (ports_in r)) →
       new.events ≡ old.events → new.passed ≡ old.passed → new.lines ≡ old.lines → new.tracing ≡ old.tracing →
@@ -115,7 +115,7 @@ module _ (t : Shape) (n : ℕ) (stamp : Option Stamp) (f : List ℕ) where
       })
 
   -- at none
-  pub none_leave : (s : Site) (c : Core) (ports : List ℕ) (log : Log) → IsAt s c → ports ≡ [] → Does (only (world_in c)) s c log log → Does (each (sends t n stamp) (row_sent f ports) (world_in c)) s c log log
+  pub none_leave : (s : Site) (c : Whole) (ports : List ℕ) (log : Log) → IsAt s c → ports ≡ [] → Does (only (world_in c)) s c log log → Does (each (sends t n stamp) (row_sent f ports) (world_in c)) s c log log
   none_leave s c ports log is none nothing = subst (λ (qs : List ℕ). Does (each (sends t n stamp) (row_sent f qs) (world_in c)) s c log log) (sym none) nothing
 
 -- the frame is long enough, where there is a port
@@ -157,7 +157,7 @@ module _ (s : Site) (n : ℕ) (stamp : Option Stamp) (f : List ℕ) (out : Out) 
       ∙ ap (λ (xs : List Sent). xs ++ rest) (sym (map-append (λ (p : ℕ). record { side = Port (port_number p); bytes = stripped f }) (ports_in old) (q ∷ [])))
       ∙ ap (λ (qs : List ℕ). row_sent f qs ++ rest) (sym joins.at.ports)
 
-  pub joined_behind : (c : Core) (log : Log) → IsAt s c → old.device ≡ n → GoesBehind s stamp f out old new c c log log
+  pub joined_behind : (c : Whole) (log : Log) → IsAt s c → old.device ≡ n → GoesBehind s stamp f out old new c c log log
   joined_behind c log is there =
       record {
         at = is;
@@ -166,7 +166,7 @@ module _ (s : Site) (n : ℕ) (stamp : Option Stamp) (f : List ℕ) (out : Out) 
       }
 
 -- it leaves at the ports of the row, and then goes out
-pub went_behind : (s : Site) (stamp : Option Stamp) (f : List ℕ) (out : Out) (old new : Row) (b c d : Core) (before told after : Log) → ports_in new ≡ [] →
+pub went_behind : (s : Site) (stamp : Option Stamp) (f : List ℕ) (out : Out) (old new : Row) (b c d : Whole) (before told after : Log) → ports_in new ≡ [] →
     Does (each (sends s.tree old.device stamp) (row_sent f (ports_in old)) (world_in b)) s c before told →
     Does (sends s.tree old.device stamp (out_sent f out) (world_in c)) s d told after → GoesBehind s stamp f out old new b d before after
 went_behind s stamp f out old new b c d before told after none first second =
@@ -183,7 +183,7 @@ went_behind s stamp f out old new b c d before told after none first second =
     }
 
 -- ---- one out after another
-pub behind_next : (s : Site) (n : ℕ) (stamp : Option Stamp) (f : List ℕ) (outs : List Out) (i : ℕ) (d : Out) (old new : Row) (b c : Core) (whole : Effect) (first before after : Log) → i < length outs → old.device ≡ n →
+pub behind_next : (s : Site) (n : ℕ) (stamp : Option Stamp) (f : List ℕ) (outs : List Out) (i : ℕ) (d : Out) (old new : Row) (b c : Whole) (whole : Effect) (first before after : Log) → i < length outs → old.device ≡ n →
     GoesBehind s stamp f (get_or outs i d) old new b c before after →
     Leads whole (each (sends s.tree n stamp) (row_sent f (ports_in old) ++ map (out_sent f) (drop i outs)) (world_in b)) first before →
     Leads whole (each (sends s.tree n stamp) (row_sent f (ports_in new) ++ map (out_sent f) (drop (i + 1) outs)) (world_in c)) first after
@@ -196,7 +196,7 @@ behind_next s n stamp f outs i d old new b c whole first before after inside own
     subst (λ (m : ℕ). Leads whole (each (sends s.tree m stamp) (row_sent f (ports_in old) ++ out_sent f (get_or outs i d) ∷ rest) (world_in b)) first before) (sym own) one in
     subst (λ (m : ℕ). Leads whole (each (sends s.tree m stamp) (row_sent f (ports_in new) ++ rest) (world_in c)) first after) own (behind.leads whole first rest two)
 
-pub behind_last : (s : Site) (n : ℕ) (stamp : Option Stamp) (f : List ℕ) (outs : List Out) (i : ℕ) (row : Row) (c : Core) (whole : Effect) (first before after : Log) → length outs ≤ i →
+pub behind_last : (s : Site) (n : ℕ) (stamp : Option Stamp) (f : List ℕ) (outs : List Out) (i : ℕ) (row : Row) (c : Whole) (whole : Effect) (first before after : Log) → length outs ≤ i →
     Leads whole (each (sends s.tree n stamp) (row_sent f (ports_in row) ++ map (out_sent f) (drop i outs)) (world_in c)) first before →
     Does (each (sends s.tree n stamp) (row_sent f (ports_in row)) (world_in c)) s c before after → Does whole s c first after
 behind_last s n stamp f outs i row c whole first before after end leads last =

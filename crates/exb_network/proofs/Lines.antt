@@ -11,9 +11,10 @@ use Rattle.exb_machine.specs.Worlds.{Line, Journal, Step}
 use Rattle.exb_boxes.specs.declared.log.Log.{Log}
 use Rattle.exb_network.specs.declared.site.Core.{Core}
 use Rattle.exb_network.specs.Networks.{IsStepped, network_of}
-use Rattle.exb_network.specs.Sites.{Site, limits_in}
+use Rattle.exb_bridge.specs.Sites.{Site, limits_in}
 use Rattle.exb_boxes.specs.Logs.{if_tracing}
-use Rattle.exb_network.specs.Worlds.{world_in, all_left, Does}
+use Rattle.exb_bridge.specs.Worlds.{all_left}
+use Rattle.exb_network.specs.Worlds.{world_in, Does}
 
 -- ---- where a trace is kept, and where it isn't
 pub all_kept : (xs : List TraceLine) → if_tracing true xs ≡ xs

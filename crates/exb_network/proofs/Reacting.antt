@@ -23,17 +23,17 @@ use Rattle.exb_model.specs.Tables.{at}
 use Rattle.exb_machine.specs.Effects.{Effect, each}
 use Rattle.exb_machine.specs.Extending.{does, sends, reacts, takes_from_below, arrives_at, ignored, stamp_of}
 use Rattle.exb_boxes.specs.declared.log.Log.{Log}
-use Rattle.exb_network.specs.declared.site.Core.{Core}
+use Rattle.exb_bridge.specs.Worlds.{Whole}
 use Rattle.exb_network.specs.Arrivals.{IsPortAt}
 use Rattle.exb_boxes.specs.Devices.{Devices, far_of}
 use Rattle.exb_boxes.specs.Forms.{CanGo}
-use Rattle.exb_network.specs.Sites.{Site}
-use Rattle.exb_network.specs.Worlds.{world_in, all_left, IsAt, Does, KeepsTrace}
-use Rattle.exb_network.proofs.Cores.{far_in, does_nothing}
-use Rattle.exb_network.proofs.Doing.{each_one}
+use Rattle.exb_bridge.specs.Sites.{Site}
+use Rattle.exb_bridge.specs.Worlds.{world_in, all_left, IsAt, Does, KeepsTrace}
+use Rattle.exb_bridge.proofs.Cores.{far_in, does_nothing}
+use Rattle.exb_bridge.proofs.Doing.{each_one}
 
 -- ---- an extender reacts
-pub reacted : (t : Shape) (s : Site) (c d : Core) (far : Devices) (n : ℕ) (stamp : Option Stamp) (i : Input) (f : List ℕ) (sent : Sends) (old new : Log) →
+pub reacted : (t : Shape) (s : Site) (c d : Whole) (far : Devices) (n : ℕ) (stamp : Option Stamp) (i : Input) (f : List ℕ) (sent : Sends) (old new : Log) →
     far_of far ≡ at n (react i (far_of c.far n)).0 (far_of c.far) → sent_by f sent ≡ (react i (far_of c.far n)).1 →
     Does (each (sends t n stamp) (sent_by f sent) (world_in (record c { far = far }))) s d old new → Does (reacts t n stamp i (world_in c)) s d old new
 reacted t s c d far n stamp i f sent old new state are done =
@@ -51,7 +51,7 @@ far_same n w = ap (λ (f : ℕ → ExtenderState). record w { far = f }) (fun_ex
           | inr ne ↦ rw (ne_eqb m n ne) refl
         ]
 
-pub reacted_only : (t : Shape) (s : Site) (c d : Core) (n : ℕ) (x : Word) (from : Side) (out : Out) (old new : Log) → GoesTo (far_of c.far n).tables from x.bytes out →
+pub reacted_only : (t : Shape) (s : Site) (c d : Whole) (n : ℕ) (x : Word) (from : Side) (out : Out) (old new : Log) → GoesTo (far_of c.far n).tables from x.bytes out →
     Does (sends t n x.stamp (out_sent x.bytes out) (world_in c)) s d old new → Does (reacts t n x.stamp (Arrives from x.bytes) (world_in c)) s d old new
 reacted_only t s c d n x from out old new goes done =
     let sent : Sent = out_sent x.bytes out in
@@ -61,17 +61,17 @@ reacted_only t s c d n x from out old new goes done =
     (subst (λ (v : World). Does (sends t n x.stamp sent v) s d old new) (sym (far_same n w)) done))
 
 -- ---- a word comes from below
-pub from_cascade : (t : Shape) (n k : ℕ) (x : Word) (w : World) (s : Site) (d : Core) (old new : Log) → (w.far n).tables.cascade k ≡ true →
+pub from_cascade : (t : Shape) (n k : ℕ) (x : Word) (w : World) (s : Site) (d : Whole) (old new : Log) → (w.far n).tables.cascade k ≡ true →
     Does (reacts t n x.stamp (Arrives (side.Port k) x.bytes) w) s d old new → Does (takes_from_below t n k x w) s d old new
 from_cascade t n k x w s d old new is done = rw is done
 
-pub not_from_cascade : (t : Shape) (n k : ℕ) (x : Word) (s : Site) (c : Core) (log : Log) → (far_of c.far n).tables.cascade k ≡ false → IsAt s c →
+pub not_from_cascade : (t : Shape) (n k : ℕ) (x : Word) (s : Site) (c : Whole) (log : Log) → (far_of c.far n).tables.cascade k ≡ false → IsAt s c →
     Does (takes_from_below t n k x (world_in c)) s c log log
 not_from_cascade t n k x s c log isnt is = rw isnt (does_nothing s c log is)
 
 -- ---- a frame arrives
 -- it is ignored
-pub ignores : (s : Site) (c : Core) (a : Arrival) (old new : Log) → new.events ≡ old.events ++ event.Ignored a.port a.index ∷ [] → new.passed ≡ old.passed → new.left ≡ old.left → KeepsTrace old new → IsAt s c →
+pub ignores : (s : Site) (c : Whole) (a : Arrival) (old new : Log) → new.events ≡ old.events ++ event.Ignored a.port a.index ∷ [] → new.passed ≡ old.passed → new.left ≡ old.left → KeepsTrace old new → IsAt s c →
     Does (ignored a (world_in c)) s c old new
 ignores s c a old new events passed left trace is =
     record {
@@ -99,18 +99,18 @@ module _ (t : Shape) (a : Arrival) (w : World) where
   at_sent outer isnt = rw (outer, isnt) refl
 
 -- where a port is a cascade port
-pub arrives_cascade : (t : Shape) (a : Arrival) (s : Site) (c : Core) (old new : Log) → (far_of c.far (device a.port)).tables.cascade (port_number a.port) ≡ true →
+pub arrives_cascade : (t : Shape) (a : Arrival) (s : Site) (c : Whole) (old new : Log) → (far_of c.far (device a.port)).tables.cascade (port_number a.port) ≡ true →
     Does (ignored a (world_in c)) s c old new → Does (arrives_at t a (world_in c)) s c old new
 arrives_cascade t a s c old new is done = subst (λ (e : Effect). Does e s c old new) (sym (at_cascade t a (world_in c) is)) done
 
 -- where it isn't let in
-pub arrives_ignored : (t : Shape) (a : Arrival) (s : Site) (c : Core) (old new : Log) → (far_of c.far (device a.port)).tables.cascade (port_number a.port) ≡ false →
+pub arrives_ignored : (t : Shape) (a : Arrival) (s : Site) (c : Whole) (old new : Log) → (far_of c.far (device a.port)).tables.cascade (port_number a.port) ≡ false →
     IsTrue (is_ignored ((far_of c.far (device a.port)).tables.own (port_number a.port)) a.bytes) →
     Does (ignored a (world_in c)) s c old new → Does (arrives_at t a (world_in c)) s c old new
 arrives_ignored t a s c old new outer is done = subst (λ (e : Effect). Does e s c old new) (sym (at_ignored t a (world_in c) outer is)) done
 
 -- where it is
-pub arrives_up : (t : Shape) (a : Arrival) (s : Site) (c d : Core) (form : Form) (old new : Log) → (far_of c.far (device a.port)).tables.cascade (port_number a.port) ≡ false →
+pub arrives_up : (t : Shape) (a : Arrival) (s : Site) (c d : Whole) (form : Form) (old new : Log) → (far_of c.far (device a.port)).tables.cascade (port_number a.port) ≡ false →
     is_ignored ((far_of c.far (device a.port)).tables.own (port_number a.port)) a.bytes ≡ false → up (bytes_in a.bytes form) ∷ [] ≡ emitted (far_of c.far (device a.port)).tables (side.Port (port_number a.port)) a.bytes →
     Does (sends t (device a.port) (Some (stamp_of a)) (up (bytes_in a.bytes form)) (world_in c)) s d old new → Does (arrives_at t a (world_in c)) s d old new
 arrives_up t a s c d form old new outer isnt are done =
@@ -123,7 +123,7 @@ arrives_up t a s c d form old new outer isnt are done =
 
 -- ---- ports
 -- a port of an extender as that has it
-pub port_here : (s : Site) (c : Core) (p n k : ℕ) → IsAt s c → IsPortAt s.tree p → n ≡ device p → k ≡ port_number p → IsPort (far_of c.far n) k
+pub port_here : (s : Site) (c : Whole) (p n k : ℕ) → IsAt s c → IsPortAt s.tree p → n ≡ device p → k ≡ port_number p → IsPort (far_of c.far n) k
 port_here s c p n k is port n_is k_is =
     let low : p % 64 < (far_of c.far (device p)).tables.ports = subst (λ (m : ℕ). p % 64 < m) (sym (is.ports (device p) port.extender)) (ltb-true _ _ port.port) in
     rw (n_is, k_is) (omega arith, omega (arith, low))

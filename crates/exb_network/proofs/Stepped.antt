@@ -25,20 +25,20 @@ use Rattle.exb_machine.specs.Stepping.{arrives, control_at, counted, done_by, fi
 use Rattle.exb_machine.specs.Runs.Asks.{AsksWell}
 use Rattle.exb_machine.proofs.Trees.{above_there}
 use Rattle.exb_boxes.specs.declared.log.Log.{Log}
-use Rattle.exb_network.specs.declared.site.Core.{Core}
+use Rattle.exb_bridge.specs.Worlds.{Whole}
 use Rattle.exb_network.specs.Arrivals.{IsPortAt}
 use Rattle.exb_boxes.specs.Directions.{words_of}
 use Rattle.exb_boxes.specs.Indices.{next_of}
-use Rattle.exb_network.specs.Sites.{Site, limits_in}
-use Rattle.exb_network.specs.Worlds.{world_in, all_left, IsAt, Does, KeepsTrace}
-use Rattle.exb_network.proofs.Coming.{learned_world, learned_at}
-use Rattle.exb_network.proofs.Cores.{tells_nothing}
+use Rattle.exb_bridge.specs.Sites.{Site, limits_in}
+use Rattle.exb_bridge.specs.Worlds.{world_in, all_left, IsAt, Does, KeepsTrace}
+use Rattle.exb_bridge.proofs.Coming.{learned_world, learned_at}
+use Rattle.exb_bridge.proofs.Cores.{tells_nothing}
 
 -- ---- fields
-pub up_is : (c : Core) (links : List (List Word)) (f : ℕ → List Word) → words_of links ≡ f → world_in (record c { up = links }) ≡ record (world_in c) { up = f }
+pub up_is : (c : Whole) (links : List (List Word)) (f : ℕ → List Word) → words_of links ≡ f → world_in (record c { up = links }) ≡ record (world_in c) { up = f }
 up_is c links f is = ap (λ (g : ℕ → List Word). record (world_in c) { up = g }) is
 
-pub next_is : (c : Core) (xs : List ℕ) (f : ℕ → ℕ) → next_of xs ≡ f → world_in (record c { next = xs }) ≡ record (world_in c) { next = f }
+pub next_is : (c : Whole) (xs : List ℕ) (f : ℕ → ℕ) → next_of xs ≡ f → world_in (record c { next = xs }) ≡ record (world_in c) { next = f }
 next_is c xs f is = ap (λ (g : ℕ → ℕ). record (world_in c) { next = g }) is
 
 -- ---- words that aren't there
@@ -88,7 +88,7 @@ words_same n Up w = ap (λ (u : ℕ → List Word). record w { up = u }) (at_sam
 words_same n Down w = ap (λ (u : ℕ → List Word). record w { down = u }) (at_same n w.down)
 
 -- ---- a direction has other words
-module _ (s : Site) (c : Core) (ws : List (List Word)) (at : IsAt s c) where
+module _ (s : Site) (c : Whole) (ws : List (List Word)) (at : IsAt s c) where
   pub at_up : IsAt s (record c { up = ws })
   at_up = record { shape = at.shape; limits = at.limits; awake = at.awake; there = at.there; only = at.only; ports = at.ports }
 
@@ -96,7 +96,7 @@ module _ (s : Site) (c : Core) (ws : List (List Word)) (at : IsAt s c) where
   at_down = record { shape = at.shape; limits = at.limits; awake = at.awake; there = at.there; only = at.only; ports = at.ports }
 
 -- ---- a word that may be there
-module _ (s : Site) (l : Limits) (c d : Core) (n : ℕ) (way : Way) (rest : List Word) (world : world_in d ≡ with_words n way rest (world_in c)) where
+module _ (s : Site) (l : Limits) (c d : Whole) (n : ℕ) (way : Way) (rest : List Word) (world : world_in d ≡ with_words n way rest (world_in c)) where
   nobody : (o : Option Word) (log : Log) → o ≡ None → rest ≡ words_on n way (world_in c) → IsAt s d → Does (takes_any s.tree l n way o rest (world_in c)) s d log log
   nobody o log none same is_at =
       subst (λ (m : Option Word). Does (takes_any s.tree l n way m rest (world_in c)) s d log log) (sym none) (
@@ -111,7 +111,7 @@ module _ (s : Site) (l : Limits) (c d : Core) (n : ℕ) (way : Way) (rest : List
         at = is_at;
       })
 
-  pub somebody : (o : Option Word) (x : Word) (e : Core) (old new : Log) → o ≡ Some x → Does (takes s.tree l n way x (world_in d)) s e old new → Does (takes_any s.tree l n way o rest (world_in c)) s e old new
+  pub somebody : (o : Option Word) (x : Word) (e : Whole) (old new : Log) → o ≡ Some x → Does (takes s.tree l n way x (world_in d)) s e old new → Does (takes_any s.tree l n way o rest (world_in c)) s e old new
   somebody o x e old new some done =
       subst (λ (m : Option Word). Does (takes_any s.tree l n way m rest (world_in c)) s e old new) (sym some) (
       subst (λ (w : World). Does (takes s.tree l n way x w) s e old new) world done)
@@ -123,40 +123,25 @@ module _ (s : Site) (l : Limits) (c d : Core) (n : ℕ) (way : Way) (rest : List
       by_way Up = asks
       by_way Down = asks
 
-pub no_data : (s : Site) (l : Limits) (c d : Core) (n : ℕ) (way : Way) (log : Log) → first_data (words_on n way (world_in c)) ≡ None →
+pub no_data : (s : Site) (l : Limits) (c d : Whole) (n : ℕ) (way : Way) (log : Log) → first_data (words_on n way (world_in c)) ≡ None →
     world_in d ≡ with_words n way (without_data (words_on n way (world_in c))) (world_in c) → IsAt s d →
     Does (takes_any s.tree l n way (first_data (words_on n way (world_in c))) (without_data (words_on n way (world_in c))) (world_in c)) s d log log
 no_data s l c d n way log none world is_at =
     nobody s l c d n way (without_data (words_on n way (world_in c))) world _ log none (data_none (words_on n way (world_in c)) none) is_at
 
-pub no_control : (s : Site) (l : Limits) (c d : Core) (n : ℕ) (way : Way) (k : ℕ) (keep : Bool) (log : Log) → control_at (words_on n way (world_in c)) k ≡ None →
+pub no_control : (s : Site) (l : Limits) (c d : Whole) (n : ℕ) (way : Way) (k : ℕ) (keep : Bool) (log : Log) → control_at (words_on n way (world_in c)) k ≡ None →
     world_in d ≡ with_words n way (rest_of keep (words_on n way (world_in c)) k) (world_in c) → IsAt s d →
     Does (takes_any s.tree l n way (control_at (words_on n way (world_in c)) k) (rest_of keep (words_on n way (world_in c)) k) (world_in c)) s d log log
 no_control s l c d n way k keep log none world is_at =
     nobody s l c d n way (rest_of keep (words_on n way (world_in c)) k) world _ log none (rest_none keep (words_on n way (world_in c)) k none) is_at
 
 -- ---- steps that tell nothing, or one thing
-pub lost : (s : Site) (l : Limits) (c d : Core) (n : ℕ) (way : Way) (k : ℕ) (log : Log) → world_in d ≡ (done_by s.tree l (Lose n way k) (world_in c)).world → IsAt s d →
+pub lost : (s : Site) (l : Limits) (c d : Whole) (n : ℕ) (way : Way) (k : ℕ) (log : Log) → world_in d ≡ (done_by s.tree l (Lose n way k) (world_in c)).world → IsAt s d →
     Does (done_by s.tree l (Lose n way k) (world_in c)) s d log log
 lost s l c d n way k log world is_at =
     tells_nothing (done_by s.tree l (Lose n way k) (world_in c)) s d log world refl refl refl refl is_at
 
-pub ticked : (s : Site) (l : Limits) (c : Core) (p : Parts) (seconds : ℕ) (out : Outbox) (old new : Log) → HasTicked seconds c.control p out → IsAt s c →
-    new.events ≡ old.events ++ event.Tick seconds ∷ [] → new.passed ≡ old.passed → new.left ≡ old.left → KeepsTrace old new →
-    Does (done_by s.tree l (Ticks seconds) (world_in c)) s (record c { control = p }) old new
-ticked s l c p seconds out old new ticks is_at events passed left trace =
-    record {
-      world = learned_world s c p ticks.rest _ ticks.table;
-      events = events;
-      passed = passed ∙ sym (append-nil old.passed);
-      left = ap all_left left ∙ sym (append-nil (all_left old.left));
-      outs = trace.outs ∙ sym (append-nil old.outs.items);
-      lines = trace.lines;
-      tracing = trace.tracing;
-      at = learned_at s c p ticks.rest is_at;
-    }
-
-pub marked : (s : Site) (l : Limits) (c : Core) (old new : Log) → IsAt s c → new.events ≡ old.events ++ event.Settled ∷ [] → new.passed ≡ old.passed → new.left ≡ old.left → KeepsTrace old new →
+pub marked : (s : Site) (l : Limits) (c : Whole) (old new : Log) → IsAt s c → new.events ≡ old.events ++ event.Settled ∷ [] → new.passed ≡ old.passed → new.left ≡ old.left → KeepsTrace old new →
     Does (done_by s.tree l Mark (world_in c)) s c old new
 marked s l c old new is_at events passed left trace =
     record {
@@ -180,12 +165,12 @@ module _ (t : Shape) (tree : IsTree t) (n : ℕ) (there : is_extender t n ≡ tr
   pub port_above : 64 ≤ on t n → IsPortAt t (on t n)
   port_above deep = record { extender = above_there t tree n there deep; port = tree.on_port n hung.extender hung.there }
 
-pub at_bridge : (s : Site) (l : Limits) (c d : Core) (n k : ℕ) (x : Word) (old new : Log) → on s.tree n < 64 → k ≡ on s.tree n → Does (bridge_takes s.tree l k n x (world_in c)) s d old new →
+pub at_bridge : (s : Site) (l : Limits) (c d : Whole) (n k : ℕ) (x : Word) (old new : Log) → on s.tree n < 64 → k ≡ on s.tree n → Does (bridge_takes s.tree l k n x (world_in c)) s d old new →
     Does (takes_up s.tree l n x (world_in c)) s d old new
 at_bridge s l c d n k x old new low is done =
     rw (lt-ltb (on s.tree n) 64 low) (subst (λ j. Does (bridge_takes s.tree l j n x (world_in c)) s d old new) is done)
 
-pub at_extender : (s : Site) (l : Limits) (c d : Core) (n p : ℕ) (x : Word) (old new : Log) → 64 ≤ on s.tree n → p ≡ on s.tree n →
+pub at_extender : (s : Site) (l : Limits) (c d : Whole) (n p : ℕ) (x : Word) (old new : Log) → 64 ≤ on s.tree n → p ≡ on s.tree n →
     Does (takes_from_below s.tree (device p) (port_number p) x (world_in c)) s d old new → Does (takes_up s.tree l n x (world_in c)) s d old new
 at_extender s l c d n p x old new deep is done =
     rw (le-ltb (on s.tree n) 64 deep) (subst (λ j. Does (takes_from_below s.tree (device j) (port_number j) x (world_in c)) s d old new) is done)
@@ -198,16 +183,9 @@ external_at t p external deep =
     let within = ltb-true (p % 64) (slice_index t.ports (device p)) known in
     record { extender = and_from _ _ (lt-ltb 0 (device p) (omega (arith, deep))) (lt-ltb 0 (slice_index t.ports (device p)) (omega (arith, within))); port = known }
 
-module _ (s : Site) (c d e : Core) (a : Arrival) (old new : Log) (world : world_in d ≡ counted a (world_in c)) where
+module _ (s : Site) (c d e : Whole) (a : Arrival) (old new : Log) (world : world_in d ≡ counted a (world_in c)) where
   pub arrives_below : a.port < 64 → Does (comes s.tree a (world_in d)) s e old new → Does (arrives s.tree a (world_in c)) s e old new
   arrives_below low done = rw (lt-ltb a.port 64 low) (subst (λ (w : World). Does (comes s.tree a w) s e old new) world done)
 
   pub arrives_deeper : 64 ≤ a.port → Does (arrives_at s.tree a (world_in d)) s e old new → Does (arrives s.tree a (world_in c)) s e old new
   arrives_deeper deep done = rw (le-ltb a.port 64 deep) (subst (λ (w : World). Does (arrives_at s.tree a w) s e old new) world done)
-
--- ---- commands
-pub ordered_at : (s : Site) (c : Core) (command : Command) (p : Parts) (out : Outbox) → IsAt s c →
-    IsMoved (ordered (decide_of c.control.active) command (state_of c.control)) c.control p out → IsMoved (ordered (decide s.tree (limits_in s)) command (world_in c).control) c.control p out
-ordered_at s c command p out is_at moved =
-    subst (λ (l : Limits). IsMoved (ordered (decide s.tree l) command (state_of c.control)) c.control p out) is_at.limits
-    (subst (λ (t : Shape). IsMoved (ordered (decide t c.control.active.limits) command (state_of c.control)) c.control p out) is_at.shape moved)

@@ -13,11 +13,10 @@ use Rattle.exb_machine.specs.Extending.{hung_on, sends}
 use Rattle.exb_model.specs.Tree.{port_number, Shape, device}
 use Rattle.exb_model.specs.ETags.{stripped}
 use Rattle.exb_boxes.specs.declared.log.Log.{Log}
-use Rattle.exb_network.specs.declared.site.Core.{Core}
-use Rattle.exb_network.specs.Leading.{Leads}
+use Rattle.exb_bridge.specs.Leading.{Leads}
 use Rattle.exb_boxes.specs.Rows.{Row, ports_in}
-use Rattle.exb_network.specs.Sites.{Site}
-use Rattle.exb_network.specs.Worlds.{world_in, IsAt}
+use Rattle.exb_bridge.specs.Sites.{Site}
+use Rattle.exb_bridge.specs.Worlds.{Whole, world_in, IsAt}
 
 -- what is sent of a frame that goes out without its E-TAG at these ports
 abbrev pub row_sent : List ℕ → List ℕ → List Sent
@@ -48,7 +47,7 @@ pub record Joins (t : Shape) (n : ℕ) (out : Out) (old new : Row) : Type 0 wher
 
 -- Before, a frame was still to leave at the ports of a row, then to go out in a form, and then the rest was to be done. Now it is to leave at
 -- those of another row, and then the rest is to be done.
-pub record GoesBehind (s : Site) (stamp : Option Stamp) (f : List ℕ) (out : Out) (old new : Row) (c d : Core) (before after : Log) : Type 0 where
+pub record GoesBehind (s : Site) (stamp : Option Stamp) (f : List ℕ) (out : Out) (old new : Row) (c d : Whole) (before after : Log) : Type 0 where
   pub at : IsAt s d
   pub leads : (whole : Effect) (first : Log) (rest : List Sent)
       → Leads whole (each (sends s.tree old.device stamp) (row_sent f (ports_in old) ++ out_sent f out ∷ rest) (world_in c)) first before

@@ -1,10 +1,7 @@
-pub mod Sites
 pub mod Arrivals
-pub mod Sends
 pub mod Steps
 pub mod Turns
 pub mod Worlds
 pub mod Networks
-pub mod Leading
 pub mod Leaving
 pub mod Idle

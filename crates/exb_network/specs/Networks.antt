@@ -11,9 +11,10 @@ use Rattle.exb_network.specs.declared.step.Step.{Step as Made}
 use Rattle.exb_network.specs.declared.step.Step.TheVariants as made
 use Rattle.exb_machine.specs.Runs.Simulation.{IsSound}
 use Rattle.exb_machine.specs.Runs.Written.{AreWritten}
-use Rattle.exb_network.specs.Sites.{Site, limits_in}
+use Rattle.exb_bridge.specs.Sites.{Site, limits_in}
 use Rattle.exb_network.specs.Steps.{way_of}
-use Rattle.exb_network.specs.Worlds.{world_in, all_left, IsAt}
+use Rattle.exb_bridge.specs.Worlds.{all_left}
+use Rattle.exb_network.specs.Worlds.{world_in, IsAt}
 
 -- what never changes, the parts, what has happened, and whether memory ran out
 pub record Network : Type 0 where

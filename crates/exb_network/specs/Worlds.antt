@@ -1,82 +1,26 @@
 -- The world of the machine for which the parts of a network stand, and how they make its steps.
-use Rattle.std.specs.Prelude.{◌≡◌, ℕ, ◌++◌, true, false, List, [], ◌∷◌, map, flat_map, slice_index}
-use Rattle.exb_model.specs.Traces.{TraceLine}
-use Rattle.exb_model.specs.Tree.{is_extender}
-use Rattle.exb_learn.specs.Entries.{table_of}
-use Rattle.exb_control.specs.Controls.{state_of}
 use Rattle.exb_machine.specs.Worlds.{World}
-use Rattle.exb_machine.specs.Worlds.{Left as Leaving}
 use Rattle.exb_machine.specs.Effects.{Effect}
-use Rattle.exb_machine.specs.Telling.{all_told}
-use Rattle.exb_boxes.specs.declared.log.Left.{Left}
 use Rattle.exb_boxes.specs.declared.log.Log.{Log}
+use Rattle.exb_bridge.specs.Sites.{Site}
+use Rattle.exb_bridge.specs.Worlds.{Rest, Whole, whole, world_in as world_of_parts, IsAt as AreAt, Does as Do}
 use Rattle.exb_network.specs.declared.site.Core.{Core}
-use Rattle.exb_boxes.specs.Rows.{ports_in}
-use Rattle.exb_network.specs.Sites.{Site, limits_in}
-use Rattle.exb_boxes.specs.Directions.{words_of}
-use Rattle.exb_boxes.specs.Devices.{far_of, has_extender}
-use Rattle.exb_boxes.specs.Ends.{near_of}
-use Rattle.exb_boxes.specs.Indices.{next_of}
-use Rattle.exb_boxes.specs.Logs.{if_tracing}
 
--- ---- the world
+-- what the bridge doesn't see of it
+abbrev pub rest_of : Core → Rest
+rest_of c = record { far = c.far; up = c.up; next = c.next; beats = c.beats }
+
+-- all parts of it
+abbrev pub whole_of : Core → Whole
+whole_of c = whole (rest_of c) c.bridge
+
 abbrev pub world_in : Core → World
-world_in c =
-    record {
-      control = state_of c.control;
-      table = table_of c.control.learned;
-      near = near_of c.near;
-      far = far_of c.far;
-      down = words_of c.down;
-      up = words_of c.up;
-      next = next_of c.next;
-      beats = c.beats;
-    }
+world_in c = world_of_parts (whole_of c)
 
--- The parts are of this site: its tree and limits are those of the control, exactly its extenders are there, each with its
--- ports, and memory hasn't run out in the control.
-pub record IsAt (s : Site) (c : Core) : Type 0 where
-  pub shape : c.control.active.shape ≡ s.tree
-  pub limits : c.control.active.limits ≡ limits_in s
-  pub awake : c.control.failed ≡ false
-  pub there : (n : ℕ) → is_extender s.tree n ≡ true → has_extender c.far n ≡ true
-  pub only : (n : ℕ) → has_extender c.far n ≡ true → is_extender s.tree n ≡ true
-  pub ports : (n : ℕ) → is_extender s.tree n ≡ true → (far_of c.far n).tables.ports ≡ slice_index s.tree.ports n
+-- its parts are of this site
+abbrev pub IsAt : Site → Core → Type 0
+IsAt s c = AreAt s (whole_of c)
 
--- ---- what is done
--- a frame that left, at each port of its row
-abbrev pub copies_at : ℕ → List ℕ → List ℕ → List Leaving
-copies_at moment bytes ports = map (λ q. record { port = q; moment = moment; bytes = bytes }) ports
-
-abbrev pub copies_of : Left → List Leaving
-copies_of x = copies_at x.moment x.bytes (ports_in x.row)
-
-abbrev pub all_left : List Left → List Leaving
-all_left xs = flat_map copies_of xs
-
--- A frame has left, and the line of what went out is gathered; nothing else is told.
-pub record HasLeft (x : Leaving) (line : TraceLine) (old new : Log) : Type 0 where
-  pub left : all_left new.left ≡ all_left old.left ++ x ∷ []
-  pub outs : new.outs.items ≡ old.outs.items ++ if_tracing old.tracing (line ∷ [])
-  pub events : new.events ≡ old.events
-  pub passed : new.passed ≡ old.passed
-  pub lines : new.lines ≡ old.lines
-  pub tracing : new.tracing ≡ old.tracing
-
--- Nothing is added to the trace.
-pub record KeepsTrace (old new : Log) : Type 0 where
-  pub outs : new.outs.items ≡ old.outs.items
-  pub lines : new.lines ≡ old.lines
-  pub tracing : new.tracing ≡ old.tracing
-
--- The world is that of the effect, and what it tells stands behind what was told before; so do the lines of what it
--- sends, where a trace is kept, among those of the step that is being made. The site is the same.
-pub record Does (e : Effect) (s : Site) (c : Core) (old new : Log) : Type 0 where
-  pub world : world_in c ≡ e.world
-  pub events : new.events ≡ old.events ++ e.events
-  pub passed : new.passed ≡ old.passed ++ e.passed
-  pub left : all_left new.left ≡ all_left old.left ++ e.left
-  pub outs : new.outs.items ≡ old.outs.items ++ if_tracing old.tracing (all_told e.outs)
-  pub lines : new.lines ≡ old.lines
-  pub tracing : new.tracing ≡ old.tracing
-  pub at : IsAt s c
+-- an effect is done in it
+abbrev pub Does : Effect → Site → Core → Log → Log → Type 0
+Does e s c old new = Do e s (whole_of c) old new

@@ -7,9 +7,10 @@ ghost use Rattle.exb_network.specs.Networks.{step_of};
 ghost use Rattle.exb_network.specs.Steps.{way_of, IsFree};
 ghost use Rattle.exb_network.specs.Worlds.{world_in, IsAt};
 
-use crate::site::{Core, Site};
+use crate::site::Core;
 use crate::step::{Step, Way};
 use crate::world::{is_settled, link_of};
+use exb_bridge::Site;
 use exb_model::arrival::Arrival;
 use exb_model::command::Command;
 use exb_model::tree::Tree;
@@ -85,7 +86,7 @@ fn stays_low(clock: u64, seconds: u32) -> bool
 fn may_tick(core: &Core, seconds: u32) -> bool
     ensures { IsTrue result ↔ ((1 ≤ seconds) × ((world_in core.now).table.clock + seconds < 2 ^ 63)) }
 {
-    seconds >= 1 && stays_low(core.control.clock(), seconds)
+    seconds >= 1 && stays_low(core.bridge.control.clock(), seconds)
 }
 
 /// Whether a command may be given.
@@ -93,7 +94,7 @@ fn may_order(site: &Site, core: &Core, command: &Command) -> bool
     requires { IsAt site.now core.now }
     ensures { IsTrue result ↔ Can site.now.tree (world_in core.now) (Order command.now) }
 {
-    names_external(site.tree(), command) && core.control.given() < COMMANDS
+    names_external(site.tree(), command) && core.bridge.control.given() < COMMANDS
 }
 
 /// Whether a step may be made.

@@ -5,13 +5,14 @@ ghost use Rattle.exb_machine.specs.Stepping.{words_on};
 ghost use Rattle.exb_boxes.specs.Directions.{words_of};
 ghost use Rattle.exb_boxes.specs.Numbers.{IsNumber};
 ghost use Rattle.exb_network.specs.Steps.{way_of};
-ghost use Rattle.exb_network.specs.Sites.{ArePlaces};
+ghost use Rattle.exb_bridge.specs.Sites.{ArePlaces};
 ghost use Rattle.exb_network.specs.Turns.{order_of, IsEarlier, IsFirst, IsTurn};
 ghost use Rattle.exb_network.specs.Worlds.{world_in};
 
-use crate::site::{Core, Site};
+use crate::site::Core;
 use crate::step::Way;
 use exb_boxes::Direction;
+use exb_bridge::Site;
 use exb_model::port::DEVICES;
 
 /// A direction that has a word: its place in the order in which a round goes through the directions of one way, and its
@@ -117,6 +118,6 @@ pub(crate) fn next_busy(site: &Site, core: &Core, way: Way, from: u8) -> Option<
     site.tree().is_tree();
     match way {
         Way::Up => first_busy(site.upwards(), site.upward_places(), &core.up, from),
-        Way::Down => first_busy(site.downwards(), site.downward_places(), &core.down, from),
+        Way::Down => first_busy(site.downwards(), site.downward_places(), &core.bridge.down, from),
     }
 }

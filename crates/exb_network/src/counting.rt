@@ -1,6 +1,6 @@
 //! How much has left a network.
 ghost use Rattle.std.specs.Prelude.{◌≡◌, length};
-ghost use Rattle.exb_network.specs.Worlds.{all_left};
+ghost use Rattle.exb_bridge.specs.Worlds.{all_left};
 
 use exb_boxes::Left;
 

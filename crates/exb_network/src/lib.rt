@@ -1,19 +1,16 @@
 //! The network: the controlling bridge, the extenders that hang below it, and the links between them, moved by single
 //! steps. Upwards it promises that each call is exactly a step of the machine of `exb_machine`, in its world, its events
-//! and what leaves its ports, so that all laws over that machine hold of it. It stands on the bridge's control
-//! (`exb_control`) and on what there is below it: extenders, ends of the transport, links and the log (`exb_boxes`).
+//! and what leaves its ports, so that all laws over that machine hold of it. It is wires and steps: what is done
+//! with a word at its end is done by one of the two kinds of box, the bridge (`exb_bridge`) and the extender (`exb_boxes` holds all of them).
 #![tactic(auto)]
 
 mod allowing;
 mod arrivals;
-mod asking;
 mod beating;
+mod bridging;
 pub mod busy;
 pub mod counting;
-mod hearing;
-mod orders;
 mod passing;
-mod relaying;
 mod sending;
 mod site;
 pub mod step;

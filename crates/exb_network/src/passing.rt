@@ -9,8 +9,9 @@ ghost use Rattle.exb_network.specs.Worlds.{world_in, IsAt, Does};
 
 use crate::arrivals::Came;
 use crate::sending::{send_frame, send_to};
-use crate::site::{Core, Site};
+use crate::site::Core;
 use exb_boxes::Post;
+use exb_bridge::Site;
 use exb_extender::{Form, Out, Side};
 use exb_frame::etag::strip_in_place;
 use exb_link::Word;

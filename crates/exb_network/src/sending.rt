@@ -10,33 +10,20 @@ ghost use Rattle.exb_boxes.specs.Forms.{IsSide, CanGo};
 ghost use Rattle.exb_network.specs.Leaving.{row_sent, AreOuter, GoesBehind, Joins, JoinsAt};
 ghost use Rattle.exb_boxes.specs.Numbers.{IsNumber};
 ghost use Rattle.exb_boxes.specs.Rows.{ports_in};
-ghost use Rattle.exb_network.specs.Worlds.{world_in, IsAt, Does};
+ghost use Rattle.exb_network.specs.Worlds.{whole_of, world_in, IsAt, Does};
 
 use crate::arrivals::Came;
-use crate::site::{Core, Site};
+use crate::site::Core;
 use exb_boxes::forms::put_form;
 use exb_boxes::log::{note_out, note_row};
 use exb_boxes::{Left, Post, Row};
+use exb_bridge::{Site, hung_on};
 use exb_extender::{Form, Out, Sends, Side};
 use exb_frame::etag::strip_into;
 use exb_link::{Stamp, Word};
 use exb_model::bytes::Bytes;
 use exb_model::memory::NoMemory;
 use exb_model::port::PortId;
-use exb_model::role::Role;
-use exb_model::tree::Tree;
-
-/// The extender that hangs on a port.
-#[inline(always)]
-pub(crate) fn hung_on(tree: &Tree, port: PortId) -> Option<u8>
-    ensures { result ≡ hung_on tree.now port }
-{
-    tree.is_tree();
-    match tree.role(port) {
-        Role::Cascade { extender } => Some(extender),
-        _ => None,
-    }
-}
 
 /// The moment of the record by which a word came in; 0 where it has none.
 #[inline(always)]
@@ -76,7 +63,7 @@ fn send_at(
     let tree = site.tree();
     tree.is_tree();
     match hung_on(tree, place) {
-        Some(below) => core.down.push(below, word),
+        Some(below) => core.bridge.down.push(below, word),
         None => {
             let moment = moment_of(&word.stamp);
             post.log.left.push(Left {
@@ -243,7 +230,7 @@ fn send_behind(
     requires outer { AreOuter site.now.tree row.old.device came.now.frame.now (ports_in row.old) }
     ensures device { row.new.device ≡ row.old.device }
     ensures outer { AreOuter site.now.tree row.old.device came.now.frame.now (ports_in row.new) }
-    ensures sent { OnOk result (GoesBehind site.now came.now.stamp came.now.frame.now out.now row.old row.new core.old core.new post.old.log post.new.log) }
+    ensures sent { OnOk result (GoesBehind site.now came.now.stamp came.now.frame.now out.now row.old row.new (whole_of core.old) (whole_of core.new) post.old.log post.new.log) }
 {
     let number = row.device();
     if joins(site, number, out, row) {

@@ -8,20 +8,19 @@ ghost use Rattle.exb_link.specs.Words.{is_control, without_control};
 ghost use Rattle.exb_machine.specs.Runs.Asks.{AsksWell};
 ghost use Rattle.exb_boxes.specs.Directions.{words_of};
 ghost use Rattle.exb_boxes.specs.Numbers.{IsNumber};
-ghost use Rattle.exb_network.specs.Sites.{limits_in};
+ghost use Rattle.exb_bridge.specs.Sites.{limits_in};
 ghost use Rattle.exb_network.specs.Steps.{way_of};
 ghost use Rattle.exb_network.specs.Worlds.{world_in, IsAt, Does};
 
-use crate::asking::follow;
-use crate::relaying::{self, come};
-use crate::site::{Core, Room, Site};
+use crate::bridging::{self, come};
+use crate::site::Core;
 use crate::step::Way;
 use crate::taking::{arrive_at, take_from_above, take_from_below};
 use exb_boxes::{Direction, Log};
+use exb_bridge::{Room, Site};
 use exb_link::Word;
 use exb_model::arrival::Arrival;
 use exb_model::bytes::Bytes;
-use exb_model::command::Command;
 use exb_model::event::Event;
 use exb_model::memory::NoMemory;
 use std::alloc::Global;
@@ -44,7 +43,7 @@ fn take_up(
     let port = site.on(number);
     if port.device() == 0 {
         let bridge_port = port.place() + 1;
-        relaying::take(site, bridge_port, number, word, room, core)
+        bridging::take(site, bridge_port, number, word, room, core)
     } else {
         take_from_below(site, port, word, room, core)
     }
@@ -84,7 +83,7 @@ fn pull_control(site: &Site, number: u8, way: Way, place: u64, core: &mut Core) 
     let _ = site;
     match way {
         Way::Up => core.up.take_control(number, place),
-        Way::Down => core.down.take_control(number, place),
+        Way::Down => core.bridge.down.take_control(number, place),
     }
 }
 
@@ -120,7 +119,7 @@ fn copy_control(
 {
     match way {
         Way::Up => copied(alloc, &core.up, number, place),
-        Way::Down => copied(alloc, &core.down, number, place),
+        Way::Down => copied(alloc, &core.bridge.down, number, place),
     }
 }
 
@@ -147,7 +146,7 @@ fn carry_down(site: &Site, number: u8, room: &mut Room, core: &mut Core) -> Resu
     ensures { OnOk result (Does (done_by site.now.tree (limits_in site.now) (Carry number Down) (world_in core.old)) site.now core.new room.old.post.log room.new.post.log) }
 {
     site.has_low_number(number);
-    match core.down.take_data(number) {
+    match core.bridge.down.take_data(number) {
         None => Ok(()),
         Some(word) => take_from_above(site, number, word, room, core),
     }
@@ -247,48 +246,6 @@ pub(crate) fn arrive(
         come(site, arrival, room, core)
     } else {
         arrive_at(site, arrival, room, core)
-    }
-}
-
-/// The clock goes on.
-#[cold]
-#[inline(never)]
-pub(crate) fn tick(
-    site: &Site,
-    seconds: u32,
-    room: &mut Room,
-    core: &mut Core,
-) -> Result<(), NoMemory>
-    requires at { IsAt site.now core.old }
-    requires clock { (world_in core.old).table.clock + seconds < 2 ^ 63 }
-    ensures { OnOk result (Does (done_by site.now.tree (limits_in site.now) (Tick seconds) (world_in core.old)) site.now core.new room.old.post.log room.new.post.log) }
-{
-    let _ = site;
-    room.post.log.events.push(Event::Tick { seconds })?;
-    match core.control.tick(seconds, &mut room.outbox) {
-        Ok(()) => Ok(()),
-        Err(_) => Err(NoMemory),
-    }
-}
-
-/// A command is given.
-#[cold]
-#[inline(never)]
-pub(crate) fn order(
-    site: &Site,
-    command: &Command,
-    room: &mut Room,
-    core: &mut Core,
-) -> Result<(), NoMemory>
-    requires at { IsAt site.now core.old }
-    requires names { NamesExternal site.now.tree command.now }
-    requires few { (world_in core.old).control.given < 65536 }
-    requires asks { AsksWell site.now.tree (limits_in site.now) (world_in core.old).control }
-    ensures { OnOk result (Does (done_by site.now.tree (limits_in site.now) (Order command.now) (world_in core.old)) site.now core.new room.old.post.log room.new.post.log) }
-{
-    match core.control.command(command, &mut room.outbox) {
-        Ok(()) => follow(site, room, core),
-        Err(_) => Err(NoMemory),
     }
 }
 

@@ -5,17 +5,16 @@ ghost use Rattle.exb_extender.specs.Machine.{Arrives, Beats, CanTake};
 ghost use Rattle.exb_machine.specs.Extending.{arrives_at, reacts, takes_from_above, takes_from_below};
 ghost use Rattle.exb_network.specs.Arrivals.{IsPortAt};
 ghost use Rattle.exb_boxes.specs.Devices.{far_of};
-ghost use Rattle.exb_network.specs.Worlds.{world_in, IsAt, Does, KeepsTrace};
+ghost use Rattle.exb_network.specs.Worlds.{world_in, IsAt, Does};
 
-use crate::arrivals::{Came, stamp_of};
+use crate::arrivals::Came;
 use crate::passing::pass_on;
 use crate::sending::{send_all, send_frame};
-use crate::site::{Core, Room, Site};
-use exb_boxes::Log;
+use crate::site::Core;
+use exb_bridge::{Room, Site, ignore, stamp_of};
 use exb_extender::{Out, Side};
 use exb_link::Word;
 use exb_model::arrival::Arrival;
-use exb_model::event::Event;
 use exb_model::memory::NoMemory;
 use exb_model::port::PortId;
 
@@ -104,21 +103,6 @@ pub(crate) fn take_from_below(
         return Ok(());
     }
     take(site, number, Side::Port { port }, word, room, core)
-}
-
-/// A frame is ignored.
-#[cold]
-#[inline(never)]
-pub(crate) fn ignore(arrival: &Arrival, log: &mut Log) -> Result<(), NoMemory>
-    ensures events { OnOk result (log.new.events ≡ log.old.events ++ Event.Ignored arrival.now.port arrival.now.index ∷ []) }
-    ensures passed { log.new.passed ≡ log.old.passed }
-    ensures left { log.new.left ≡ log.old.left }
-    ensures trace { KeepsTrace log.old log.new }
-{
-    log.events.push(Event::Ignored {
-        port: arrival.port,
-        index: arrival.index,
-    })
 }
 
 /// A frame arrives at an external port of an extender.

@@ -11,9 +11,10 @@ ghost use Rattle.exb_network.specs.Networks.{step_of};
 ghost use Rattle.exb_network.specs.Steps.{way_of};
 ghost use Rattle.exb_network.specs.Worlds.{world_in};
 
-use crate::site::{Core, Site};
+use crate::site::Core;
 use crate::step::{Step, Way};
 use crate::world::link_of;
+use exb_bridge::Site;
 use exb_link::Word;
 use exb_model::bytes::Bytes;
 use exb_model::event::Event;

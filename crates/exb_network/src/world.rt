@@ -13,18 +13,20 @@ ghost use Rattle.exb_machine.specs.Runs.Laws.{HasBytes};
 ghost use Rattle.exb_network.specs.Idle.{IsIdle};
 ghost use Rattle.exb_network.specs.Networks.{network_of, step_of, IsLive, IsStepped};
 ghost use Rattle.exb_boxes.specs.Numbers.{IsNumber};
-ghost use Rattle.exb_network.specs.Sites.{limits_in};
+ghost use Rattle.exb_bridge.specs.Sites.{limits_in};
 ghost use Rattle.exb_network.specs.Steps.{way_of};
 ghost use Rattle.exb_network.specs.Turns.{order_of, IsTurn};
 ghost use Rattle.exb_network.specs.Worlds.{world_in, IsAt, Does};
 
 use crate::busy::Turn;
-use crate::site::{Core, Room, Site};
+use crate::site::Core;
 use crate::step::{Step, Way};
-use crate::stepping::{arrive, carry, deliver, lose, mark, order, repeat, tick};
+use crate::bridging::{order, tick};
+use crate::stepping::{arrive, carry, deliver, lose, mark, repeat};
 use crate::telling::{tell_ins, tell_outs};
 use crate::{allowing, beating, busy};
 use exb_boxes::Left;
+use exb_bridge::{Room, Site};
 use exb_link::{Counts, Link};
 use exb_machine::laws::{
     asks_can_be_sent, begins_written, runs_stay_sound, setups_begin_sound, steps_stay_written,
@@ -162,7 +164,7 @@ impl World {
     pub fn planned(&self) -> Result<u64, NoMemory>
         ensures { self.now.failed ≡ false → IfOk result (λ count. count ≡ planned (tree_of self.now) (decide (tree_of self.now) (bounds_of self.now)) (world_of self.now).control) }
     {
-        self.core.control.planned()
+        self.core.bridge.control.planned()
     }
 
     /// How many data words and control words are on a direction.
@@ -395,12 +397,12 @@ fn make_live(site: &Site, step: &Step<'_>, room: &mut Room, core: &mut Core) -> 
     runs_stay_sound();
     steps_stay_written();
     written_are_short();
-    core.control.is_active_config();
-    core.control.has_low_serials();
+    core.bridge.control.is_active_config();
+    core.bridge.control.has_low_serials();
     brings_bytes(step);
     match make(site, step, room, core) {
         Ok(()) => {
-            core.control.has_low_serials();
+            core.bridge.control.has_low_serials();
             Ok(())
         }
         Err(_) => Err(NoMemory),
@@ -445,7 +447,7 @@ pub(crate) fn is_settled(site: &Site, core: &Core) -> bool
     requires { IsAt site.now core.now }
     ensures { IsTrue result ↔ IsSettled site.now.tree (world_in core.now) }
 {
-    core.control.settled() && are_idle(site, core)
+    core.bridge.control.settled() && are_idle(site, core)
 }
 
 /// The link of an extender in a direction.
@@ -455,7 +457,7 @@ pub(crate) fn link_of(core: &Core, number: u8, way: Way) -> &Link
 {
     match way {
         Way::Up => core.up.link(number),
-        Way::Down => core.down.link(number),
+        Way::Down => core.bridge.down.link(number),
     }
 }
 
@@ -464,13 +466,13 @@ fn are_idle(site: &Site, core: &Core) -> bool
     ensures { IsTrue result ↔ ((n : ℕ) → is_extender site.now.tree n ≡ true → IsIdle (world_in core.now) n) }
 {
     let all = site.extenders();
-    if core.near.are_sending(all) {
+    if core.bridge.near.are_sending(all) {
         return false;
     }
     if core.far.are_sending(all) {
         return false;
     }
-    if core.down.have_words(all) {
+    if core.bridge.down.have_words(all) {
         return false;
     }
     !core.up.have_words(all)

@@ -1,18 +1,24 @@
+use Rattle.std.proofs.Common.{refl}
 use Rattle.std.proofs.lemmas.Result.{on_ok_weaker}
 use Rattle.exb_machine.specs.Stepping.{all_extenders}
-use Rattle.exb_network.specs.Sites.{limits_in}
+use Rattle.exb_bridge.specs.Sites.{limits_in}
+use Rattle.exb_network.specs.Worlds.{whole_of}
 use Rattle.exb_network.proofs.Beats.{near_asks, beat_is, all_beaten}
 use Rattle.exb_network.proofs.beating.beat.Goals as goal
 
-pub beat_control-requires-clause-asks : goal.beat_control-requires-clause-asks
-beat_control-requires-clause-asks c =
+pub beat_control-requires : goal.beat_control-requires
+beat_control-requires c =
     let s = c.args.site.now in
-    near_asks s.tree (limits_in s) all_extenders s (record c.args.core.now { beats = c.saturating_add-core.result }) c.beat_all_near.new.core c.args.room.now.post.log c.beat_all_near.new.post.log c.in_ok-beat_all_near.ensures c.requires.asks
+    let sent = c.in_ok-beat_ends.ensures in
+    let asks =
+    near_asks s.tree (limits_in s) all_extenders s (record (whole_of c.args.core.now) { beats = c.saturating_add-core.result }) (whole_of c.beat_ends.new.core) c.args.room.now.post.log c.beat_ends.new.room.post.log
+    sent c.requires.asks in
+    (refl, (sent.at, asks))
 
 pub returns : goal.returns
 returns c =
     let s = c.args.site.now in
-    let core = c.args.core.now in
+    let core = (whole_of c.args.core.now) in
     on_ok_weaker c.beat_all_far.result (λ far.
-    all_beaten s.tree s core c.beat_all_near.new.core c.beat_control.new.core c.beat_all_far.new.core c.saturating_add-core.result c.args.room.now.post.log c.beat_all_near.new.post.log c.beat_control.new.room.post.log c.beat_all_far.new.room.post.log
-    (beat_is core.beats c.saturating_add-core.result c.saturating_add-core.ensures) c.in_ok-beat_all_near.ensures c.in_ok-beat_control.ensures far) c.beat_all_far.ensures
+    all_beaten s.tree s core (whole_of c.beat_ends.new.core) (whole_of c.beat_control.new.core) (whole_of c.beat_all_far.new.core) c.saturating_add-core.result c.args.room.now.post.log c.beat_ends.new.room.post.log c.beat_control.new.room.post.log c.beat_all_far.new.room.post.log
+    (beat_is core.beats c.saturating_add-core.result c.saturating_add-core.ensures) c.in_ok-beat_ends.ensures c.in_ok-beat_control.ensures far) c.beat_all_far.ensures

@@ -1,22 +1,23 @@
 use Rattle.std.proofs.Common.{arith, subst, sym, ◌∙◌}
 use Rattle.exb_model.specs.Tree.{IsTree}
-use Rattle.exb_network.specs.Worlds.{world_in}
+use Rattle.exb_bridge.specs.Worlds.{world_in}
 use Rattle.exb_model.proofs.TreeHung.{extender-low}
+use Rattle.exb_network.specs.Worlds.{whole_of}
 use Rattle.exb_network.proofs.Beats.{far_first, far_last, far_next, far_skip, resting_there, waiting_bit, waits, waits_not, who_waits}
-use Rattle.exb_network.proofs.Cores.{far_at}
+use Rattle.exb_bridge.proofs.Cores.{far_at}
 use Rattle.exb_network.proofs.beating.beat_all_far.Goals as goal
 
 pub numbers-init : goal.numbers-init
 numbers-init c =
     let s = c.args.site.now in
-    let core = c.args.core.now in
+    let core = (whole_of c.args.core.now) in
     let far = c.beat_resting.new.self in
     (omega arith, omega arith, far_first s.tree s core far c.args.room.now.post.log c.beat_resting.ensures.state (far_at s core c.requires.at far c.beat_resting.ensures.same))
 
 pub beat-requires-clause-extender : goal.beat-requires-clause-extender
 beat-requires-clause-extender c =
     let s = c.args.site.now in
-    let core = c.args.core.now in
+    let core = (whole_of c.args.core.now) in
     let far = c.beat_resting.new.self in
     let n = c.in-Some.number in
     let bit = waiting_bit s core far c.waiting-waiting.result (far_at s core c.requires.at far c.beat_resting.ensures.same) c.beat_resting.ensures.state c.waiting-waiting.ensures n in
@@ -25,7 +26,7 @@ beat-requires-clause-extender c =
 pub numbers-smaller : goal.numbers-smaller
 numbers-smaller c =
     let s = c.args.site.now in
-    let core = c.args.core.now in
+    let core = (whole_of c.args.core.now) in
     let n = c.in-Some.number in
     let bit = waiting_bit s core c.beat_resting.new.self c.waiting-waiting.result (far_at s core c.requires.at c.beat_resting.new.self c.beat_resting.ensures.same) c.beat_resting.ensures.state c.waiting-waiting.ensures n in
     let one = who_waits s.tree (world_in core) n (waits _ (sym bit ∙ c.in-Some.ensures.found.here)) in
@@ -36,7 +37,7 @@ numbers-smaller c =
 pub numbers-preserved : goal.numbers-preserved
 numbers-preserved c =
     let s = c.args.site.now in
-    let core = c.args.core.now in
+    let core = (whole_of c.args.core.now) in
     let w = world_in core in
     let far = c.beat_resting.new.self in
     let n = c.in-Some.number in
@@ -48,19 +49,19 @@ numbers-preserved c =
     let start = found.start in (
       omega arith,
       omega (arith, low),
-      far_next s.tree s w n c.numbers.core c.beat.new.core c.args.room.now.post.log c.numbers.room.post.log c.beat.new.room.post.log (omega (arith, start, inv.0)) low one.awake one.there
-          (far_skip s.tree s w c.numbers.from n c.numbers.core c.args.room.now.post.log c.numbers.room.post.log inv.0 start (omega (arith, low))
+      far_next s.tree s w n (whole_of c.numbers.core) (whole_of c.beat.new.core) c.args.room.now.post.log c.numbers.room.post.log c.beat.new.room.post.log (omega (arith, start, inv.0)) low one.awake one.there
+          (far_skip s.tree s w c.numbers.from n (whole_of c.numbers.core) c.args.room.now.post.log c.numbers.room.post.log inv.0 start (omega (arith, low))
           (λ k from before. waits_not _ (sym (bit k) ∙ found.before k from before)) inv.2) c.in_ok-beat.ensures,
     )
 
 pub returns : goal.returns
 returns c =
     let s = c.args.site.now in
-    let core = c.args.core.now in
+    let core = (whole_of c.args.core.now) in
     let w = world_in core in
     let far = c.beat_resting.new.self in
     let inv = c.numbers.invariant in
     let bit = waiting_bit s core far c.waiting-waiting.result (far_at s core c.requires.at far c.beat_resting.ensures.same) c.beat_resting.ensures.state c.waiting-waiting.ensures in
-    far_last s.tree s w 65 c.numbers.core c.args.room.now.post.log c.numbers.room.post.log (omega arith) (subst IsTree c.tree.ensures c.is_tree.ensures) (resting_there s core c.requires.at)
-    (far_skip s.tree s w c.numbers.from 65 c.numbers.core c.args.room.now.post.log c.numbers.room.post.log inv.0 inv.1 (omega arith)
+    far_last s.tree s w 65 (whole_of c.numbers.core) c.args.room.now.post.log c.numbers.room.post.log (omega arith) (subst IsTree c.tree.ensures c.is_tree.ensures) (resting_there s core c.requires.at)
+    (far_skip s.tree s w c.numbers.from 65 (whole_of c.numbers.core) c.args.room.now.post.log c.numbers.room.post.log inv.0 inv.1 (omega arith)
     (λ k start before. waits_not _ (sym (bit k) ∙ c.in_default.ensures.none k start)) inv.2)

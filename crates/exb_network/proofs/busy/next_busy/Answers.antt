@@ -2,8 +2,9 @@ use Rattle.std.proofs.Common.{refl, subst}
 use Rattle.std.proofs.lemmas.Option.{IfSome_then}
 use Rattle.exb_model.specs.Tree.{IsTree}
 use Rattle.exb_machine.specs.Worlds.{Up, Down}
-use Rattle.exb_network.specs.Worlds.{world_in}
-use Rattle.exb_network.proofs.Deepest.{all_numbered, deepest_extends, depth_extends, few_by_depth, few_first}
+use Rattle.exb_bridge.specs.Worlds.{world_in}
+use Rattle.exb_bridge.proofs.Deepest.{all_numbered, deepest_extends, depth_extends, few_by_depth, few_first}
+use Rattle.exb_network.specs.Worlds.{whole_of}
 use Rattle.exb_network.proofs.Turning.{turn_is}
 use Rattle.exb_network.proofs.busy.next_busy.Goals as goal
 
@@ -36,11 +37,11 @@ returns-in-Up-clause-found c =
     let t = c.args.site.now.tree in
     rw c.in-Up.is (
     IfSome_then c.first_busy.result c.first_busy.ensures.found (λ turn one.
-    turn_is t Up (world_in c.args.core.now) c.upwards.result.now c.args.core.now.up c.args.from turn c.upwards.ensures (λ n. refl) (rw c.upwards.ensures (deepest_extends t)) one))
+    turn_is t Up (world_in (whole_of c.args.core.now)) c.upwards.result.now c.args.core.now.up c.args.from turn c.upwards.ensures (λ n. refl) (rw c.upwards.ensures (deepest_extends t)) one))
 
 pub returns-in-Down-clause-found : goal.returns-in-Down-clause-found
 returns-in-Down-clause-found c =
     let t = c.args.site.now.tree in
     rw c.in-Down.is (
     IfSome_then c.first_busy-in-Down.result c.first_busy-in-Down.ensures.found (λ turn one.
-    turn_is t Down (world_in c.args.core.now) c.downwards.result.now c.args.core.now.down c.args.from turn c.downwards.ensures (λ n. refl) (rw c.downwards.ensures (depth_extends t)) one))
+    turn_is t Down (world_in (whole_of c.args.core.now)) c.downwards.result.now c.args.core.now.down c.args.from turn c.downwards.ensures (λ n. refl) (rw c.downwards.ensures (depth_extends t)) one))

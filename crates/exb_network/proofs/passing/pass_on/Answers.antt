@@ -2,6 +2,7 @@ use Rattle.std.proofs.Common.{subst}
 use Rattle.std.proofs.lemmas.Result.{on_ok_weaker}
 use Rattle.exb_extender.specs.declared.sends.Form.{Form}
 use Rattle.exb_extender.specs.Sending.{CanBeGiven}
+use Rattle.exb_network.specs.Worlds.{whole_of}
 use Rattle.exb_network.proofs.Sendings.{as_it_is, without_tag}
 use Rattle.exb_network.proofs.passing.pass_on.Goals as goal
 
@@ -10,7 +11,7 @@ returns-in-AsIs c =
     let word = c.args.word in
     let s = c.args.site.now in
     on_ok_weaker c.send_to.result
-    (as_it_is s.tree c.args.number word.stamp word.bytes c.args.out.now s c.args.core.now c.send_to.new.core c.args.post.now.log c.send_to.new.post.log c.in-AsIs.is)
+    (as_it_is s.tree c.args.number word.stamp word.bytes c.args.out.now s (whole_of c.args.core.now) (whole_of c.send_to.new.core) c.args.post.now.log c.send_to.new.post.log c.in-AsIs.is)
     c.send_to.ensures
 
 pub strip-requires-clause-long : goal.strip-requires-clause-long
@@ -21,5 +22,5 @@ returns-in-Stripped c =
     let word = c.args.word in
     let s = c.args.site.now in
     on_ok_weaker c.strip.result
-    (without_tag s.tree c.args.number word.stamp word.bytes c.args.out.now s c.args.core.now c.strip.new.core c.args.post.now.log c.strip.new.post.log c.in-Stripped.is)
+    (without_tag s.tree c.args.number word.stamp word.bytes c.args.out.now s (whole_of c.args.core.now) (whole_of c.strip.new.core) c.args.post.now.log c.strip.new.post.log c.in-Stripped.is)
     c.strip.ensures

@@ -4,6 +4,7 @@ use Rattle.exb_model.specs.Traces.{TraceLine}
 use Rattle.exb_boxes.specs.declared.log.Left.{Left}
 use Rattle.exb_boxes.specs.Rows.{ports_in}
 use Rattle.exb_boxes.specs.Logs.{if_tracing, row_outs}
+use Rattle.exb_network.specs.Worlds.{whole_of}
 use Rattle.exb_network.proofs.Leaving.{row_leaves}
 use Rattle.exb_network.proofs.sending.leave_extender.Goals as goal
 
@@ -16,7 +17,7 @@ returns c =
     let outs : List ℕ → List TraceLine = λ (bytes : List ℕ). log.outs.items ++ if_tracing log.tracing (row_outs bytes (ports_in row)) in
     on_ok_weaker c.push.result
     (λ pushed.
-    row_leaves c.args.site.now.tree c.args.number c.args.came.now.stamp c.args.came.now.frame.now c.args.site.now c.args.core.now row log
+    row_leaves c.args.site.now.tree c.args.number c.args.came.now.stamp c.args.came.now.frame.now c.args.site.now (whole_of c.args.core.now) row log
     (record log { left = c.push.new.self; outs = c.note_row.new.outs }) frame c.requires.at c.requires.outer
     (c.from_vec.ensures ∙ c.in_ok-strip_into.ensures)
     (pushed ∙ ap push c.moment_of.ensures)

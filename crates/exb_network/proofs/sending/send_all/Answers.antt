@@ -1,4 +1,5 @@
 use Rattle.std.proofs.lemmas.Result.{on_ok_weaker}
+use Rattle.exb_network.specs.Worlds.{whole_of}
 use Rattle.exb_network.proofs.Sendings.{all_sent}
 use Rattle.exb_network.proofs.sending.send_all.Goals as goal
 
@@ -14,6 +15,6 @@ returns c =
     let first = rw c.as_slice-first.ensures.value at c.in_ok-send_own.ensures in
     on_ok_weaker c.send_own-2.result
     (λ second.
-    all_sent t n stamp f x s c.args.core.now c.send_frames.new.core c.send_own.new.core c.send_own-2.new.core c.args.post.now.log c.send_frames.new.post.log c.send_own.new.post.log c.send_own-2.new.post.log
+    all_sent t n stamp f x s (whole_of c.args.core.now) (whole_of c.send_frames.new.core) (whole_of c.send_own.new.core) (whole_of c.send_own-2.new.core) c.args.post.now.log c.send_frames.new.post.log c.send_own.new.post.log c.send_own-2.new.post.log
     frames first (rw c.as_slice-second.ensures.value at second))
     c.send_own-2.ensures

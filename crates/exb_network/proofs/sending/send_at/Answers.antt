@@ -10,9 +10,10 @@ use Rattle.exb_model.specs.Tree.{Shape}
 use Rattle.exb_boxes.specs.declared.log.Left.{Left}
 use Rattle.exb_boxes.specs.declared.log.Log.{Log}
 use Rattle.exb_boxes.specs.Logs.{if_tracing}
-use Rattle.exb_network.specs.Worlds.{world_in, Does}
-use Rattle.exb_network.proofs.Cores.{leaves}
-use Rattle.exb_network.proofs.Hanging.{hung_numbered}
+use Rattle.exb_bridge.specs.Worlds.{world_in, Does}
+use Rattle.exb_bridge.proofs.Cores.{leaves}
+use Rattle.exb_bridge.proofs.Hanging.{hung_numbered}
+use Rattle.exb_network.specs.Worlds.{whole_of}
 use Rattle.exb_network.proofs.sending.send_at.Goals as goal
 
 pub push-requires : goal.push-requires
@@ -25,7 +26,7 @@ returns-in-None c =
     let k = c.args.port in
     let stamp = c.args.word.stamp in
     let frame : List ℕ = c.args.word.bytes in
-    let core = c.args.core.now in
+    let core = (whole_of c.args.core.now) in
     let log = c.args.post.now.log in
     let new : Log = record log { left = c.push-in-None.new.self; outs = c.note_out.new.outs } in
     let none : hung_on s.tree (port_of n k) ≡ None =

@@ -5,7 +5,8 @@ use Rattle.exb_machine.specs.Effects.{each}
 use Rattle.exb_machine.specs.Extending.{sends}
 use Rattle.exb_network.specs.Leaving.{row_sent}
 use Rattle.exb_boxes.specs.Rows.{Row, ports_in}
-use Rattle.exb_network.specs.Worlds.{world_in, Does}
+use Rattle.exb_bridge.specs.Worlds.{world_in, Does}
+use Rattle.exb_network.specs.Worlds.{whole_of}
 use Rattle.exb_network.proofs.Leaving.{went_behind}
 use Rattle.exb_network.proofs.sending.send_behind.Goals as goal
 
@@ -17,7 +18,7 @@ returns-clause-sent c =
     let f = c.args.came.now.frame.now in
     let out = c.args.out.now in
     let row = c.args.row.now in
-    let core = c.args.core.now in
+    let core = (whole_of c.args.core.now) in
     let w = world_in core in
     let before = c.args.post.now.log in
     let told = c.leave_extender.new.post.log in
@@ -26,6 +27,6 @@ returns-clause-sent c =
     let first = subst (λ (n : ℕ). Does (each (sends t n stamp) (row_sent f (ports_in row)) w) s core before told) c.device-number.ensures.value at_row in
     on_ok_weaker c.send_frame.result
     (λ done.
-    went_behind s stamp f out row c.none.result core core c.send_frame.new.core before told c.send_frame.new.post.log c.none.ensures.ports first
-    (subst (λ (n : ℕ). Does (sends t n stamp (out_sent f out) w) s c.send_frame.new.core told c.send_frame.new.post.log) c.device-number.ensures.value done))
+    went_behind s stamp f out row c.none.result core core (whole_of c.send_frame.new.core) before told c.send_frame.new.post.log c.none.ensures.ports first
+    (subst (λ (n : ℕ). Does (sends t n stamp (out_sent f out) w) s (whole_of c.send_frame.new.core) told c.send_frame.new.post.log) c.device-number.ensures.value done))
     c.send_frame.ensures

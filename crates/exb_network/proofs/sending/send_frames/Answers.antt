@@ -7,7 +7,8 @@ use Rattle.exb_machine.specs.Effects.{each}
 use Rattle.exb_machine.specs.Extending.{sends}
 use Rattle.exb_network.specs.Leaving.{AreOuter}
 use Rattle.exb_boxes.specs.Rows.{ports_in}
-use Rattle.exb_network.specs.Worlds.{world_in}
+use Rattle.exb_bridge.specs.Worlds.{world_in}
+use Rattle.exb_network.specs.Worlds.{whole_of}
 use Rattle.exb_network.proofs.Leaving.{behind_last, behind_next}
 use Rattle.exb_network.proofs.sending.send_frames.Goals as goal
 
@@ -21,8 +22,8 @@ loop-out-preserved c =
     let inv = c.loop-out.invariant in
     let step = c.in_ok-send_behind.ensures in
     record {
-      leads = behind_next s n stamp f outs c.loop-out.out-index (record { to = Up; form = AsIs }) c.loop-out.row c.send_behind.new.row c.loop-out.core c.send_behind.new.core
-          (each (sends s.tree n stamp) (map (out_sent f) outs) (world_in c.args.core.now)) c.args.post.now.log c.loop-out.post.log c.send_behind.new.post.log
+      leads = behind_next s n stamp f outs c.loop-out.out-index (record { to = Up; form = AsIs }) c.loop-out.row c.send_behind.new.row (whole_of c.loop-out.core) (whole_of c.send_behind.new.core)
+          (each (sends s.tree n stamp) (map (out_sent f) outs) (world_in (whole_of c.args.core.now))) c.args.post.now.log c.loop-out.post.log c.send_behind.new.post.log
           c.loop-out-test.true inv.device step.sent inv.leads;
       at = step.sent.at;
       device = step.device ∙ inv.device;
@@ -37,6 +38,6 @@ returns c =
     let f = c.args.came.now.frame.now in
     let outs = c.args.outs.now in
     on_ok_weaker c.leave_extender.result
-    (behind_last s n stamp f outs c.loop-out.out-index c.loop-out.row c.loop-out.core (each (sends s.tree n stamp) (map (out_sent f) outs) (world_in c.args.core.now)) c.args.post.now.log c.loop-out.post.log c.leave_extender.new.post.log
+    (behind_last s n stamp f outs c.loop-out.out-index c.loop-out.row (whole_of c.loop-out.core) (each (sends s.tree n stamp) (map (out_sent f) outs) (world_in (whole_of c.args.core.now))) c.args.post.now.log c.loop-out.post.log c.leave_extender.new.post.log
     c.loop-out-test.false c.loop-out.invariant.leads)
     c.leave_extender.ensures

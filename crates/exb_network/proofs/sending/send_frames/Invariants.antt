@@ -2,18 +2,19 @@ use Rattle.std.proofs.Common.{◌≡◌, ◌++◌, map, drop}
 use Rattle.exb_extender.specs.Sending.{out_sent}
 use Rattle.exb_machine.specs.Effects.{each}
 use Rattle.exb_machine.specs.Extending.{sends}
-use Rattle.exb_network.specs.Leading.{Leads}
+use Rattle.exb_bridge.specs.Leading.{Leads}
 use Rattle.exb_network.specs.Leaving.{row_sent, AreOuter}
 use Rattle.exb_boxes.specs.Rows.{ports_in}
-use Rattle.exb_network.specs.Worlds.{world_in, IsAt}
+use Rattle.exb_bridge.specs.Worlds.{world_in, IsAt}
+use Rattle.exb_network.specs.Worlds.{whole_of}
 use Rattle.exb_network.proofs.sending.send_frames.Given as goal
 
 -- at the ports of the row, and then in the forms that are left, it leads from here to the whole
 abbrev pub invariant-loop-out : goal.invariant-loop-out
 invariant-loop-out l = record {
-  leads : Leads (each (sends l.site.tree l.number l.came.stamp) (map (out_sent l.came.frame.now) l.outs) (world_in l.initial.core))
-      (each (sends l.site.tree l.number l.came.stamp) (row_sent l.came.frame.now (ports_in l.row) ++ map (out_sent l.came.frame.now) (drop l.out-index l.outs)) (world_in l.core)) l.initial.post.log l.post.log;
-  at : IsAt l.site l.core;
+  leads : Leads (each (sends l.site.tree l.number l.came.stamp) (map (out_sent l.came.frame.now) l.outs) (world_in (whole_of l.initial.core)))
+      (each (sends l.site.tree l.number l.came.stamp) (row_sent l.came.frame.now (ports_in l.row) ++ map (out_sent l.came.frame.now) (drop l.out-index l.outs)) (world_in (whole_of l.core))) l.initial.post.log l.post.log;
+  at : IsAt l.site (whole_of l.core);
   device : l.row.device ≡ l.number;
   outer : AreOuter l.site.tree l.number l.came.frame.now (ports_in l.row);
 }

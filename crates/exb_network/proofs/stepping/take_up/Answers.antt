@@ -1,18 +1,21 @@
-use Rattle.std.proofs.Common.{◌≡◌, ◌+◌, ◌-◌, ◌<◌, ◌≤◌, arith, subst, sym}
+use Rattle.std.proofs.Common.{refl, rules, ◌≡◌, ◌+◌, ◌-◌, ◌<◌, ◌≤◌, arith, subst, sym}
 use Rattle.std.proofs.lemmas.Result.{on_ok_weaker}
 use Rattle.exb_model.specs.Tree.{HangsOn, IsTree, on}
 use Rattle.exb_network.specs.Arrivals.{IsPortAt}
-use Rattle.exb_network.specs.Sites.{limits_in}
+use Rattle.exb_bridge.specs.Sites.{limits_in}
+use Rattle.exb_network.specs.Worlds.{whole_of}
 use Rattle.exb_network.proofs.Stepped.{at_bridge, at_extender, hung, port_above}
 use Rattle.exb_network.proofs.stepping.take_up.Goals as goal
 
-pub take-requires-clause-hangs : goal.take-requires-clause-hangs
-take-requires-clause-hangs c =
+pub take-requires : goal.take-requires
+take-requires c =
     let t = c.args.site.now.tree in
     let n = c.args.number in
     let tree : IsTree t = subst IsTree c.tree.ensures c.is_tree.ensures in
     let is : c.place-bridge_port.result + 1 - 1 ≡ on t n = let a = c.on-port.ensures in let b = c.device.ensures.value in let z = c.if-device-eq0.true in let p = c.place-bridge_port.ensures.value in omega (arith, a, b, z, p) in
-    subst (HangsOn t n) (sym is) (hung t tree n c.requires.there)
+    let first : 1 ≤ c.place-bridge_port.result + 1 = search rules in
+    let last : c.place-bridge_port.result + 1 ≤ 64 = search rules in
+    (refl, (c.requires.at, (first, (last, (subst (HangsOn t n) (sym is) (hung t tree n c.requires.there), c.requires.asks)))))
 
 pub returns-then-device-eq0 : goal.returns-then-device-eq0
 returns-then-device-eq0 c =
@@ -21,7 +24,7 @@ returns-then-device-eq0 c =
     let is : c.place-bridge_port.result + 1 - 1 ≡ on t n = let a = c.on-port.ensures in let b = c.device.ensures.value in let z = c.if-device-eq0.true in let p = c.place-bridge_port.ensures.value in omega (arith, a, b, z, p) in
     let low : on t n < 64 = let a = c.on-port.ensures in let b = c.device.ensures.value in let z = c.if-device-eq0.true in omega (arith, a, b, z) in
     on_ok_weaker c.take.result (λ done.
-    at_bridge c.args.site.now (limits_in c.args.site.now) c.args.core.now c.take.new.core n (c.place-bridge_port.result + 1 - 1) c.args.word c.args.room.now.post.log c.take.new.room.post.log low is done) c.take.ensures
+    at_bridge c.args.site.now (limits_in c.args.site.now) (whole_of c.args.core.now) (whole_of c.take.new.core) n (c.place-bridge_port.result + 1 - 1) c.args.word c.args.room.now.post.log c.take.new.room.post.log low is done) c.take.ensures
 
 pub take_from_below-requires-clause-port : goal.take_from_below-requires-clause-port
 take_from_below-requires-clause-port c =
@@ -37,5 +40,5 @@ returns-else-device-eq0 c =
     let n = c.args.number in
     let deep : 64 ≤ on t n = let a = c.on-port.ensures in let b = c.device.ensures.value in let z = c.if-device-eq0.false in omega (arith, a, b, z) in
     on_ok_weaker c.take_from_below.result (λ done.
-    at_extender c.args.site.now (limits_in c.args.site.now) c.args.core.now c.take_from_below.new.core n c.on-port.result c.args.word c.args.room.now.post.log c.take_from_below.new.room.post.log deep c.on-port.ensures done)
+    at_extender c.args.site.now (limits_in c.args.site.now) (whole_of c.args.core.now) (whole_of c.take_from_below.new.core) n c.on-port.result c.args.word c.args.room.now.post.log c.take_from_below.new.room.post.log deep c.on-port.ensures done)
     c.take_from_below.ensures

@@ -1,5 +1,6 @@
 use Rattle.std.proofs.lemmas.Result.{on_ok_weaker}
 use Rattle.exb_boxes.specs.Devices.{far_of}
+use Rattle.exb_network.specs.Worlds.{whole_of}
 use Rattle.exb_network.proofs.Reacting.{reacted_only}
 use Rattle.exb_boxes.proofs.Sides.{only_goes}
 use Rattle.exb_network.proofs.taking.take.Goals as goal
@@ -12,6 +13,6 @@ pub returns-in-Some : goal.returns-in-Some
 returns-in-Some c =
     let s = c.args.site.now in
     on_ok_weaker c.pass_on.result
-    (reacted_only s.tree s c.args.core.now c.pass_on.new.core c.args.number c.args.word c.args.from c.in-Some.out c.args.room.now.post.log c.pass_on.new.post.log
+    (reacted_only s.tree s (whole_of c.args.core.now) (whole_of c.pass_on.new.core) c.args.number c.args.word c.args.from c.in-Some.out c.args.room.now.post.log c.pass_on.new.post.log
     (rw c.as_slice.ensures at c.in-Some.ensures))
     c.pass_on.ensures

@@ -1,12 +1,13 @@
 use Rattle.exb_extender.specs.Machine.{Arrives}
+use Rattle.exb_network.specs.Worlds.{whole_of}
 use Rattle.exb_network.proofs.Reacting.{reacted}
 use Rattle.exb_network.proofs.taking.take_whole.Goals as goal
 
 pub returns : goal.returns
 returns c =
     let s = c.args.site.now in
-    let core = c.args.core.now in
+    let core = (whole_of c.args.core.now) in
     let n = c.args.number in
     let word = c.args.word in
-    reacted s.tree s core c.send_all.new.core c.take.new.self n word.stamp (Arrives c.args.from word.bytes) word.bytes c.take.new.sends c.args.room.now.post.log c.send_all.new.post.log
+    reacted s.tree s core (whole_of c.send_all.new.core) c.take.new.self n word.stamp (Arrives c.args.from word.bytes) word.bytes c.take.new.sends c.args.room.now.post.log c.send_all.new.post.log
     (rw c.as_slice-frame.ensures at c.take.ensures.state) (rw c.as_slice-frame.ensures at c.take.ensures.sends) (rw c.as_slice-frame.ensures at c.in_ok-send_all.ensures)

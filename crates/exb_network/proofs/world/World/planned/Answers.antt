@@ -5,7 +5,7 @@ use Rattle.exb_changing.specs.Counting.{planned}
 use Rattle.exb_changing.specs.Deciding.{decide}
 use Rattle.exb_control.specs.Controls.{decide_of, state_of}
 use Rattle.exb_network.specs.Networks.{Network, bounds_of, tree_of, world_of}
-use Rattle.exb_network.specs.Sites.{limits_in}
+use Rattle.exb_bridge.specs.Sites.{limits_in}
 use Rattle.exb_network.proofs.Kept.{planned_at}
 use Rattle.exb_network.proofs.world.World.planned.Goals as goal
 

@@ -1,0 +1,41 @@
+-- What the bridge is given: seconds and commands.
+use Rattle.std.proofs.Common.{◌≡◌, ◌++◌, [], ◌∷◌, sym, ap, subst, ◌∙◌, ℕ}
+use Rattle.std.proofs.lemmas.List.{append-nil}
+use Rattle.exb_model.specs.declared.command.Command.{Command}
+use Rattle.exb_model.specs.declared.event.Event.TheVariants as event
+use Rattle.exb_model.specs.Setup.{Limits}
+use Rattle.exb_model.specs.Tree.{Shape}
+use Rattle.exb_control.specs.declared.outbox.Outbox.{Outbox}
+use Rattle.exb_changing.specs.Deciding.{decide}
+use Rattle.exb_changing.specs.Machine.{ordered}
+use Rattle.exb_control.specs.Boxes.{HasTicked, IsMoved}
+use Rattle.exb_control.specs.Controls.{Parts, decide_of, state_of}
+use Rattle.exb_machine.specs.Worlds.{Tick as Ticks}
+use Rattle.exb_machine.specs.Stepping.{done_by}
+use Rattle.exb_boxes.specs.declared.log.Log.{Log}
+use Rattle.exb_bridge.specs.Sites.{Site, limits_in}
+use Rattle.exb_bridge.specs.Worlds.{Whole, world_in, all_left, IsAt, Does, KeepsTrace}
+use Rattle.exb_bridge.proofs.Coming.{learned_world, learned_at}
+
+-- ---- seconds
+pub ticked : (s : Site) (l : Limits) (c : Whole) (p : Parts) (seconds : ℕ) (out : Outbox) (old new : Log) → HasTicked seconds c.control p out → IsAt s c →
+    new.events ≡ old.events ++ event.Tick seconds ∷ [] → new.passed ≡ old.passed → new.left ≡ old.left → KeepsTrace old new →
+    Does (done_by s.tree l (Ticks seconds) (world_in c)) s (record c { control = p }) old new
+ticked s l c p seconds out old new ticks is_at events passed left trace =
+    record {
+      world = learned_world s c p ticks.rest _ ticks.table;
+      events = events;
+      passed = passed ∙ sym (append-nil old.passed);
+      left = ap all_left left ∙ sym (append-nil (all_left old.left));
+      outs = trace.outs ∙ sym (append-nil old.outs.items);
+      lines = trace.lines;
+      tracing = trace.tracing;
+      at = learned_at s c p ticks.rest is_at;
+    }
+
+-- ---- commands
+pub ordered_at : (s : Site) (c : Whole) (command : Command) (p : Parts) (out : Outbox) → IsAt s c →
+    IsMoved (ordered (decide_of c.control.active) command (state_of c.control)) c.control p out → IsMoved (ordered (decide s.tree (limits_in s)) command (world_in c).control) c.control p out
+ordered_at s c command p out is_at moved =
+    subst (λ (l : Limits). IsMoved (ordered (decide s.tree l) command (state_of c.control)) c.control p out) is_at.limits
+    (subst (λ (t : Shape). IsMoved (ordered (decide t c.control.active.limits) command (state_of c.control)) c.control p out) is_at.shape moved)

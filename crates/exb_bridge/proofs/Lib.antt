@@ -1,0 +1,16 @@
+pub mod Doing
+pub mod BridgeSends
+pub mod Fields
+pub mod Coming
+pub mod Relayed
+pub mod ToExtenders
+pub mod Hearings
+pub mod Loops
+pub mod Hanging
+pub mod Deepest
+pub mod Placing
+pub mod Cores
+pub mod Again
+pub mod Moving
+pub mod Beats
+pub mod Given

@@ -1,0 +1,4 @@
+pub mod Sites
+pub mod Worlds
+pub mod Leading
+pub mod Sends

@@ -1,0 +1,53 @@
+-- What the bridge sends for a frame.
+use Rattle.std.specs.Prelude.{◌≡◌, ℕ, ◌≤◌, ◌<◌, ◌++◌, Bool, true, false, List, [], ◌∷◌, IfSome}
+use Rattle.exb_model.specs.Configuration.{Bridge}
+use Rattle.exb_model.specs.ETags.{TagFits}
+use Rattle.exb_model.specs.EagerHistory.{is_relayed, arrival_event}
+use Rattle.exb_model.specs.declared.arrival.Arrival.{Arrival}
+use Rattle.exb_model.specs.Learning.{passes}
+use Rattle.exb_model.specs.Tree.{Shape}
+use Rattle.exb_model.specs.Frames.{kind_of, priority_of}
+use Rattle.exb_frame.specs.declared.egress.VlanTag.{VlanTag}
+use Rattle.exb_frame.specs.Egress.{can_leave, priority}
+use Rattle.exb_frame.specs.TagValues.{tag_of}
+use Rattle.exb_relay.specs.declared.send.Ingress.{Ingress}
+use Rattle.exb_relay.specs.declared.send.Ingress.TheVariants as ingress
+use Rattle.exb_relay.specs.declared.send.SendTo.{SendTo}
+use Rattle.exb_machine.specs.Controls.{taught}
+use Rattle.exb_machine.specs.Effects.{Effect, only, then_do}
+use Rattle.exb_machine.specs.Relaying.{passed_by, sends_all, sends_for}
+use Rattle.exb_machine.specs.Worlds.{World, with_table}
+use Rattle.exb_boxes.specs.declared.log.Log.{Log}
+use Rattle.exb_bridge.specs.Worlds.{KeepsTrace}
+
+-- it is at a port of the bridge, and its E-TAG, if it has one, can be written
+pub record CanSend (x : SendTo) : Type 0 where
+  pub first : 1 ≤ x.bridge_port
+  pub last : x.bridge_port ≤ 64
+  pub fits : IfSome x.tag (λ tag. TagFits (tag_of tag))
+
+-- the frame may leave, and has the priority of this VLAN tag
+pub record HasPassed (f : List ℕ) (tag : VlanTag) : Type 0 where
+  pub kind : can_leave (kind_of f) ≡ true
+  pub pcp : tag.pcp < 8
+  pub own : priority tag.pcp tag.dei ≡ priority_of (kind_of f)
+
+-- whether it passed at its port
+abbrev pub is_passed : Ingress → Bool
+is_passed (ingress.Passed v pcp dei) = true
+is_passed ingress.Dropped = false
+
+-- A frame that came is learned from, and nothing is told of it yet.
+abbrev pub learns : Arrival → World → Effect
+learns a w = only (with_table (taught w.control.bridge a w.table) w)
+
+-- It is learned from, and what is sent for it goes out: all that is done for it but that it is told.
+abbrev pub sent_for : Shape → Arrival → World → Effect
+sent_for t a w = then_do (learns a w) (sends_all t a (sends_for t w a) (passes w.control.bridge a.port a.bytes))
+
+-- What became of a frame that came is told, and whether it passed if it was relayed. Nothing else is.
+pub record HasTold (b : Bridge) (a : Arrival) (old new : Log) : Type 0 where
+  pub events : new.events ≡ old.events ++ arrival_event b a ∷ []
+  pub passed : new.passed ≡ old.passed ++ passed_by (is_relayed b a.port a.bytes) (passes b a.port a.bytes)
+  pub left : new.left ≡ old.left
+  pub trace : KeepsTrace old new

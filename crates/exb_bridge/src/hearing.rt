@@ -1,0 +1,158 @@
+//! What the bridge hears from its extenders: announcements (LLDP, IEEE 802.1AB), acknowledgements and requests (ECP), and
+//! the answers that these carry.
+ghost use Rattle.std.specs.Prelude.{◌≡◌, ℕ, List, true, OnOk, Ok};
+ghost use Rattle.exb_ecp.specs.Frames.{pdu_in};
+ghost use Rattle.exb_model.specs.Tree.{is_extender};
+ghost use Rattle.exb_machine.specs.Hearing.{hears, hears_frame, hears_message, hears_pdu, hears_request, stops};
+ghost use Rattle.exb_machine.specs.Worlds.{World};
+ghost use Rattle.exb_machine.specs.Runs.Asks.{AsksWell};
+ghost use Rattle.exb_boxes.specs.Ends.{near_of};
+ghost use Rattle.exb_boxes.specs.Numbers.{IsNumber};
+ghost use Rattle.exb_bridge.specs.Sites.{limits_in};
+ghost use Rattle.exb_bridge.specs.Worlds.{Rest, whole, world_in, IsAt, Does};
+
+use crate::asking::{follow, send_to_extender, spell_acknowledgement};
+use crate::bridge::Bridge;
+use crate::room::Room;
+use crate::site::Site;
+use exb_boxes::Ends;
+use exb_control::Taken;
+use exb_csp::Message;
+use exb_lldp::Announce;
+use exb_model::memory::NoMemory;
+
+/// An announcement of an extender.
+fn hear_announcement(
+    site: &Site,
+    number: u8,
+    announce: &Announce,
+    room: &mut Room,
+    bridge: &mut Bridge,
+) -> Result<(), NoMemory>
+    ghost rest: { Rest }
+    requires at { IsAt site.now (whole rest bridge.old) }
+    requires there { is_extender site.now.tree number ≡ true }
+    requires asks { AsksWell site.now.tree (limits_in site.now) (world_in (whole rest bridge.old)).control }
+    ensures { OnOk result ((f : List ℕ) → Does (hears_frame site.now.tree (limits_in site.now) number (Ok announce.now) f (world_in (whole rest bridge.old))) site.now (whole rest bridge.new) room.old.post.log room.new.post.log) }
+{
+    if bridge
+        .control
+        .heard(number, announce, &mut room.outbox)
+        .is_err()
+    {
+        return Err(NoMemory);
+    }
+    follow(site, room, bridge)
+}
+
+/// An answer that is taken ends the sending of its request.
+fn stop_answered(taken: &Taken, number: u8, near: &mut Ends)
+    requires { IsNumber number }
+    ensures { (w : World) → w.near ≡ near_of near.old → stops taken.now number w ≡ record w { near = near_of near.new } }
+{
+    match taken {
+        Taken::Answer { .. } => near.stop(number),
+        Taken::Stale => {}
+        Taken::NotOurs => {}
+    }
+}
+
+/// A message of an extender. An answer that is taken ends the sending of its request.
+fn hear_message(
+    site: &Site,
+    number: u8,
+    message: &Message,
+    room: &mut Room,
+    bridge: &mut Bridge,
+) -> Result<(), NoMemory>
+    ghost rest: { Rest }
+    requires at { IsAt site.now (whole rest bridge.old) }
+    requires there { is_extender site.now.tree number ≡ true }
+    requires asks { AsksWell site.now.tree (limits_in site.now) (world_in (whole rest bridge.old)).control }
+    ensures { OnOk result (Does (hears_message site.now.tree (limits_in site.now) number (Ok message.now) (world_in (whole rest bridge.old))) site.now (whole rest bridge.new) room.old.post.log room.new.post.log) }
+{
+    site.has_low_number(number);
+    let Ok(taken) = bridge.control.answered(number, message, &mut room.outbox) else {
+        return Err(NoMemory);
+    };
+    stop_answered(&taken, number, &mut bridge.near);
+    follow(site, room, bridge)
+}
+
+/// A request of an extender over the transport: it is acknowledged first; where its sequence differs from the last received
+/// its payload is taken.
+fn hear_request(
+    site: &Site,
+    number: u8,
+    sequence: u16,
+    payload: &[u8],
+    room: &mut Room,
+    bridge: &mut Bridge,
+) -> Result<(), NoMemory>
+    ghost rest: { Rest }
+    requires at { IsAt site.now (whole rest bridge.old) }
+    requires there { is_extender site.now.tree number ≡ true }
+    requires asks { AsksWell site.now.tree (limits_in site.now) (world_in (whole rest bridge.old)).control }
+    ensures { OnOk result (Does (hears_request site.now.tree (limits_in site.now) number sequence payload.now (world_in (whole rest bridge.old))) site.now (whole rest bridge.new) room.old.post.log room.new.post.log) }
+{
+    site.has_low_number(number);
+    spell_acknowledgement(sequence, &mut room.buffers.control);
+    let frame = room.buffers.control.as_slice();
+    send_to_extender(site, number, frame, bridge, &mut room.post)?;
+    if !bridge.near.received(number, sequence) {
+        return Ok(());
+    }
+    match exb_csp::read(payload) {
+        Ok(message) => hear_message(site, number, &message, room, bridge),
+        Err(_) => Ok(()),
+    }
+}
+
+/// A control frame of an extender that is no announcement.
+fn hear_pdu(
+    site: &Site,
+    number: u8,
+    frame: &[u8],
+    room: &mut Room,
+    bridge: &mut Bridge,
+) -> Result<(), NoMemory>
+    ghost rest: { Rest }
+    requires at { IsAt site.now (whole rest bridge.old) }
+    requires there { is_extender site.now.tree number ≡ true }
+    requires asks { AsksWell site.now.tree (limits_in site.now) (world_in (whole rest bridge.old)).control }
+    ensures { OnOk result (Does (hears_pdu site.now.tree (limits_in site.now) number (pdu_in frame.now) frame.now (world_in (whole rest bridge.old))) site.now (whole rest bridge.new) room.old.post.log room.new.post.log) }
+{
+    site.has_low_number(number);
+    let Ok(pdu) = exb_ecp::read(frame) else {
+        return Ok(());
+    };
+    if pdu.subtype != 2 {
+        return Ok(());
+    }
+    if pdu.acknowledgement {
+        bridge.near.acked(number, pdu.sequence);
+        return Ok(());
+    }
+    hear_request(site, number, pdu.sequence, &frame[18..], room, bridge)
+}
+
+/// A control frame of an extender, without an E-TAG.
+#[tactic(auto, unfolding(exb_machine::specs::Hearing::hears))]
+pub(crate) fn hear(
+    site: &Site,
+    number: u8,
+    frame: &[u8],
+    room: &mut Room,
+    bridge: &mut Bridge,
+) -> Result<(), NoMemory>
+    ghost rest: { Rest }
+    requires at { IsAt site.now (whole rest bridge.old) }
+    requires there { is_extender site.now.tree number ≡ true }
+    requires asks { AsksWell site.now.tree (limits_in site.now) (world_in (whole rest bridge.old)).control }
+    ensures { OnOk result (Does (hears site.now.tree (limits_in site.now) number frame.now (world_in (whole rest bridge.old))) site.now (whole rest bridge.new) room.old.post.log room.new.post.log) }
+{
+    match exb_lldp::read(frame) {
+        Ok(announce) => hear_announcement(site, number, &announce, room, bridge),
+        Err(_) => hear_pdu(site, number, frame, room, bridge),
+    }
+}

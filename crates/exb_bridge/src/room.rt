@@ -1,0 +1,57 @@
+//! What is lent to every step of a network.
+ghost use Rattle.std.specs.Prelude.{◌≡◌, []};
+
+use exb_boxes::{Log, Post, Store};
+use exb_control::Outbox;
+use exb_extender::Sends;
+use exb_model::buffers::ControlBuf;
+use exb_model::command::Command;
+use std::alloc::Global;
+use std::marker::PhantomData;
+
+/// Where messages and frames are written; nothing in it is kept from step to step.
+#[derive(Drop)]
+pub struct Buffers {
+    /// A message.
+    pub message: ControlBuf,
+    /// A control frame.
+    pub control: ControlBuf,
+}
+
+/// What is lent to every step: where calls write what they give, which each call replaces, and what has happened.
+#[derive(Drop)]
+pub struct Room {
+    /// What a call of the control gives.
+    pub outbox: Outbox,
+    /// What an extender sends.
+    pub sends: Sends,
+    pub buffers: Buffers,
+    pub post: Post,
+    /// Names the type of commands, for functions that make a step.
+    pub commands: PhantomData<Command>,
+}
+
+impl Room {
+    pub fn new(alloc: Global, tracing: bool) -> Room
+        ensures events { result.post.log.events ≡ [] }
+        ensures passed { result.post.log.passed ≡ [] }
+        ensures left { result.post.log.left ≡ [] }
+        ensures lines { result.post.log.lines ≡ [] }
+        ensures tracing { result.post.log.tracing ≡ tracing }
+    {
+        Room {
+            outbox: Outbox::new(alloc),
+            sends: Sends::new(),
+            buffers: Buffers {
+                message: ControlBuf::new(),
+                control: ControlBuf::new(),
+            },
+            post: Post {
+                alloc,
+                store: Store::new(alloc),
+                log: Log::new(alloc, tracing),
+            },
+            commands: PhantomData,
+        }
+    }
+}

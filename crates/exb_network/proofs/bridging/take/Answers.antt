@@ -1,0 +1,20 @@
+use Rattle.std.proofs.Common.{sym, subst}
+use Rattle.std.specs.Prelude.{OnOk}
+use Rattle.std.specs.Prelude.{◌-◌}
+use Rattle.exb_machine.specs.Relaying.{bridge_takes}
+use Rattle.exb_machine.specs.Runs.Asks.{AsksWell}
+use Rattle.exb_bridge.specs.Sites.{limits_in}
+use Rattle.exb_bridge.specs.Worlds.{Rest, whole, world_in, IsAt, Does}
+use Rattle.exb_network.proofs.bridging.take.Goals as goal
+
+pub take-requires : goal.take-requires
+take-requires g c = (
+  subst (λ (r : Rest). IsAt c.args.site.now (whole r c.args.core.now.bridge)) (sym c.requires.0) c.requires.1.0,
+  (c.requires.1.1.0, (c.requires.1.1.1.0, (c.requires.1.1.1.1.0, subst (λ (r : Rest). AsksWell c.args.site.now.tree (limits_in c.args.site.now) (world_in (whole r c.args.core.now.bridge)).control) (sym c.requires.0) c.requires.1.1.1.1.1))),
+)
+
+pub returns : goal.returns
+returns g c =
+    let s = c.args.site.now in
+    let bridge = c.args.core.now.bridge in
+    subst (λ (r : Rest). OnOk c.take.result (Does (bridge_takes s.tree (limits_in s) (c.args.bridge_port - 1) c.args.below c.args.word (world_in (whole r bridge))) s (whole r c.take.new.bridge) c.args.room.now.post.log c.take.new.room.post.log)) c.requires.0 c.take.ensures

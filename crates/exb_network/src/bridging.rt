@@ -1,0 +1,120 @@
+//! What the bridge does in a network: it touches its own parts alone, so the rest stays as it is.
+ghost use Rattle.std.specs.Prelude.{◌≡◌, ◌-◌, ◌<◌, ◌≤◌, ◌+◌, ◌^◌, true, OnOk};
+ghost use Rattle.exb_model.specs.Setup.{NamesExternal};
+ghost use Rattle.exb_model.specs.Tree.{HangsOn, is_external};
+ghost use Rattle.exb_machine.specs.Effects.{each};
+ghost use Rattle.exb_machine.specs.Hearing.{beats_control, beats_near};
+ghost use Rattle.exb_machine.specs.Relaying.{bridge_takes, comes};
+ghost use Rattle.exb_machine.specs.Runs.Asks.{AsksWell};
+ghost use Rattle.exb_machine.specs.Stepping.{all_extenders, done_by, if_there};
+ghost use Rattle.exb_machine.specs.Worlds.{Order, Tick};
+ghost use Rattle.exb_bridge.specs.Sites.{limits_in};
+ghost use Rattle.exb_bridge.specs.Worlds.{Rest};
+ghost use Rattle.exb_network.specs.Worlds.{rest_of, world_in, IsAt, Does};
+
+use crate::site::Core;
+use exb_bridge::{Room, Site};
+use exb_link::Word;
+use exb_model::arrival::Arrival;
+use exb_model::command::Command;
+use exb_model::memory::NoMemory;
+
+/// A frame comes to the bridge.
+#[inline(always)]
+pub(crate) fn come(
+    site: &Site,
+    arrival: &Arrival,
+    room: &mut Room,
+    core: &mut Core,
+) -> Result<(), NoMemory>
+    ghost rest: { Rest }
+    requires own { rest ≡ rest_of core.old }
+    requires at { IsAt site.now core.old }
+    requires external { is_external site.now.tree arrival.now.port ≡ true }
+    ensures { OnOk result (Does (comes site.now.tree arrival.now (world_in core.old)) site.now core.new room.old.post.log room.new.post.log) }
+{
+    exb_bridge::come(site, arrival, room, &mut core.bridge)
+}
+
+/// The bridge takes a word at its port on which an extender hangs.
+#[inline(always)]
+pub(crate) fn take(
+    site: &Site,
+    bridge_port: u8,
+    below: u8,
+    word: Word,
+    room: &mut Room,
+    core: &mut Core,
+) -> Result<(), NoMemory>
+    ghost rest: { Rest }
+    requires own { rest ≡ rest_of core.old }
+    requires at { IsAt site.now core.old }
+    requires from1 { 1 ≤ bridge_port }
+    requires to64 { bridge_port ≤ 64 }
+    requires hangs { HangsOn site.now.tree below (bridge_port - 1) }
+    requires asks { AsksWell site.now.tree (limits_in site.now) (world_in core.old).control }
+    ensures { OnOk result (Does (bridge_takes site.now.tree (limits_in site.now) (bridge_port - 1) below word (world_in core.old)) site.now core.new room.old.post.log room.new.post.log) }
+{
+    exb_bridge::take(site, bridge_port, below, word, room, &mut core.bridge)
+}
+
+/// The bridge's ends count a beat.
+#[inline(always)]
+pub(crate) fn beat_ends(site: &Site, room: &mut Room, core: &mut Core) -> Result<(), NoMemory>
+    ghost rest: { Rest }
+    requires own { rest ≡ rest_of core.old }
+    requires at { IsAt site.now core.old }
+    ensures { OnOk result (Does (each (if_there site.now.tree (beats_near site.now.tree)) all_extenders (world_in core.old)) site.now core.new room.old.post.log room.new.post.log) }
+{
+    exb_bridge::beat_ends(site, &mut room.buffers, &mut core.bridge, &mut room.post)
+}
+
+/// The bridge's control counts a beat.
+#[inline(always)]
+pub(crate) fn beat_control(site: &Site, room: &mut Room, core: &mut Core) -> Result<(), NoMemory>
+    ghost rest: { Rest }
+    requires own { rest ≡ rest_of core.old }
+    requires at { IsAt site.now core.old }
+    requires asks { AsksWell site.now.tree (limits_in site.now) (world_in core.old).control }
+    ensures { OnOk result (Does (beats_control site.now.tree (world_in core.old)) site.now core.new room.old.post.log room.new.post.log) }
+{
+    exb_bridge::beat_control(site, room, &mut core.bridge)
+}
+
+/// The clock goes on.
+#[cold]
+#[inline(never)]
+pub(crate) fn tick(
+    site: &Site,
+    seconds: u32,
+    room: &mut Room,
+    core: &mut Core,
+) -> Result<(), NoMemory>
+    ghost rest: { Rest }
+    requires own { rest ≡ rest_of core.old }
+    requires at { IsAt site.now core.old }
+    requires clock { (world_in core.old).table.clock + seconds < 2 ^ 63 }
+    ensures { OnOk result (Does (done_by site.now.tree (limits_in site.now) (Tick seconds) (world_in core.old)) site.now core.new room.old.post.log room.new.post.log) }
+{
+    exb_bridge::tick(site, seconds, room, &mut core.bridge)
+}
+
+/// A command is given.
+#[cold]
+#[inline(never)]
+pub(crate) fn order(
+    site: &Site,
+    command: &Command,
+    room: &mut Room,
+    core: &mut Core,
+) -> Result<(), NoMemory>
+    ghost rest: { Rest }
+    requires own { rest ≡ rest_of core.old }
+    requires at { IsAt site.now core.old }
+    requires names { NamesExternal site.now.tree command.now }
+    requires few { (world_in core.old).control.given < 65536 }
+    requires asks { AsksWell site.now.tree (limits_in site.now) (world_in core.old).control }
+    ensures { OnOk result (Does (done_by site.now.tree (limits_in site.now) (Order command.now) (world_in core.old)) site.now core.new room.old.post.log room.new.post.log) }
+{
+    exb_bridge::order(site, command, room, &mut core.bridge)
+}
