@@ -3,7 +3,6 @@ ghost use Rattle.std.specs.Prelude.{All, ◌≡◌, ◌≢◌, ◌∷◌, [], �
 ghost use Rattle.exb_machine.specs.Allowing.{Can};
 ghost use Rattle.exb_machine.specs.Worlds.{Arrive, Order, Tick};
 ghost use Rattle.exb_network.specs.Networks.{tree_of, world_of};
-ghost use Rattle.exb_schedule.specs.Playing.{arrived};
 ghost use Rattle.exb_schedule.specs.Worlds.{fate_in, network_of};
 ghost use Rattle.exb_nets.specs.Nets.{Net as Wired, IsNet, is_wired};
 ghost use Rattle.exb_wiring.specs.Playing.{Dones};
@@ -17,10 +16,11 @@ use crate::making::make_all;
 use crate::marks::Marks;
 use crate::node::{Node, enter, forget, let_come, let_pass, open_one, order};
 use exb_fate::Fate;
+use exb_model::arrival::Arrival;
 use exb_model::memory::NoMemory;
 use exb_model::setup::Timed;
 use exb_nets::wires::NetSetup;
-use exb_schedule::{Arrival, World, WorldFault};
+use exb_schedule::{World, WorldFault};
 use exb_wiring::laws::{bridges_handle, deliveries_end_soon, opened_nets_run, seconds_pass};
 use std::alloc::Global;
 use std::collections::VecDeque;
@@ -139,10 +139,10 @@ fn begin(
     bridge: u8,
     arrival: &Arrival,
 ) -> Result<(), NoMemory>
-    requires can { (n : Wired) × ((s : Dones) × ((told : Dones) × IsComing n bridge (arrived arrival.now) s told nodes.old.items queue.old.items)) }
+    requires can { (n : Wired) × ((s : Dones) × ((told : Dones) × IsComing n bridge arrival.now s told nodes.old.items queue.old.items)) }
     requires few { All (λ x. left (fate_in x.world) < 2 ^ 57) nodes.old.items }
-    ensures ok { OnOk result ((n : Wired) (s told : Dones) → IsComing n bridge (arrived arrival.now) s told nodes.old.items queue.old.items
-        → Begins n bridge (arrived arrival.now) s told nodes.new.items queue.new.items) }
+    ensures ok { OnOk result ((n : Wired) (s told : Dones) → IsComing n bridge arrival.now s told nodes.old.items queue.old.items
+        → Begins n bridge arrival.now s told nodes.new.items queue.new.items) }
     ensures others { (b : ℕ) → b ≢ bridge → slice_get nodes.new.items b ≡ slice_get nodes.old.items b }
     ensures fates { OnOk result (AreEach (λ b x y. left (fate_in y.world) ≤ left (fate_in x.world)) nodes.old.items nodes.new.items) }
 {
@@ -159,10 +159,10 @@ fn play_arrival(
     bridge: u8,
     arrival: &Arrival,
 ) -> Result<Marks, NoMemory>
-    requires can { (n : Wired) × ((s : Dones) × ((told : Dones) × (IsComing n bridge (arrived arrival.now) s told nodes.old.items queue.old.items × (wires ≡ length n.wires)))) }
+    requires can { (n : Wired) × ((s : Dones) × ((told : Dones) × (IsComing n bridge arrival.now s told nodes.old.items queue.old.items × (wires ≡ length n.wires)))) }
     requires few { All (λ x. left (fate_in x.world) < 2 ^ 57) nodes.old.items }
-    ensures ok { OnOk result ((n : Wired) (s told : Dones) → IsComing n bridge (arrived arrival.now) s told nodes.old.items queue.old.items → wires ≡ length n.wires
-        → HasPlayed n bridge (arrived arrival.now) s told nodes.new.items queue.new.items) }
+    ensures ok { OnOk result ((n : Wired) (s told : Dones) → IsComing n bridge arrival.now s told nodes.old.items queue.old.items → wires ≡ length n.wires
+        → HasPlayed n bridge arrival.now s told nodes.new.items queue.new.items) }
     ensures others { IfOk result (λ touched. AreSameBut touched nodes.old.items nodes.new.items) }
     ensures fates { OnOk result (AreEach (λ b x y. left (fate_in y.world) ≤ left (fate_in x.world)) nodes.old.items nodes.new.items) }
 {
@@ -260,10 +260,10 @@ impl Net {
     pub fn arrive(&mut self, bridge: u8, arrival: &Arrival) -> Result<(), WorldFault>
         requires opened { self.old.failed ≡ false → (n : Wired) × ((s : Dones) × ((told : Dones) × (IsPlaying n s told self.old × (is_wired n.wires bridge arrival.now.port ≡ false)))) }
         requires here { bridge < length self.old.nodes.items }
-        requires can { (x : _) → slice_get self.old.nodes.items bridge ≡ Some x → Can (tree_of (network_of x.world)) (world_of (network_of x.world)) (Arrive (arrived arrival.now)) }
+        requires can { (x : _) → slice_get self.old.nodes.items bridge ≡ Some x → Can (tree_of (network_of x.world)) (world_of (network_of x.world)) (Arrive arrival.now) }
         requires few { self.old.came < 2 ^ 62 }
         requires fates { All (λ x. left (fate_in x.world) < 2 ^ 57) self.old.nodes.items }
-        ensures ok { OnOk result ((n : Wired) (s told : Dones) → IsPlaying n s told self.old → is_wired n.wires bridge arrival.now.port ≡ false → Handled n bridge (Arrive (arrived arrival.now)) s told self.new) }
+        ensures ok { OnOk result ((n : Wired) (s told : Dones) → IsPlaying n s told self.old → is_wired n.wires bridge arrival.now.port ≡ false → Handled n bridge (Arrive arrival.now) s told self.new) }
         ensures failed { (result ≡ Err WorldFault.Failed) ↔ (self.old.failed ≡ true) }
         ensures memory { OnErr result (self.new.failed ≡ true) }
         ensures came { OnOk result (self.new.came ≡ self.old.came + 1) }

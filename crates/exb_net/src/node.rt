@@ -7,7 +7,6 @@ ghost use Rattle.exb_machine.specs.Worlds.{Arrive, Order, Tick};
 ghost use Rattle.exb_motion.specs.Kept.{HasVid};
 ghost use Rattle.exb_motion.specs.Runs.Settles.{beginning};
 ghost use Rattle.exb_network.specs.Networks.{bounds_of, tree_of, world_of, IsQuiet};
-ghost use Rattle.exb_schedule.specs.Playing.{arrived};
 ghost use Rattle.exb_schedule.specs.Segments.{IsPlayedOut};
 ghost use Rattle.exb_schedule.specs.Worlds.{fate_in, network_of};
 ghost use Rattle.exb_net.specs.Ends.{ends_over, next_in, with_next};
@@ -16,10 +15,11 @@ ghost use Rattle.exb_net.specs.Nodes.{HasDone, HasEntered, HasForgotten, HasPass
 use crate::crossing::{Crossing, send};
 use crate::ends::{WiredEnd, ends_of, next_at, set_next};
 use exb_fate::Fate;
+use exb_model::arrival::Arrival;
 use exb_model::memory::NoMemory;
 use exb_model::setup::{Setup, Timed};
 use exb_nets::wires::Wire;
-use exb_schedule::{Arrival, Step, World, WorldFault, count_left, eager};
+use exb_schedule::{Step, World, WorldFault, count_left, eager};
 use std::alloc::Global;
 use std::collections::VecDeque;
 use std::marker::PhantomData;
@@ -71,9 +71,9 @@ impl Node {
 
 /// A frame arrives at a bridge, which settles and is marked.
 fn take_in(node: &mut Node, arrival: &Arrival) -> Result<(), NoMemory>
-    requires can { Can (tree_of (network_of node.old.world)) (world_of (network_of node.old.world)) (Arrive (arrived arrival.now)) }
+    requires can { Can (tree_of (network_of node.old.world)) (world_of (network_of node.old.world)) (Arrive arrival.now) }
     requires few { left (fate_in node.old.world) < 2 ^ 57 }
-    ensures ok { OnOk result (IsPlayedOut (Arrive (arrived arrival.now) ∷ []) (network_of node.old.world) (network_of node.new.world)) }
+    ensures ok { OnOk result (IsPlayedOut (Arrive arrival.now ∷ []) (network_of node.old.world) (network_of node.new.world)) }
     ensures ends { node.new.ends ≡ node.old.ends }
     ensures fate { left (fate_in node.new.world) ≤ left (fate_in node.old.world) }
 {
@@ -126,9 +126,9 @@ pub fn enter(
     arrival: &Arrival,
     queue: &mut VecDeque<Crossing>,
 ) -> Result<(), NoMemory>
-    requires can { Can (tree_of (network_of node.old.world)) (world_of (network_of node.old.world)) (Arrive (arrived arrival.now)) }
+    requires can { Can (tree_of (network_of node.old.world)) (world_of (network_of node.old.world)) (Arrive arrival.now) }
     requires few { left (fate_in node.old.world) < 2 ^ 57 }
-    ensures ok { OnOk result (HasEntered (arrived arrival.now) node.old.ends.items (network_of node.old.world) (network_of node.new.world) queue.old.items queue.new.items) }
+    ensures ok { OnOk result (HasEntered arrival.now node.old.ends.items (network_of node.old.world) (network_of node.new.world) queue.old.items queue.new.items) }
     ensures ends { node.new.ends ≡ node.old.ends }
     ensures fate { left (fate_in node.new.world) ≤ left (fate_in node.old.world) }
 {

@@ -3,11 +3,11 @@ use Rattle.std.proofs.Common.{◌≡◌, ◌≢◌, ℕ, zero, suc, ◌+◌, ◌
 use Rattle.std.specs.Prelude.{IsPermutation, if◌then◌else◌, Result, Ok, Err, OnOk}
 use Rattle.std.proofs.lemmas.Bool.{cases_Bool, cases_eq, eq-eqb, eqb-true, ne_eqb, false≢true}
 use Rattle.std.proofs.lemmas.List.{drop_all, drop_more, length-replicate, length-set}
-use Rattle.std.proofs.lemmas.List.Sorted.{IsPermutation-refl, IsPermutation-trans, IsPermutation-sym, IsPermutation-middle, IsPermutation-append_right, IsPermutation-map}
+use Rattle.std.proofs.lemmas.List.Sorted.{IsPermutation-refl, IsPermutation-trans, IsPermutation-sym, IsPermutation-middle, IsPermutation-append_right}
 use Rattle.exb_model.specs.declared.command.Command.{Command}
 use Rattle.exb_model.specs.declared.setup.Timed.{Timed}
 use Rattle.exb_model.specs.Input.{Input, Segment, Seeded}
-use Rattle.exb_model.specs.Input.{Arrival as Arrived}
+use Rattle.exb_model.specs.declared.arrival.Arrival.{Arrival}
 use Rattle.exb_model.specs.Setup.{Limits}
 use Rattle.exb_model.specs.Tree.{Shape}
 use Rattle.exb_machine.specs.Allowing.{Can}
@@ -22,9 +22,8 @@ use Rattle.exb_motion.specs.Playing.{seconds_by, seconds_in, IsUnmarked}
 use Rattle.exb_network.specs.Networks.{Network, world_of, tree_of, bounds_of, IsStepped}
 use Rattle.exb_network.specs.Sites.{Site}
 use Rattle.exb_motion.specs.Runs.Settles.{MayTake}
-use Rattle.exb_schedule.specs.declared.segment.Arrival.{Arrival}
 use Rattle.exb_schedule.specs.Drawing.{left_of, seconds_of, MayCome, MayComeAll, MayOrderAll, IsReady, HasDrawn, Keeps}
-use Rattle.exb_schedule.specs.Playing.{arrived, arrive, gives, orders, CanAll, CanFrom, IsSegment}
+use Rattle.exb_schedule.specs.Playing.{arrive, gives, orders, CanAll, CanFrom, IsSegment}
 use Rattle.exb_schedule.specs.Segments.{GivesThese}
 use Rattle.exb_schedule.proofs.Leading.{run_nothing, run_step, run_steps}
 use Rattle.exb_schedule.proofs.Playing.{moves_give_nothing}
@@ -156,7 +155,7 @@ module _ (t : Shape) (l : Limits) where
   can_come [] w next same can = tt
   can_come (a ∷ frames) w next same can = (
     record { external = can.0.external; index = can.0.next ∙ same a.port; few = can.0.few; short = can.0.short },
-    can_come frames (stepped t l (Arrive (arrived a)) w).world (bumped a.port next) (λ p. (arrival_stays t l (arrived a) w).awaits p ∙ sym (bumped_same w.next next a.port (λ r. sym (same r)) p)) can.1,
+    can_come frames (stepped t l (Arrive a) w).world (bumped a.port next) (λ p. (arrival_stays t l a w).awaits p ∙ sym (bumped_same w.next next a.port (λ r. sym (same r)) p)) can.1,
   )
 
   can_order : (cs : List Timed) (frames : List Arrival) (w : World) (next : ℕ → ℕ) (given : ℕ) → ((p : ℕ) → w.next p ≡ next p) → w.control.given ≡ given → CanFrom t l w (orders cs ++ arrive frames) →
@@ -190,7 +189,7 @@ drawn_first seconds cs frames n now is can =
       made = run_nothing now;
       time = refl;
       commands = refl;
-      arrivals = subst (λ (zs : List Arrival). IsPermutation (map arrived zs) (map arrived frames)) (sym all) (IsPermutation-refl (map arrived frames));
+      arrivals = subst (λ (zs : List Arrival). IsPermutation zs frames) (sym all) (IsPermutation-refl frames);
       unmarked = tt;
       whole = whole;
       ready = record { time = k.0; orders = k.1.0; comes = subst (MayComeAll (tree_of now) (world_of now).next) (sym all) k.1.1 };
@@ -212,7 +211,7 @@ commands_then (Told c ∷ xs) ys = ap (λ (g : List Command). c ∷ g) (commands
 
 arrivals_then : (xs ys : List Given) → arrivals_of (xs ++ ys) ≡ arrivals_of xs ++ arrivals_of ys
 arrivals_then [] ys = refl
-arrivals_then (Came a ∷ xs) ys = ap (λ (g : List Arrived). a ∷ g) (arrivals_then xs ys)
+arrivals_then (Came a ∷ xs) ys = ap (λ (g : List Arrival). a ∷ g) (arrivals_then xs ys)
 arrivals_then (Told c ∷ xs) ys = arrivals_then xs ys
 
 unmarked_then : (xs ys : List Step) → Each IsUnmarked xs → Each IsUnmarked ys → Each IsUnmarked (xs ++ ys)
@@ -235,16 +234,16 @@ module _ (all : ℕ) (cs : List Timed) (frames : List Arrival) (seconds taken : 
   -- a step that gives this, and what is left then
   longer : (step : Step) (left more : ℕ) (flags : List Bool) → IsStepped step now new → MayTake (tree_of now) (world_of now) step → IsUnmarked step → length flags ≡ length frames → seconds_by step ++ seconds_of left ≡ seconds_of seconds →
       commands_of (given_by step) ++ map (λ (c : Timed). c.command) (drop more cs) ≡ map (λ (c : Timed). c.command) (drop taken cs) →
-      IsPermutation (arrivals_of (given_by step) ++ map arrived (left_of flags frames)) (map arrived (left_of given frames)) → IsReady new left (drop more cs) (left_of flags frames) →
+      IsPermutation (arrivals_of (given_by step) ++ left_of flags frames) (left_of given frames) → IsReady new left (drop more cs) (left_of flags frames) →
       HasDrawn all cs frames left more flags old new
   longer step left more flags x may unmarked whole time commands arrivals ready =
       let one : List Step = step ∷ [] in
       let given_is : given_in (k.steps ++ step ∷ []) ≡ given_in k.steps ++ given_by step = given_then k.steps (step ∷ []) ∙ ap (λ (g : List Given). given_in k.steps ++ g) (append-nil (given_by step)) in
       let seconds_is : seconds_in (k.steps ++ step ∷ []) ≡ seconds_in k.steps ++ seconds_by step = seconds_then k.steps (step ∷ []) ∙ ap (λ (g : List ℕ). seconds_in k.steps ++ g) (append-nil (seconds_by step)) in
       let told : List Command = map (λ (c : Timed). c.command) (drop more cs) in
-      let came : List Arrived = map arrived (left_of flags frames) in
-      let same : arrivals_of (given_in (k.steps ++ step ∷ [])) ++ map arrived (left_of flags frames) ≡ arrivals_of (given_in k.steps) ++ (arrivals_of (given_by step) ++ map arrived (left_of flags frames)) =
-      ap (λ (g : List Given). arrivals_of g ++ came) given_is ∙ (ap (λ (ys : List Arrived). ys ++ came) (arrivals_then (given_in k.steps) (given_by step)) ∙ append_assoc (arrivals_of (given_in k.steps)) (arrivals_of (given_by step)) came) in
+      let came : List Arrival = left_of flags frames in
+      let same : arrivals_of (given_in (k.steps ++ step ∷ [])) ++ left_of flags frames ≡ arrivals_of (given_in k.steps) ++ (arrivals_of (given_by step) ++ left_of flags frames) =
+      ap (λ (g : List Given). arrivals_of g ++ came) given_is ∙ (ap (λ (ys : List Arrival). ys ++ came) (arrivals_then (given_in k.steps) (given_by step)) ∙ append_assoc (arrivals_of (given_in k.steps)) (arrivals_of (given_by step)) came) in
       record {
         steps = k.steps ++ step ∷ [];
         made = run_steps k.steps (step ∷ []) old now new k.made (run_step step now new x may);
@@ -253,7 +252,7 @@ module _ (all : ℕ) (cs : List Timed) (frames : List Arrival) (seconds taken : 
             ap (λ (g : List Given). commands_of g ++ told) given_is
             ∙ (ap (λ (ys : List Command). ys ++ told) (commands_then (given_in k.steps) (given_by step))
             ∙ (append_assoc (commands_of (given_in k.steps)) (commands_of (given_by step)) told ∙ (ap (λ (ys : List Command). commands_of (given_in k.steps) ++ ys) commands ∙ k.commands)));
-        arrivals = subst (λ (ys : List Arrived). IsPermutation ys (map arrived frames)) (sym same)
+        arrivals = subst (λ (ys : List Arrival). IsPermutation ys frames) (sym same)
             (IsPermutation-trans _ _ _ (IsPermutation-append_right (arrivals_of (given_in k.steps)) _ _ arrivals) k.arrivals);
         unmarked = unmarked_then k.steps (step ∷ []) k.unmarked (unmarked, tt);
         whole = whole;
@@ -269,7 +268,7 @@ module _ (all : ℕ) (cs : List Timed) (frames : List Arrival) (seconds taken : 
       let w : World = (stepped (tree_of now) (bounds_of now) step (world_of now)).world in
       longer step seconds taken given x may none.2.0 k.whole (ap (λ (ys : List ℕ). ys ++ seconds_of seconds) no_seconds)
       (ap (λ (g : List Given). commands_of g ++ map (λ (c : Timed). c.command) (drop taken cs)) nothing)
-      (subst (λ (g : List Given). IsPermutation (arrivals_of g ++ map arrived (left_of given frames)) (map arrived (left_of given frames))) (sym nothing) (IsPermutation-refl _))
+      (subst (λ (g : List Given). IsPermutation (arrivals_of g ++ left_of given frames) (left_of given frames)) (sym nothing) (IsPermutation-refl _))
       (ready_there now new step seconds (drop taken cs) (left_of given frames) w x refl (subst (λ (n : ℕ). seconds ≢ 0 → n + seconds < 2 ^ 63) (sym v.clock) k.ready.time)
       (subst (λ (n : ℕ). MayOrderAll (tree_of now) n (drop taken cs)) (sym v.given) k.ready.orders) (come_same (tree_of now) (world_of now).next w.next (left_of given frames) v.awaits k.ready.comes))
 
@@ -299,23 +298,23 @@ module _ (all : ℕ) (cs : List Timed) (frames : List Arrival) (seconds taken : 
   pub tick_can : seconds ≢ 0 → Can (tree_of now) (world_of now) (Tick seconds)
   tick_can some = (omega (arith, some), k.ready.time some)
 
-  pub drawn_arrival : (j : ℕ) (a : Arrival) → j < length given → j < length frames → get_or given j true ≡ false → a ≡ get_or frames j a → IsStepped (Arrive (arrived a)) now new →
-      MayTake (tree_of now) (world_of now) (Arrive (arrived a)) → HasDrawn all cs frames seconds taken (set given j true) old new
+  pub drawn_arrival : (j : ℕ) (a : Arrival) → j < length given → j < length frames → get_or given j true ≡ false → a ≡ get_or frames j a → IsStepped (Arrive a) now new →
+      MayTake (tree_of now) (world_of now) (Arrive a) → HasDrawn all cs frames seconds taken (set given j true) old new
   drawn_arrival j a low few not_yet is x may =
-      let v = arrival_stays (tree_of now) (bounds_of now) (arrived a) (world_of now) in
-      let w : World = (stepped (tree_of now) (bounds_of now) (Arrive (arrived a)) (world_of now)).world in
+      let v = arrival_stays (tree_of now) (bounds_of now) a (world_of now) in
+      let w : World = (stepped (tree_of now) (bounds_of now) (Arrive a) (world_of now)).world in
       let z : IsLeft given frames j a = left_at given frames j a low few not_yet is in
       let comes : MayComeAll (tree_of now) (bumped a.port (world_of now).next) (z.front ++ z.rest) =
       pull (tree_of now) (world_of now).next z.front z.rest a (subst (MayComeAll (tree_of now) (world_of now).next) z.is k.ready.comes) may.can.next in
       let perm : IsPermutation (a ∷ left_of (set given j true) frames) (left_of given frames) =
       subst (λ (ys : List Arrival). IsPermutation (a ∷ ys) (left_of given frames)) (sym z.less)
       (subst (IsPermutation (a ∷ (z.front ++ z.rest))) (sym z.is) (IsPermutation-sym _ _ (IsPermutation-middle z.front a z.rest))) in
-      longer (Arrive (arrived a)) seconds taken (set given j true) x may tt (length-set given j true ∙ k.whole) refl refl (IsPermutation-map arrived _ _ perm)
-      (ready_there now new (Arrive (arrived a)) seconds (drop taken cs) (left_of (set given j true) frames) w x refl (subst (λ (n : ℕ). seconds ≢ 0 → n + seconds < 2 ^ 63) (sym v.clock) k.ready.time)
+      longer (Arrive a) seconds taken (set given j true) x may tt (length-set given j true ∙ k.whole) refl refl perm
+      (ready_there now new (Arrive a) seconds (drop taken cs) (left_of (set given j true) frames) w x refl (subst (λ (n : ℕ). seconds ≢ 0 → n + seconds < 2 ^ 63) (sym v.clock) k.ready.time)
       (subst (λ (n : ℕ). MayOrderAll (tree_of now) n (drop taken cs)) (sym v.given) k.ready.orders)
       (come_same (tree_of now) (bumped a.port (world_of now).next) w.next (left_of (set given j true) frames) v.awaits (subst (MayComeAll (tree_of now) (bumped a.port (world_of now).next)) (sym z.less) comes)))
 
-  pub arrival_can : (j : ℕ) (a : Arrival) → j < length frames → ((i : ℕ) → i < j → get_or given i true ≡ true) → get_or given j true ≡ false → a ≡ get_or frames j a → Can (tree_of now) (world_of now) (Arrive (arrived a))
+  pub arrival_can : (j : ℕ) (a : Arrival) → j < length frames → ((i : ℕ) → i < j → get_or given i true ≡ true) → get_or given j true ≡ false → a ≡ get_or frames j a → Can (tree_of now) (world_of now) (Arrive a)
   arrival_can j a few before not_yet is =
       let whole = k.whole in
       let z : IsFirst given frames a = first_left given frames j a (omega (arith, few, whole)) few before not_yet is in
@@ -331,7 +330,7 @@ module _ (all : ℕ) (cs : List Timed) (frames : List Arrival) (seconds taken : 
       record {
         time = sym (append-nil (seconds_in k.steps)) ∙ (ap (λ (n : ℕ). seconds_in k.steps ++ seconds_of n) (sym none) ∙ k.time);
         commands = sym (append-nil (commands_of (given_in k.steps))) ∙ (ap (λ (ds : List Timed). commands_of (given_in k.steps) ++ map (λ (c : Timed). c.command) ds) (sym no_commands) ∙ k.commands);
-        arrivals = subst (λ (ys : List Arrived). IsPermutation ys (map arrived frames)) (ap (λ (ds : List Arrival). arrivals_of (given_in k.steps) ++ map arrived ds) no_frames ∙ append-nil (arrivals_of (given_in k.steps))) k.arrivals;
+        arrivals = subst (λ (ys : List Arrival). IsPermutation ys frames) (ap (λ (ds : List Arrival). arrivals_of (given_in k.steps) ++ ds) no_frames ∙ append-nil (arrivals_of (given_in k.steps))) k.arrivals;
         unmarked = k.unmarked;
       }
 

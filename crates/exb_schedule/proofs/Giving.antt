@@ -8,7 +8,7 @@ use Rattle.std.proofs.lemmas.List.Sums.{sum_by-cons}
 use Rattle.exb_model.specs.declared.command.Command.{Command}
 use Rattle.exb_model.specs.declared.setup.Timed.{Timed}
 use Rattle.exb_model.specs.Input.{Input, Segment, Mode, Eager, Seeded, basis_of}
-use Rattle.exb_model.specs.Input.{Arrival as Arrived}
+use Rattle.exb_model.specs.declared.arrival.Arrival.{Arrival}
 use Rattle.exb_model.specs.Setup.{Limits}
 use Rattle.exb_model.specs.Tree.{Shape}
 use Rattle.exb_machine.specs.Allowing.{Can}
@@ -24,9 +24,8 @@ use Rattle.exb_motion.specs.Playing.{seconds_in, IsUnmarked, Gives, IsEager, not
 use Rattle.exb_network.specs.Networks.{Network, world_of, tree_of, bounds_of, IsStepped}
 use Rattle.exb_network.specs.Sites.{Site, limits_in}
 use Rattle.exb_motion.specs.Runs.Settles.{MayTake}
-use Rattle.exb_schedule.specs.declared.segment.Arrival.{Arrival}
 use Rattle.exb_schedule.specs.Moves.{HasRun}
-use Rattle.exb_schedule.specs.Playing.{arrived, arrive, gives, letters_in, orders, tick, CanAll, CanFrom, IsSegment}
+use Rattle.exb_schedule.specs.Playing.{arrive, gives, letters_in, orders, tick, CanAll, CanFrom, IsSegment}
 use Rattle.exb_schedule.proofs.Leading.{run_nothing, run_step, run_steps}
 use Rattle.exb_schedule.proofs.Playing.{IsOrdered, moves_give_nothing}
 
@@ -55,7 +54,7 @@ tick_some n ne = rw (ne_eqb n 0 ne) refl
 
 -- ---- what is given
 -- These steps let these seconds pass and give these commands and arrivals; none of them marks.
-record GiveJust (xs : List Step) (seconds : List ℕ) (cs : List Command) (frames : List Arrived) : Type 0 where
+record GiveJust (xs : List Step) (seconds : List ℕ) (cs : List Command) (frames : List Arrival) : Type 0 where
   time : seconds_in xs ≡ seconds
   commands : commands_of (given_in xs) ≡ cs
   arrivals : arrivals_of (given_in xs) ≡ frames
@@ -66,19 +65,19 @@ of_moves xs moves =
     let k = moves_give_nothing xs moves in
     record { time = k.0; commands = ap commands_of k.1; arrivals = ap arrivals_of k.1; unmarked = k.2 }
 
-then_frames : (frames : List Arrival) (xs : List Step) (cs : List Command) → GiveJust xs [] cs [] → GiveJust (arrive frames ++ xs) [] cs (map arrived frames)
+then_frames : (frames : List Arrival) (xs : List Step) (cs : List Command) → GiveJust xs [] cs [] → GiveJust (arrive frames ++ xs) [] cs frames
 then_frames [] xs cs k = k
 then_frames (a ∷ frames) xs cs k =
     let r = then_frames frames xs cs k in
-    record { time = r.time; commands = r.commands; arrivals = ap (λ (zs : List Arrived). arrived a ∷ zs) r.arrivals; unmarked = (tt, r.unmarked) }
+    record { time = r.time; commands = r.commands; arrivals = ap (λ (zs : List Arrival). a ∷ zs) r.arrivals; unmarked = (tt, r.unmarked) }
 
-then_orders : (timed : List Timed) (xs : List Step) (frames : List Arrived) → GiveJust xs [] [] frames → GiveJust (orders timed ++ xs) [] (map (λ (c : Timed). c.command) timed) frames
+then_orders : (timed : List Timed) (xs : List Step) (frames : List Arrival) → GiveJust xs [] [] frames → GiveJust (orders timed ++ xs) [] (map (λ (c : Timed). c.command) timed) frames
 then_orders [] xs frames k = k
 then_orders (c ∷ timed) xs frames k =
     let r = then_orders timed xs frames k in
     record { time = r.time; commands = ap (λ (zs : List Command). c.command ∷ zs) r.commands; arrivals = r.arrivals; unmarked = (tt, r.unmarked) }
 
-then_tick : (seconds : ℕ) (xs : List Step) (cs : List Command) (frames : List Arrived) → GiveJust xs [] cs frames → GiveJust (tick seconds ++ xs) (if seconds == 0 then [] else seconds ∷ []) cs frames
+then_tick : (seconds : ℕ) (xs : List Step) (cs : List Command) (frames : List Arrival) → GiveJust xs [] cs frames → GiveJust (tick seconds ++ xs) (if seconds == 0 then [] else seconds ∷ []) cs frames
 then_tick seconds xs cs frames k =
     elim (cases_Bool (seconds == 0)) [
       | inl e ↦ rw e k
@@ -95,7 +94,7 @@ pub gives_segment : (i : Input) (s : Segment) (seconds : ℕ) (cs : List Timed) 
 gives_segment i s seconds cs frames moves is only =
     subst (Gives (basis_of i) s) (sym (split_gives seconds cs frames moves)) given
   where
-    k : GiveJust (tick seconds ++ (orders cs ++ (arrive frames ++ moves))) (if seconds == 0 then [] else seconds ∷ []) (map (λ (c : Timed). c.command) cs) (map arrived frames)
+    k : GiveJust (tick seconds ++ (orders cs ++ (arrive frames ++ moves))) (if seconds == 0 then [] else seconds ∷ []) (map (λ (c : Timed). c.command) cs) frames
     k = then_tick seconds (orders cs ++ (arrive frames ++ moves)) _ _ (then_orders cs (arrive frames ++ moves) _ (then_frames frames moves [] (of_moves moves only)))
 
     given : Gives (basis_of i) s (tick seconds ++ (orders cs ++ (arrive frames ++ moves)))
@@ -103,7 +102,7 @@ gives_segment i s seconds cs frames moves is only =
         record {
           seconds = k.time ∙ ap (λ (n : ℕ). if n == 0 then [] else n ∷ []) (sym is.seconds_are);
           commands = k.commands ∙ sym is.commands;
-          arrivals = subst (λ (zs : List Arrived). IsPermutation zs s.arrivals) (is.arrivals_are ∙ sym k.arrivals) (IsPermutation-refl s.arrivals);
+          arrivals = subst (λ (zs : List Arrival). IsPermutation zs s.arrivals) (is.arrivals_are ∙ sym k.arrivals) (IsPermutation-refl s.arrivals);
           unmarked = k.unmarked;
         }
 
@@ -117,7 +116,7 @@ gives_eagerly i s seconds cs frames moves is =
 pub gives_nothing : (i : Input) (moves : List Step) → machine.Each IsMove moves → Gives (basis_of i) nothing_given moves
 gives_nothing i moves only =
     let k = of_moves moves only in
-    record { seconds = k.time; commands = k.commands; arrivals = subst (λ (zs : List Arrived). IsPermutation zs []) (sym k.arrivals) (IsPermutation-refl []); unmarked = k.unmarked }
+    record { seconds = k.time; commands = k.commands; arrivals = subst (λ (zs : List Arrival). IsPermutation zs []) (sym k.arrivals) (IsPermutation-refl []); unmarked = k.unmarked }
 
 -- ---- given one by one
 -- Steps for so many of these were made, and those for the others may be made.

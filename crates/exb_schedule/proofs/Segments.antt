@@ -25,7 +25,7 @@ use Rattle.exb_network.specs.Worlds.{all_left}
 use Rattle.exb_motion.specs.Runs.Playing.{begin_of}
 use Rattle.exb_motion.specs.Runs.Settles.{MayTake, MayTakeAll}
 use Rattle.exb_schedule.specs.Moves.{HasRun, HasGone, HasEnded}
-use Rattle.exb_schedule.specs.declared.segment.Arrival.{Arrival}
+use Rattle.exb_model.specs.declared.arrival.Arrival.{Arrival}
 use Rattle.exb_schedule.specs.Playing.{gives, HasPlayed, IsSegment}
 use Rattle.exb_schedule.specs.Segments.{IsPlayedOut}
 use Rattle.exb_schedule.proofs.Giving.{gives_in_order, gives_nothing, gives_segment}

@@ -11,9 +11,8 @@ use Rattle.exb_motion.specs.Kept.{given_in}
 use Rattle.exb_motion.specs.Playing.{seconds_in, IsUnmarked}
 use Rattle.exb_network.specs.Networks.{Network, world_of, tree_of}
 use Rattle.exb_schedule.specs.declared.rest.Rest.{Rest}
-use Rattle.exb_schedule.specs.declared.segment.Arrival.{Arrival}
+use Rattle.exb_model.specs.declared.arrival.Arrival.{Arrival}
 use Rattle.exb_schedule.specs.Moves.{HasRun}
-use Rattle.exb_schedule.specs.Playing.{arrived}
 
 -- the arrivals that weren't given yet, in their order
 abbrev pub left_of : List Bool → List Arrival → List Arrival
@@ -54,7 +53,7 @@ pub record HasDrawn (all : ℕ) (cs : List Timed) (frames : List Arrival) (secon
   pub made : HasRun steps old now
   pub time : seconds_in steps ++ seconds_of seconds ≡ seconds_of all
   pub commands : commands_of (given_in steps) ++ map (λ (c : Timed). c.command) (drop taken cs) ≡ map (λ (c : Timed). c.command) cs
-  pub arrivals : IsPermutation (arrivals_of (given_in steps) ++ map arrived (left_of given frames)) (map arrived frames)
+  pub arrivals : IsPermutation (arrivals_of (given_in steps) ++ left_of given frames) frames
   pub unmarked : Each IsUnmarked steps
   pub whole : length given ≡ length frames
   pub ready : IsReady now seconds (drop taken cs) (left_of given frames)

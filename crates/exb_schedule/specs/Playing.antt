@@ -4,7 +4,8 @@ use Rattle.exb_model.specs.declared.event.Event.{Event}
 use Rattle.exb_model.specs.declared.setup.Timed.{Timed}
 use Rattle.exb_model.specs.History.{command_of}
 use Rattle.exb_model.specs.Traces.{TraceLine}
-use Rattle.exb_model.specs.Input.{Input, Arrival as Arrived, Segment, Mode, basis_of, tree_of, bounds_of}
+use Rattle.exb_model.specs.Input.{Input, Segment, Mode, basis_of, tree_of, bounds_of}
+use Rattle.exb_model.specs.declared.arrival.Arrival.{Arrival}
 use Rattle.exb_model.specs.Setup.{Limits}
 use Rattle.exb_model.specs.Tree.{Shape}
 use Rattle.exb_machine.specs.Allowing.{Can}
@@ -14,11 +15,6 @@ use Rattle.exb_machine.specs.Worlds.{World, Step, Arrive, Order, Tick, Left}
 use Rattle.exb_network.specs.Networks.{Network, world_of, tree_of as shape_in, bounds_of as limits_in}
 use Rattle.exb_network.specs.Worlds.{all_left}
 use Rattle.exb_motion.specs.Runs.Playing.{PlaysIn}
-use Rattle.exb_schedule.specs.declared.segment.Arrival.{Arrival}
-
--- an arrival, without where its bytes lie in memory
-abbrev pub arrived : Arrival → Arrived
-arrived a = record { port = a.port; index = a.index; moment = a.moment; bytes = a.bytes }
 
 -- ---- a segment: its seconds, its commands and its arrivals
 -- the steps that give them, in that order
@@ -29,7 +25,7 @@ abbrev pub orders : List Timed → List Step
 orders commands = map (λ (c : Timed). Order c.command) commands
 
 abbrev pub arrive : List Arrival → List Step
-arrive frames = map (λ (a : Arrival). Arrive (arrived a)) frames
+arrive frames = map Arrive frames
 
 abbrev pub gives : ℕ → List Timed → List Arrival → List Step
 gives seconds cs frames = tick seconds ++ (orders cs ++ arrive frames)
@@ -50,7 +46,7 @@ CanAll n steps = CanFrom (shape_in n) (limits_in n) (world_of n) steps
 pub record IsSegment (i : Input) (s : Segment) (seconds : ℕ) (cs : List Timed) (frames : List Arrival) : Type 0 where
   pub seconds_are : s.seconds ≡ seconds
   pub commands : filter_map (command_of (basis_of i)) s.commands ≡ map (λ (c : Timed). c.command) cs
-  pub arrivals_are : s.arrivals ≡ map arrived frames
+  pub arrivals_are : s.arrivals ≡ frames
 
 -- ---- a run so far
 -- After the opening and these segments of an input, each settled and marked, this was told, with whether each relayed frame passed,

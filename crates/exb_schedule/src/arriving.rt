@@ -4,7 +4,7 @@ ghost use Rattle.exb_schedule.specs.Moves.{HasRun};
 ghost use Rattle.exb_schedule.specs.Playing.{arrive, tick, CanAll};
 
 use crate::motion::Motion;
-use crate::segment::Arrival;
+use exb_model::arrival::Arrival;
 use exb_network::{Step, WorldFault};
 
 /// Lets seconds pass, if there are any.
@@ -30,12 +30,7 @@ pub(crate) fn let_arrive(motion: &mut Motion, arrivals: &[Arrival]) -> Result<()
     ensures memory { OnErr result (motion.new.failed ≡ true) }
 {
     for arrival in arrivals {
-        motion.step(&Step::Arrive {
-            port: arrival.port,
-            index: arrival.index,
-            moment: arrival.moment,
-            bytes: arrival.bytes.as_slice(),
-        })?;
+        motion.step(&Step::Arrive { arrival })?;
     }
     Ok(())
 }

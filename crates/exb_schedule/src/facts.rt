@@ -30,8 +30,8 @@ pub(crate) fn name_vlans(commands: &[Command])
 pub(crate) fn brings_bytes(step: &Step<'_>)
     ensures { HasBytes (step_of step.now) }
 {
-    if let Step::Arrive { bytes, .. } = step {
-        are_bytes(*bytes);
+    if let Step::Arrive { arrival } = step {
+        are_bytes(arrival.bytes.as_slice());
     }
 }
 

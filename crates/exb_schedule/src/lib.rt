@@ -24,6 +24,6 @@ pub mod world;
 pub use delivery::round;
 pub use drawn::seeded;
 pub use exb_network::{Left, Step, Way, WorldFault, count_left};
-pub use segment::{Arrival, eager, open};
+pub use segment::{eager, open};
 pub use settling::settle;
 pub use world::World;

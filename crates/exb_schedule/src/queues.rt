@@ -1,7 +1,7 @@
 //! The arrivals of a segment that are still to come, port by port.
 ghost use Rattle.std.specs.Prelude.{◌≤◌, length};
 
-use crate::segment::Arrival;
+use exb_model::arrival::Arrival;
 use exb_model::memory::NoMemory;
 use exb_model::port::PortId;
 use std::alloc::Global;

@@ -4,11 +4,12 @@ ghost use Rattle.exb_machine.specs.Allowing.{Can};
 ghost use Rattle.exb_machine.specs.Worlds.{Arrive, Order, Tick};
 ghost use Rattle.exb_network.specs.Networks.{step_of, tree_of, world_of};
 ghost use Rattle.exb_schedule.specs.Drawing.{GoesOn};
-ghost use Rattle.exb_schedule.specs.Playing.{arrived, letters_in};
+ghost use Rattle.exb_schedule.specs.Playing.{letters_in};
 ghost use Rattle.exb_schedule.specs.Worlds.{network_of};
 
-use crate::segment::{Arrival, give_one};
+use crate::segment::give_one;
 use crate::world::World;
+use exb_model::arrival::Arrival;
 use exb_model::memory::NoMemory;
 use exb_model::setup::Timed;
 use exb_network::{Step, WorldFault};
@@ -39,20 +40,15 @@ impl Rest {
 
 /// The step of an arrival.
 pub(crate) fn arrive<'a>(arrival: &'a Arrival) -> Step<'a>
-    ensures { step_of result ≡ Arrive (arrived arrival.now) }
+    ensures { step_of result ≡ Arrive arrival.now }
 {
-    Step::Arrive {
-        port: arrival.port,
-        index: arrival.index,
-        moment: arrival.moment,
-        bytes: arrival.bytes.as_slice(),
-    }
+    Step::Arrive { arrival }
 }
 
 /// Whether an arrival may come now, where memory hasn't run out.
 pub(crate) fn can_come(world: &World, commands: &[Timed], arrivals: &[Arrival], at: usize) -> bool
     requires { at < length arrivals.now }
-    ensures { result ≡ true → (a : _) → a ≡ slice_index_or arrivals.now at a → Can (tree_of (network_of world.now)) (world_of (network_of world.now)) (Arrive (arrived a)) }
+    ensures { result ≡ true → (a : _) → a ≡ slice_index_or arrivals.now at a → Can (tree_of (network_of world.now)) (world_of (network_of world.now)) (Arrive a) }
 {
     // a step may hold a command: a parameter of that type is asked for where a step is made
     let _ = commands;
@@ -110,7 +106,7 @@ pub(crate) fn come(
 ) -> Result<(), WorldFault>
     requires there { at < length arrivals.now }
     requires whole { length rest.old.given.items ≡ length arrivals.now }
-    requires can { slice_index_or rest.old.given.items at true ≡ false → (a : _) → a ≡ slice_index_or arrivals.now at a → Can (tree_of (network_of world.old)) (world_of (network_of world.old)) (Arrive (arrived a)) }
+    requires can { slice_index_or rest.old.given.items at true ≡ false → (a : _) → a ≡ slice_index_or arrivals.now at a → Can (tree_of (network_of world.old)) (world_of (network_of world.old)) (Arrive a) }
     ensures ok { (cs : List _) → OnOk result (GoesOn cs arrivals.now rest.old rest.new (network_of world.old) (network_of world.new)) }
     ensures seconds { rest.new.seconds ≡ rest.old.seconds }
     ensures taken { rest.new.taken ≡ rest.old.taken }

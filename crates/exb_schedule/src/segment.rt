@@ -17,21 +17,11 @@ use crate::motion::Motion;
 use crate::settling::settle;
 use crate::world::World;
 use exb_fate::Fate;
-use exb_model::bytes::Bytes;
+use exb_model::arrival::Arrival;
 use exb_model::memory::NoMemory;
-use exb_model::port::PortId;
 use exb_model::setup::{Setup, Timed, Verdict};
 use exb_network::{Step, WorldFault};
 use std::alloc::Global;
-
-/// A frame of a capture that arrives: record `index` (from 1) of its port, at `moment` nanoseconds.
-#[derive(Debug, Drop)]
-pub struct Arrival {
-    pub port: PortId,
-    pub index: u64,
-    pub moment: u64,
-    pub bytes: Bytes,
-}
 
 /// Marks what is settled.
 #[inline(always)]

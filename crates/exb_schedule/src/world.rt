@@ -90,17 +90,7 @@ impl World {
         self.motion.is_reached();
         // a step that is passed on as it is isn't covered by the borrow checker, since a variant holds a reference
         match step {
-            Step::Arrive {
-                port,
-                index,
-                moment,
-                bytes,
-            } => self.motion.step(&Step::Arrive {
-                port,
-                index,
-                moment,
-                bytes,
-            }),
+            Step::Arrive { arrival } => self.motion.step(&Step::Arrive { arrival }),
             Step::Carry { link, way } => self.motion.step(&Step::Carry { link, way }),
             Step::Control {
                 link,

@@ -2,6 +2,8 @@
 //! stands above them is proved without any of a world's.
 use exb_fate::{Fate, ScriptFate};
 use exb_link::Counts;
+use exb_model::arrival::Arrival;
+use exb_model::bytes::Bytes;
 use exb_model::port::PortId;
 use exb_model::setup::{Timed, Verdict};
 use exb_schedule::{Step, Way, World, settle};
@@ -82,24 +84,16 @@ pub(crate) fn beat(rt: &impl Abort, world: &mut World) {
 }
 
 /// A record arrives, at the moment 0.
-pub(crate) fn arrive(rt: &impl Abort, world: &mut World, port: PortId, index: u64, bytes: &[u8]) {
-    let moment = 0u64;
-    assert!(rt;
-        world.can(&Step::Arrive {
-            port,
-            index,
-            moment,
-            bytes
-        })
-    );
-    world
-        .step(Step::Arrive {
-            port,
-            index,
-            moment,
-            bytes,
-        })
-        .expect(rt, "memory");
+pub(crate) fn arrive(rt: &impl Abort, world: &mut World, port: PortId, index: u64, frame: Vec<u8>) {
+    let arrival = Arrival {
+        port,
+        index,
+        moment: 0,
+        bytes: Bytes::from_vec(frame),
+    };
+    let arrival = &arrival;
+    assert!(rt; world.can(&Step::Arrive { arrival }));
+    world.step(Step::Arrive { arrival }).expect(rt, "memory");
 }
 
 // The fate is armed.

@@ -169,7 +169,7 @@ fn arrive_next(rt: &impl Abort, alloc: Global, world: &mut World, words: &mut Sp
     let index = number(rt, words.next());
     let text = words.next().expect(rt, "bytes");
     let bytes = bytes_of(alloc, text).expect(rt, "bytes as hexadecimal digits");
-    arrive(rt, world, port, index, bytes.as_slice());
+    arrive(rt, world, port, index, bytes);
 }
 
 // Arms the fate.

@@ -1,5 +1,4 @@
 use Rattle.std.proofs.Common.{◌<◌, ◌^◌, length, ap, arith}
-use Rattle.exb_schedule.specs.Playing.{arrived}
 use Rattle.exb_net.proofs.Entering.{on_ok_of, when_ok}
 use Rattle.exb_net.proofs.Places.{at_place, falls_set, of_all, set_there}
 use Rattle.exb_net.proofs.Turning.{begins_so, coming_can, coming_here}
@@ -30,7 +29,7 @@ returns-clause-ok g c =
     let is = at_place nodes c.args.bridge c.index_mut.result.now inside c.index_mut.ensures.value in
     when_ok c.enter.result
     (λ entered. λ n s told k.
-    begins_so c.bridges_handle.ensures n c.args.bridge (arrived c.args.arrival.now) s told nodes c.index_mut.result.now c.enter.new.node c.args.queue.now.items c.enter.new.queue.items k is entered (ap (λ v. v.items) c.enter.ensures.ends))
+    begins_so c.bridges_handle.ensures n c.args.bridge c.args.arrival.now s told nodes c.index_mut.result.now c.enter.new.node c.args.queue.now.items c.enter.new.queue.items k is entered (ap (λ v. v.items) c.enter.ensures.ends))
     c.enter.ensures.ok
 
 pub returns-clause-fates : goal.returns-clause-fates
