@@ -7,7 +7,7 @@ use Rattle.exb_nets.specs.NetHistory.{Crossing, crosses}
 use Rattle.exb_model.specs.declared.arrival.Arrival.{Arrival}
 use Rattle.exb_boxes.specs.declared.log.Left.{Left as Leaving}
 use Rattle.exb_network.specs.Networks.{Network}
-use Rattle.exb_network.specs.Worlds.{all_left}
+use Rattle.exb_bridge.specs.Worlds.{all_left}
 use Rattle.exb_schedule.specs.Segments.{IsPlayedOut}
 use Rattle.exb_net.specs.declared.crossing.Crossing.{Crossing as Queued}
 use Rattle.exb_net.specs.declared.ends.WiredEnd.{WiredEnd}

@@ -8,7 +8,7 @@ use Rattle.exb_model.specs.declared.setup.Setup.{Setup}
 use Rattle.exb_model.specs.Setup.{IsValid, limits_of, shape_of}
 use Rattle.exb_model.specs.Tree.{external_ports}
 use Rattle.exb_network.specs.Networks.{Network}
-use Rattle.exb_network.specs.Worlds.{all_left}
+use Rattle.exb_bridge.specs.Worlds.{all_left}
 use Rattle.exb_motion.specs.Kept.{HasVid}
 use Rattle.exb_motion.specs.Runs.Settles.{beginning}
 use Rattle.exb_schedule.specs.Worlds.{network_of}

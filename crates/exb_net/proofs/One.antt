@@ -14,9 +14,9 @@ use Rattle.exb_machine.specs.Telling.{all_told}
 use Rattle.exb_machine.specs.Worlds.{World, Step, Mark, Left, Line}
 use Rattle.exb_machine.proofs.Rounds.{run_then}
 use Rattle.exb_network.specs.Networks.{Network, IsStepped, bounds_of, tree_of, world_of}
-use Rattle.exb_network.specs.Sites.{Site}
-use Rattle.exb_network.specs.Sites.{limits_in as limits_at}
-use Rattle.exb_network.specs.Worlds.{all_left}
+use Rattle.exb_bridge.specs.Sites.{Site}
+use Rattle.exb_bridge.specs.Sites.{limits_in as limits_at}
+use Rattle.exb_bridge.specs.Worlds.{all_left}
 use Rattle.exb_motion.specs.Onward.{IsGiving}
 use Rattle.exb_motion.specs.Runs.Settles.{MayTakeAll}
 use Rattle.exb_schedule.specs.Moves.{IsMoved}

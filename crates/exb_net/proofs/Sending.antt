@@ -5,7 +5,7 @@ use Rattle.std.proofs.lemmas.List.{drop_all}
 use Rattle.exb_model.specs.FlatBridge.{Sent}
 use Rattle.exb_machine.specs.Worlds.{Left, left_at}
 use Rattle.exb_boxes.specs.declared.log.Left.{Left as Leaving}
-use Rattle.exb_network.specs.Worlds.{all_left, copies_at, copies_of}
+use Rattle.exb_bridge.specs.Worlds.{all_left, copies_at, copies_of}
 use Rattle.exb_nets.specs.declared.wires.End.{End}
 use Rattle.exb_nets.specs.NetHistory.{Crossing, crosses}
 use Rattle.exb_net.specs.declared.ends.WiredEnd.{WiredEnd}

@@ -12,9 +12,9 @@ use Rattle.exb_machine.specs.Settling.{run, followed_by}
 use Rattle.exb_machine.specs.Stepping.{Stepped}
 use Rattle.exb_machine.specs.Worlds.{Step, Arrive, Order, Tick, Mark}
 use Rattle.exb_network.specs.Networks.{Network, bounds_of, tree_of, world_of}
-use Rattle.exb_network.specs.Sites.{Site}
-use Rattle.exb_network.specs.Sites.{limits_in as limits_at}
-use Rattle.exb_network.specs.Worlds.{all_left}
+use Rattle.exb_bridge.specs.Sites.{Site}
+use Rattle.exb_bridge.specs.Sites.{limits_in as limits_at}
+use Rattle.exb_bridge.specs.Worlds.{all_left}
 use Rattle.exb_motion.specs.Runs.Settles.{MayTakeAll}
 use Rattle.exb_schedule.specs.Moves.{IsMoved}
 use Rattle.exb_schedule.specs.Worlds.{network_of}

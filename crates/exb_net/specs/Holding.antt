@@ -3,7 +3,7 @@ use Rattle.std.specs.Prelude.{◌≡◌, ℕ, ◌++◌, false, List, Some, lengt
 use Rattle.exb_model.specs.Tree.{external_ports}
 use Rattle.exb_machine.specs.Stepping.{Stepped}
 use Rattle.exb_network.specs.Networks.{Network, world_of, tree_of, bounds_of}
-use Rattle.exb_network.specs.Worlds.{all_left}
+use Rattle.exb_bridge.specs.Worlds.{all_left}
 use Rattle.exb_schedule.specs.Worlds.{network_of}
 use Rattle.exb_nets.specs.Nets.{Net}
 use Rattle.exb_wiring.specs.Playing.{Dones, tree_in, limits_in}

@@ -8,7 +8,7 @@ use Rattle.exb_machine.specs.Worlds.{Step, Arrive, Tick, Left}
 use Rattle.exb_motion.specs.Kept.{HasVid}
 use Rattle.exb_motion.specs.Runs.Settles.{beginning}
 use Rattle.exb_network.specs.Networks.{Network, IsQuiet, IsSame, IsStepped, bounds_of, tree_of, world_of}
-use Rattle.exb_network.specs.Worlds.{all_left}
+use Rattle.exb_bridge.specs.Worlds.{all_left}
 use Rattle.exb_schedule.specs.Segments.{IsPlayedOut}
 use Rattle.exb_nets.specs.declared.wires.Wire.{Wire}
 use Rattle.exb_net.specs.declared.crossing.Crossing.{Crossing}

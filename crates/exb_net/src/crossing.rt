@@ -1,7 +1,7 @@
 //! Frames between bridges.
 ghost use Rattle.std.specs.Prelude.{◌≡◌, ◌-◌, ◌∷◌, ◌++◌, [], Some, OnOk, drop, length};
 ghost use Rattle.exb_machine.specs.Worlds.{left_at};
-ghost use Rattle.exb_network.specs.Worlds.{all_left, copies_at, copies_of};
+ghost use Rattle.exb_bridge.specs.Worlds.{all_left, copies_at, copies_of};
 ghost use Rattle.exb_nets.specs.NetHistory.{crosses};
 ghost use Rattle.exb_net.specs.Ends.{sent_over};
 ghost use Rattle.exb_net.specs.Crossings.{all_crossing};

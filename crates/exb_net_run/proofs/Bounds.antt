@@ -11,7 +11,7 @@ use Rattle.exb_machine.specs.Stepping.{Stepped}
 use Rattle.exb_machine.specs.Worlds.{Left as Leaving, left_at}
 use Rattle.exb_boxes.specs.declared.log.Left.{Left}
 use Rattle.exb_network.specs.Networks.{Network}
-use Rattle.exb_network.specs.Worlds.{all_left, copies_of}
+use Rattle.exb_bridge.specs.Worlds.{all_left, copies_of}
 use Rattle.exb_nets.specs.Nets.{Net}
 use Rattle.exb_text.specs.Tallies.{FitsTally, counts_of, nothing_counted}
 use Rattle.exb_wiring.specs.Playing.{tree_in}

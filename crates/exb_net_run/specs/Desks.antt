@@ -3,7 +3,7 @@ use Rattle.std.specs.Prelude.{◌≡◌, ◌≢◌, ◌≤◌, ◌<◌, ◌+◌,
 use Rattle.exb_model.specs.Texts.{Counts}
 use Rattle.exb_machine.specs.Stepping.{Stepped}
 use Rattle.exb_network.specs.Networks.{Network}
-use Rattle.exb_network.specs.Worlds.{all_left}
+use Rattle.exb_bridge.specs.Worlds.{all_left}
 use Rattle.exb_machine.specs.Worlds.{left_at}
 use Rattle.exb_schedule.specs.Worlds.{network_of}
 use Rattle.exb_shelf.specs.Files.{Files}

@@ -15,7 +15,7 @@ use Rattle.exb_model.specs.Tree.{Shape, is_external}
 use Rattle.exb_machine.specs.Worlds.{Left as Leaving, left_at}
 use Rattle.exb_motion.specs.Playing.{IsTimely}
 use Rattle.exb_network.specs.Networks.{Network}
-use Rattle.exb_network.specs.Worlds.{all_left}
+use Rattle.exb_bridge.specs.Worlds.{all_left}
 use Rattle.exb_boxes.specs.declared.log.Left.{Left}
 use Rattle.exb_motion.specs.Runs.Playing.{HasWrittenFront, RunsWriteFronts}
 use Rattle.exb_schedule.specs.Playing.{HasPlayed as IsPlayedBy}

@@ -16,7 +16,7 @@ use Rattle.exb_merge.specs.declared.programme.Programme.{Programme}
 use Rattle.exb_merge.specs.Programmes.{IsProgramme, played_with}
 use Rattle.exb_merge.specs.Replays.{ids_in}
 use Rattle.exb_network.specs.Networks.{Network, world_of, IsQuiet, IsSame}
-use Rattle.exb_network.specs.Worlds.{all_left}
+use Rattle.exb_bridge.specs.Worlds.{all_left}
 use Rattle.exb_machine.specs.Worlds.{left_at}
 use Rattle.exb_motion.specs.Runs.Playing.{RunsAreFew, RunsAreUnderWay}
 use Rattle.exb_schedule.specs.declared.segment.Arrival.{Arrival}

@@ -10,8 +10,8 @@ use Rattle.exb_model.specs.Traces.{TraceLine}
 use Rattle.exb_model.specs.Tree.{Shape, IsTree, is_external}
 use Rattle.exb_machine.specs.Worlds.{Left as Leaving}
 use Rattle.exb_network.specs.Networks.{Network, world_of, IsQuiet, IsSame}
-use Rattle.exb_network.specs.Sites.{Site, limits_in as limits_at}
-use Rattle.exb_network.specs.Worlds.{all_left, copies_of}
+use Rattle.exb_bridge.specs.Sites.{Site, limits_in as limits_at}
+use Rattle.exb_bridge.specs.Worlds.{all_left, copies_of}
 use Rattle.exb_boxes.specs.declared.log.Left.{Left}
 use Rattle.exb_motion.specs.Runs.Playing.{IsCopyOfAny, RunsAreUnderWay, RunsAreFew, arrivals_in}
 use Rattle.exb_schedule.specs.Playing.{HasPlayed}

@@ -14,7 +14,7 @@ use Rattle.exb_merge.specs.Programmes.{IsComing, IsFrom, IsProgramme, IsTakenOf,
 use Rattle.exb_merge.specs.Replays.{AreReplays, HasPort, ids_in, left_in, number_of, standings}
 use Rattle.exb_merge.specs.Streams.{Stream}
 use Rattle.exb_network.specs.Networks.{Network}
-use Rattle.exb_network.specs.Worlds.{all_left}
+use Rattle.exb_bridge.specs.Worlds.{all_left}
 use Rattle.exb_motion.specs.Playing.{IsTimely}
 use Rattle.exb_motion.specs.Runs.Playing.{arrivals_in}
 use Rattle.exb_schedule.specs.declared.segment.Arrival.{Arrival}

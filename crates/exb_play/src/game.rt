@@ -12,7 +12,7 @@ ghost use Rattle.exb_machine.specs.Worlds.{Left as Leaving};
 ghost use Rattle.exb_merge.specs.Replays.{ids_in, HasPort, standings};
 ghost use Rattle.exb_motion.specs.Playing.{IsTimely};
 ghost use Rattle.exb_network.specs.Networks.{world_of, IsQuiet, IsSame};
-ghost use Rattle.exb_network.specs.Worlds.{all_left};
+ghost use Rattle.exb_bridge.specs.Worlds.{all_left};
 ghost use Rattle.exb_schedule.specs.Playing.{CanAll, HasPlayed as IsPlayedBy, IsSegment, gives, letters_in};
 ghost use Rattle.exb_schedule.specs.Worlds.{network_of, fate_in};
 ghost use Rattle.exb_shelf.specs.Files.{Files, Filled};

@@ -20,7 +20,7 @@ use Rattle.exb_motion.specs.Given.{Given, Came, Told, given_by, arrivals_of, com
 use Rattle.exb_motion.specs.Kept.{given_in}
 use Rattle.exb_motion.specs.Playing.{seconds_by, seconds_in, IsUnmarked}
 use Rattle.exb_network.specs.Networks.{Network, world_of, tree_of, bounds_of, IsStepped}
-use Rattle.exb_network.specs.Sites.{Site}
+use Rattle.exb_bridge.specs.Sites.{Site}
 use Rattle.exb_motion.specs.Runs.Settles.{MayTake}
 use Rattle.exb_schedule.specs.Drawing.{left_of, seconds_of, MayCome, MayComeAll, MayOrderAll, IsReady, HasDrawn, Keeps}
 use Rattle.exb_schedule.specs.Playing.{arrive, gives, orders, CanAll, CanFrom, IsSegment}

@@ -22,7 +22,7 @@ use Rattle.exb_motion.specs.Given.{arrivals_of, commands_of}
 use Rattle.exb_motion.specs.Kept.{given_in}
 use Rattle.exb_motion.specs.Playing.{seconds_in, IsUnmarked, Gives, IsEager, nothing_given}
 use Rattle.exb_network.specs.Networks.{Network, world_of, tree_of, bounds_of, IsStepped}
-use Rattle.exb_network.specs.Sites.{Site, limits_in}
+use Rattle.exb_bridge.specs.Sites.{Site, limits_in}
 use Rattle.exb_motion.specs.Runs.Settles.{MayTake}
 use Rattle.exb_schedule.specs.Moves.{HasRun}
 use Rattle.exb_schedule.specs.Playing.{arrive, gives, letters_in, orders, tick, CanAll, CanFrom, IsSegment}

@@ -9,7 +9,7 @@ use Rattle.exb_machine.specs.Settling.{direction, nothing, round, through_all}
 use Rattle.exb_machine.specs.Stepping.{Stepped, stepped, words_on}
 use Rattle.exb_machine.specs.Worlds.{World, Way, Up, Down, Beat}
 use Rattle.exb_network.specs.Networks.{Network, world_of, tree_of, bounds_of, IsStepped}
-use Rattle.exb_network.specs.Sites.{Site, limits_in}
+use Rattle.exb_bridge.specs.Sites.{Site, limits_in}
 use Rattle.exb_network.specs.Turns.{order_of}
 use Rattle.exb_motion.specs.Runs.Settles.{MayTake}
 use Rattle.exb_schedule.specs.Moves.{HasGone}

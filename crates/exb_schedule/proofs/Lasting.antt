@@ -16,8 +16,8 @@ use Rattle.exb_machine.specs.Runs.Laws.{IsMove}
 use Rattle.exb_machine.specs.Runs.Passed.{passed_over}
 use Rattle.exb_machine.specs.Runs.Sessions.{Each}
 use Rattle.exb_network.specs.Networks.{Network, world_of, tree_of, bounds_of}
-use Rattle.exb_network.specs.Sites.{Site, limits_in}
-use Rattle.exb_network.specs.Worlds.{all_left}
+use Rattle.exb_bridge.specs.Sites.{Site, limits_in}
+use Rattle.exb_bridge.specs.Worlds.{all_left}
 use Rattle.exb_flying.specs.Promises.{IsClean}
 use Rattle.exb_motion.specs.Given.{Given, given_by, arrivals_of, basis_with}
 use Rattle.exb_motion.specs.Kept.{basis_of, given_in}

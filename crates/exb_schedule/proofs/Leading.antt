@@ -13,8 +13,8 @@ use Rattle.exb_machine.specs.Runs.Laws.{IsMove}
 use Rattle.exb_machine.proofs.Rounds.{run_then}
 use Rattle.exb_machine.proofs.Words.{each_append}
 use Rattle.exb_network.specs.Networks.{Network, world_of, tree_of, bounds_of, IsSame, IsStepped}
-use Rattle.exb_network.specs.Sites.{Site, limits_in}
-use Rattle.exb_network.specs.Worlds.{all_left}
+use Rattle.exb_bridge.specs.Sites.{Site, limits_in}
+use Rattle.exb_bridge.specs.Worlds.{all_left}
 use Rattle.exb_resting.specs.Costs.{costs}
 use Rattle.exb_motion.specs.Runs.Settles.{MayTake, MayTakeAll}
 use Rattle.exb_schedule.specs.Moves.{IsMoved, HasRun, HasGone}

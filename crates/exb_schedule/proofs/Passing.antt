@@ -14,7 +14,7 @@ use Rattle.exb_machine.specs.Runs.Laws.{IsMove}
 use Rattle.exb_machine.specs.Runs.Sessions.{Each}
 use Rattle.exb_machine.proofs.Words.{each_append, at_here}
 use Rattle.exb_network.specs.Networks.{Network, world_of, tree_of, bounds_of}
-use Rattle.exb_network.specs.Sites.{Site, limits_in}
+use Rattle.exb_bridge.specs.Sites.{Site, limits_in}
 use Rattle.exb_resting.specs.Costs.{costs}
 use Rattle.exb_resting.specs.Facts.{Moves}
 use Rattle.exb_resting.proofs.RoundSteps.{data_at, data_out, control_there, control_out, StandsAt, taken_stands, step_is}

@@ -15,7 +15,7 @@ use Rattle.exb_motion.specs.Kept.{HasVid, HasVidIn}
 use Rattle.exb_network.specs.declared.world.WorldFault.{WorldFault}
 use Rattle.exb_network.specs.declared.world.WorldFault.TheVariants as fault
 use Rattle.exb_network.specs.Networks.{Network, world_of, tree_of, bounds_of, IsStepped}
-use Rattle.exb_network.specs.Sites.{Site, limits_in}
+use Rattle.exb_bridge.specs.Sites.{Site, limits_in}
 use Rattle.exb_motion.specs.Runs.Settles.{MayTake, beginning, reached_by}
 use Rattle.exb_schedule.specs.Reached.{Reached, IsReached}
 use Rattle.exb_schedule.proofs.Runs.{one_step, take_then}

@@ -11,7 +11,7 @@ use Rattle.exb_machine.specs.Worlds.{World}
 use Rattle.exb_machine.proofs.Rounds.{settled_exactly}
 use Rattle.exb_motion.proofs.Setups.{setups_may_start}
 use Rattle.exb_network.specs.Networks.{Network, world_of, tree_of, bounds_of, IsSame}
-use Rattle.exb_network.specs.Sites.{Site, limits_in}
+use Rattle.exb_bridge.specs.Sites.{Site, limits_in}
 use Rattle.exb_resting.specs.Costs.{costs}
 use Rattle.exb_resting.specs.Laws.{RoundsSpend}
 use Rattle.exb_motion.specs.Runs.Settles.{Settles, reached_by}

@@ -20,8 +20,8 @@ use Rattle.exb_machine.specs.Runs.Sessions.{Each}
 use Rattle.exb_motion.specs.Kept.{HasVid}
 use Rattle.exb_motion.specs.Playing.{Gives}
 use Rattle.exb_network.specs.Networks.{Network, world_of, tree_of, bounds_of, IsQuiet, IsStepped}
-use Rattle.exb_network.specs.Sites.{Site, limits_in}
-use Rattle.exb_network.specs.Worlds.{all_left}
+use Rattle.exb_bridge.specs.Sites.{Site, limits_in}
+use Rattle.exb_bridge.specs.Worlds.{all_left}
 use Rattle.exb_motion.specs.Runs.Playing.{begin_of}
 use Rattle.exb_motion.specs.Runs.Settles.{MayTake, MayTakeAll}
 use Rattle.exb_schedule.specs.Moves.{HasRun, HasGone, HasEnded}

@@ -14,8 +14,8 @@ use Rattle.exb_machine.specs.Worlds.{World, Step, Left, first_world}
 use Rattle.exb_network.specs.declared.world.WorldFault.{WorldFault}
 use Rattle.exb_network.specs.declared.world.WorldFault.TheVariants as fault
 use Rattle.exb_network.specs.Networks.{Network, world_of, tree_of, bounds_of, IsStepped}
-use Rattle.exb_network.specs.Sites.{Site, limits_in}
-use Rattle.exb_network.specs.Worlds.{all_left}
+use Rattle.exb_bridge.specs.Sites.{Site, limits_in}
+use Rattle.exb_bridge.specs.Worlds.{all_left}
 use Rattle.exb_flying.specs.Promises.{IsClean}
 use Rattle.exb_motion.specs.Events.{TellsOf, StepsTellSo}
 use Rattle.exb_motion.specs.Given.{Given, given_by}

@@ -8,7 +8,7 @@ use Rattle.exb_machine.specs.Worlds.{Step, Mark}
 use Rattle.exb_machine.specs.Runs.Laws.{IsMove}
 use Rattle.exb_machine.specs.Runs.Sessions.{Each}
 use Rattle.exb_network.specs.Networks.{Network, world_of, tree_of, bounds_of, IsSame}
-use Rattle.exb_network.specs.Worlds.{all_left}
+use Rattle.exb_bridge.specs.Worlds.{all_left}
 use Rattle.exb_motion.specs.Runs.Settles.{MayTakeAll}
 
 -- The network is where this was done: its world is that, and what was told and has left stands behind what was told and had left

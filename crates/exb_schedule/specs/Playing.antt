@@ -13,7 +13,7 @@ use Rattle.exb_machine.specs.Stepping.{Stepped, stepped}
 use Rattle.exb_machine.specs.Telling.{all_told}
 use Rattle.exb_machine.specs.Worlds.{World, Step, Arrive, Order, Tick, Left}
 use Rattle.exb_network.specs.Networks.{Network, world_of, tree_of as shape_in, bounds_of as limits_in}
-use Rattle.exb_network.specs.Worlds.{all_left}
+use Rattle.exb_bridge.specs.Worlds.{all_left}
 use Rattle.exb_motion.specs.Runs.Playing.{PlaysIn}
 
 -- ---- a segment: its seconds, its commands and its arrivals

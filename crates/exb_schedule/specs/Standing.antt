@@ -6,7 +6,7 @@ use Rattle.exb_model.specs.History.{Basis, History, ◌then◌}
 use Rattle.exb_model.specs.Setup.{IsValid, limits_of, shape_of, start_of}
 use Rattle.exb_machine.specs.Worlds.{Step, Left, first_world}
 use Rattle.exb_network.specs.Networks.{Network, world_of, tree_of, bounds_of, IsStepped}
-use Rattle.exb_network.specs.Worlds.{all_left}
+use Rattle.exb_bridge.specs.Worlds.{all_left}
 use Rattle.exb_flying.specs.Promises.{IsClean}
 use Rattle.exb_motion.specs.Events.{TellsOf}
 use Rattle.exb_motion.specs.Given.{Given, given_by}

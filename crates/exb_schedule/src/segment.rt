@@ -5,7 +5,7 @@ ghost use Rattle.exb_model.specs.Setup.{IsValid, limits_of, shape_of};
 ghost use Rattle.exb_machine.specs.Allowing.{Can, IsSettled};
 ghost use Rattle.exb_machine.specs.Worlds.{Mark, Order};
 ghost use Rattle.exb_network.specs.Networks.{world_of, tree_of, bounds_of, IsSame, IsStepped};
-ghost use Rattle.exb_network.specs.Worlds.{all_left};
+ghost use Rattle.exb_bridge.specs.Worlds.{all_left};
 ghost use Rattle.exb_motion.specs.Runs.Settles.{MayTake};
 ghost use Rattle.exb_schedule.specs.Moves.{HasEnded, HasRun};
 ghost use Rattle.exb_schedule.specs.Playing.{gives, letters_in, orders, CanAll, HasPlayed, PlaysOn};

@@ -6,8 +6,8 @@ use Rattle.exb_model.specs.FlatBridge.{Sent}
 use Rattle.exb_model.specs.Texts.{record_text}
 use Rattle.exb_machine.specs.Worlds.{Left as Leaving, left_at}
 use Rattle.exb_boxes.specs.declared.log.Left.{Left}
-use Rattle.exb_network.specs.Worlds.{all_left, copies_at, copies_of}
-use Rattle.exb_network.proofs.Cores.{left_more as one_more}
+use Rattle.exb_bridge.specs.Worlds.{all_left, copies_at, copies_of}
+use Rattle.exb_bridge.proofs.Cores.{left_more as one_more}
 use Rattle.exb_shelf.specs.Files.{Files}
 use Rattle.exb_text.specs.declared.output.Output.{Output}
 use Rattle.exb_text.specs.declared.output.Output.TheVariants as output

@@ -10,7 +10,7 @@ use Rattle.exb_model.specs.History.{History, ◌then◌}
 use Rattle.exb_model.specs.Texts.{Counts, with_left, counted, capture_text, journal_text}
 use Rattle.exb_model.specs.Traces.{TraceLine, trace_line, trace_text}
 use Rattle.exb_machine.specs.Worlds.{Left as Leaving, left_at}
-use Rattle.exb_network.specs.Worlds.{all_left}
+use Rattle.exb_bridge.specs.Worlds.{all_left}
 use Rattle.exb_boxes.specs.declared.log.Left.{Left}
 use Rattle.exb_text.specs.declared.output.Output.{Output}
 use Rattle.exb_text.specs.declared.output.Output.TheVariants as output

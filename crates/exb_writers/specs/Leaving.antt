@@ -4,7 +4,7 @@ use Rattle.exb_model.specs.FlatBridge.{Sent}
 use Rattle.exb_machine.specs.Worlds.{Left as Leaving, left_at}
 use Rattle.exb_model.specs.Texts.{record_text}
 use Rattle.exb_boxes.specs.declared.log.Left.{Left}
-use Rattle.exb_network.specs.Worlds.{all_left, copies_of}
+use Rattle.exb_bridge.specs.Worlds.{all_left, copies_of}
 use Rattle.exb_text.specs.declared.output.Output.{Output}
 use Rattle.exb_text.specs.declared.output.Output.TheVariants as output
 use Rattle.exb_outputs.specs.Manifests.{Listed}

@@ -4,7 +4,7 @@ ghost use Rattle.exb_shelf.specs.Files.{Files};
 ghost use Rattle.exb_model.specs.FlatBridge.{Sent};
 ghost use Rattle.exb_model.specs.Texts.{record_text as record_of};
 ghost use Rattle.exb_text.specs.declared.output.Output.{Output};
-ghost use Rattle.exb_network.specs.Worlds.{copies_of};
+ghost use Rattle.exb_bridge.specs.Worlds.{copies_of};
 ghost use Rattle.exb_outputs.specs.Shelving.{CountsWrites, OnlyWrites};
 ghost use Rattle.exb_outputs.specs.Sent.{HasSent};
 ghost use Rattle.exb_outputs.specs.Writing.{AreCut, HasTexts, IsReady, pieces_of};

@@ -1,6 +1,6 @@
 use Rattle.std.proofs.Common.{◌≡◌, ℕ, List, Some, drop, length, ap, ◌∙◌, arith}
 use Rattle.exb_boxes.specs.Rows.{ports_in}
-use Rattle.exb_network.specs.Worlds.{copies_at, copies_of}
+use Rattle.exb_bridge.specs.Worlds.{copies_at, copies_of}
 use Rattle.exb_nets.specs.NetHistory.{crosses}
 use Rattle.exb_machine.specs.Worlds.{left_at}
 use Rattle.exb_net.specs.Crossings.{all_crossing}

@@ -1,5 +1,5 @@
 use Rattle.std.proofs.Common.{drop}
-use Rattle.exb_network.specs.Worlds.{all_left}
+use Rattle.exb_bridge.specs.Worlds.{all_left}
 use Rattle.exb_net.specs.Crossings.{all_crossing}
 use Rattle.exb_net.specs.Ends.{sent_over}
 use Rattle.exb_net.proofs.Sending.{LeadsTo}

@@ -1,6 +1,6 @@
 use Rattle.std.proofs.Common.{Some, drop, ap}
 use Rattle.std.proofs.lemmas.List.{drop_all}
-use Rattle.exb_network.specs.Worlds.{all_left}
+use Rattle.exb_bridge.specs.Worlds.{all_left}
 use Rattle.exb_nets.specs.NetHistory.{crosses}
 use Rattle.exb_machine.specs.Worlds.{left_at}
 use Rattle.exb_net.specs.Crossings.{all_crossing}

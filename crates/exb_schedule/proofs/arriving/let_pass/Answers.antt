@@ -1,6 +1,6 @@
 use Rattle.std.proofs.Common.{List, sym, subst}
 use Rattle.exb_machine.specs.Worlds.{Step, Tick}
-use Rattle.exb_network.proofs.Coming.{on_ok_two}
+use Rattle.exb_bridge.proofs.Coming.{on_ok_two}
 use Rattle.exb_schedule.specs.Moves.{HasRun}
 use Rattle.exb_schedule.proofs.Giving.{tick_none, tick_some}
 use Rattle.exb_schedule.proofs.Leading.{run_nothing, run_step}

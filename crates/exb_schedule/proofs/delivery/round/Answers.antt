@@ -1,5 +1,5 @@
 use Rattle.std.proofs.Common.{arith}
-use Rattle.exb_network.proofs.Coming.{on_ok_two}
+use Rattle.exb_bridge.proofs.Coming.{on_ok_two}
 use Rattle.exb_schedule.specs.Worlds.{network_of}
 use Rattle.exb_schedule.proofs.Going.{has_round}
 use Rattle.exb_schedule.proofs.delivery.round.Goals as goal

@@ -4,7 +4,7 @@ use Rattle.exb_link.specs.Words.{leading}
 use Rattle.exb_machine.specs.Stepping.{words_on}
 use Rattle.exb_network.specs.Networks.{world_of}
 use Rattle.exb_network.specs.Steps.{way_of}
-use Rattle.exb_network.proofs.Coming.{on_ok_two}
+use Rattle.exb_bridge.proofs.Coming.{on_ok_two}
 use Rattle.exb_schedule.specs.Worlds.{network_of}
 use Rattle.exb_schedule.proofs.Leading.{run_step}
 use Rattle.exb_schedule.proofs.Giving.{on_ok_all}

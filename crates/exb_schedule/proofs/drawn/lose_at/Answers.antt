@@ -1,6 +1,6 @@
 use Rattle.exb_machine.specs.Worlds.{Lose}
 use Rattle.exb_network.specs.Steps.{way_of}
-use Rattle.exb_network.proofs.Coming.{on_ok_two}
+use Rattle.exb_bridge.proofs.Coming.{on_ok_two}
 use Rattle.exb_schedule.specs.Worlds.{network_of}
 use Rattle.exb_schedule.proofs.Drawing.{keeps_by}
 use Rattle.exb_schedule.proofs.drawn.lose_at.Goals as goal

@@ -1,4 +1,4 @@
-use Rattle.exb_network.proofs.Coming.{on_ok_two}
+use Rattle.exb_bridge.proofs.Coming.{on_ok_two}
 use Rattle.exb_schedule.specs.Worlds.{network_of}
 use Rattle.exb_schedule.proofs.Segments.{has_ended, stays_settled}
 use Rattle.exb_schedule.proofs.segment.end.Goals as goal

@@ -1,5 +1,5 @@
 use Rattle.std.proofs.Common.{◌∙◌, ap, arith}
-use Rattle.exb_network.specs.Sites.{Site, limits_in}
+use Rattle.exb_bridge.specs.Sites.{Site, limits_in}
 use Rattle.exb_schedule.specs.Worlds.{network_of}
 use Rattle.exb_schedule.proofs.Segments.{opened}
 use Rattle.exb_schedule.proofs.segment.open.Goals as goal

@@ -5,7 +5,7 @@ use Rattle.exb_text.specs.declared.output.Output.{Output}
 use Rattle.exb_machine.specs.Worlds.{Left as Leaving}
 use Rattle.exb_model.specs.FlatBridge.{Sent}
 use Rattle.exb_boxes.specs.Rows.{ports_in}
-use Rattle.exb_network.specs.Worlds.{copies_at, copies_of}
+use Rattle.exb_bridge.specs.Worlds.{copies_at, copies_of}
 use Rattle.exb_outputs.specs.Sent.{HasSent}
 use Rattle.exb_outputs.specs.Shelving.{OnlyWrites}
 use Rattle.exb_outputs.specs.Writing.{CanBeRecorded, pieces_of, HasTexts, IsReady}
