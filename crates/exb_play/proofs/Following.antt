@@ -25,8 +25,7 @@ use Rattle.exb_merge.specs.Programmes.{IsComing, IsProgramme, played_with}
 use Rattle.exb_merge.specs.Replays.{left_in}
 use Rattle.exb_network.specs.Networks.{Network, world_of, bounds_of as limits_in}
 use Rattle.exb_motion.specs.Runs.Playing.{RunsAreUnderWay, arrivals_in}
-use Rattle.exb_schedule.specs.declared.segment.Arrival.{Arrival as Given}
-use Rattle.exb_schedule.specs.Playing.{CanAll, CanFrom, HasPlayed, IsSegment, arrive, arrived, gives, letters_in, orders, tick}
+use Rattle.exb_schedule.specs.Playing.{CanAll, CanFrom, HasPlayed, IsSegment, arrive, gives, letters_in, orders, tick}
 use Rattle.exb_shelf.specs.Files.{Files}
 use Rattle.exb_shelf.specs.Shelf.{Id}
 use Rattle.exb_play.specs.declared.feed.Feed.{Feed}
@@ -65,7 +64,7 @@ module _ (t : Shape) (l : Limits) where
       ]
 
   can-arrive : (i : Input) (frames : List Arrival) (w : World) (given : ℕ) (before : List Arrival) → t ≡ tree_of i → Follows w given before → HavePlaces i before frames → AllByRecursion IsFit frames →
-      CanFrom t l w (map (λ (a : Arrival). Arrive a) frames)
+      CanFrom t l w (arrive frames)
   can-arrive i [] w given before is f places fit = tt
   can-arrive i (a ∷ frames) w given before is f places fit =
       let may : MayArrive t w a.port a.index (length a.bytes) = record {
@@ -274,11 +273,11 @@ module _ (m : Mode) (i : Input) (so_far : List Segment) (last : Option ℕ) (a :
       }
 
   -- the segment of what was gathered
-  pub is-segment : (cs : List Timed) → cs ≡ taken.given → (frames : List Given) → frames ≡ f.gathered.items → IsSegment i (segment_of seconds (came_by (got.first ∷ got.more))) seconds cs frames
+  pub is-segment : (cs : List Timed) → cs ≡ taken.given → (frames : List Arrival) → frames ≡ f.gathered.items → IsSegment i (segment_of seconds (came_by (got.first ∷ got.more))) seconds cs frames
   is-segment cs given_are frames frames_are = record {
     seconds_are = refl;
     commands = taken.numbers ∙ ap (map (λ (c : Timed). c.command)) (sym given_are);
-    arrivals_are = sym got.arrivals_are ∙ ap (map arrived) (sym frames_are);
+    arrivals_are = sym got.arrivals_are ∙ sym frames_are;
   }
 
   few-commands : f.programme.taken ≤ 65536
@@ -305,11 +304,7 @@ module _ (m : Mode) (i : Input) (so_far : List Segment) (last : Option ℕ) (a :
 
   -- and it can be played
   module _ (law : RunsAreUnderWay) (net : Network) (told : List Event) (passed : List Bool) (gone : List Left) (lines : List TraceLine) (played : HasPlayed m i so_far net told passed gone lines) where
-    map-arrive : (xs : List Given) → arrive xs ≡ map (λ (x : Arrival). Arrive x) (map arrived xs)
-    map-arrive [] = refl
-    map-arrive (x ∷ xs) = ap (λ (steps : List Step). Arrive (arrived x) ∷ steps) (map-arrive xs)
-
-    pub can-play : (cs : List Timed) → cs ≡ taken.given → (frames : List Given) → frames ≡ f.gathered.items → CanAll net (gives seconds cs frames)
+    pub can-play : (cs : List Timed) → cs ≡ taken.given → (frames : List Arrival) → frames ≡ f.gathered.items → CanAll net (gives seconds cs frames)
     can-play cs given_are frames frames_are =
         let t : Shape = tree_of i in
         let l : Limits = limits_in net in
@@ -325,8 +320,8 @@ module _ (m : Mode) (i : Input) (so_far : List Segment) (last : Option ℕ) (a :
         let few : a.taken + length taken.given ≤ 65536 = (let more = taken.many in let most = few-commands in omega (arith, more, most)) in
         let P : List Step → Type 0 = λ steps. CanFrom t l w (tick seconds ++ (orders taken.given ++ steps)) in
         let can : P (arrive frames) =
-        subst P (sym (map-arrive frames ∙ ap (λ (xs : List Given). map (λ (x : Arrival). Arrive x) (map arrived xs)) frames_are ∙ ap (map (λ (x : Arrival). Arrive x)) got.arrivals_are))
-        (can-tick t l w seconds a.taken (arrivals_in so_far) (orders taken.given ++ map (λ (x : Arrival). Arrive x) came) begun clock
-        (λ v g. can-order t l taken.given v a.taken (arrivals_in so_far) (map (λ (x : Arrival). Arrive x) came) g names few
+        subst P (sym (ap arrive (frames_are ∙ got.arrivals_are)))
+        (can-tick t l w seconds a.taken (arrivals_in so_far) (orders taken.given ++ arrive came) begun clock
+        (λ v g. can-order t l taken.given v a.taken (arrivals_in so_far) (arrive came) g names few
         (λ u h. can-arrive t l i came u (a.taken + length taken.given) (arrivals_in so_far) refl h behind.places fit))) in
         can-in m i so_far net told passed gone lines played (gives seconds cs frames) (subst (λ (xs : List Timed). CanFrom t l w (gives seconds xs frames)) (sym given_are) can)

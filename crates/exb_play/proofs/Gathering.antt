@@ -4,13 +4,12 @@ use Rattle.std.specs.Prelude.{filter_map}
 use Rattle.std.specs.List.{AllByRecursion}
 use mathlib.Core.List.{map-append}
 use Rattle.std.proofs.lemmas.List.{append-nil}
-use Rattle.exb_model.specs.Input.{Arrival as Arrived, Coming, Mode, Eager, Seeded, arrival_in}
+use Rattle.exb_model.specs.Input.{Coming, Mode, Eager, Seeded, arrival_in}
+use Rattle.exb_model.specs.declared.arrival.Arrival.{Arrival}
 use Rattle.exb_merge.specs.Agendas.{still_to_come}
 use Rattle.exb_merge.specs.declared.programme.Next.{Next}
 use Rattle.exb_merge.specs.declared.programme.Programme.{Programme}
 use Rattle.exb_merge.specs.Programmes.{IsComing, IsTakenOf, played_with, what}
-use Rattle.exb_schedule.specs.declared.segment.Arrival.{Arrival}
-use Rattle.exb_schedule.specs.Playing.{arrived}
 use Rattle.exb_shelf.specs.Files.{Files}
 use Rattle.exb_shelf.specs.Shelf.{Id}
 use Rattle.exb_play.specs.declared.feed.Feed.{Feed}
@@ -43,7 +42,7 @@ arrivals-more ds d = sym (arrivals-append (came_by ds) (what d ∷ [])) ∙ ap (
 pub takes-none : (tells : Type 0) (second : ℕ) (file : Files) (given : ℕ → Id) (f : Feed) → HasTakenSecond tells second file file given given f f
 takes-none tells second file given f = record {
   ds = [];
-  has = record { comes = refl; takes = λ t streams replays. (streams, refl, replays); arrivals_are = sym (append-nil (map arrived f.gathered.items)) };
+  has = record { comes = refl; takes = λ t streams replays. (streams, refl, replays); arrivals_are = sym (append-nil f.gathered.items) };
   within = tt;
 }
 
@@ -56,9 +55,9 @@ gathers-more tells second file mid files given mids ids a b c d so_far one is = 
     comes = comes-more a.programme b.programme c.programme so_far.ds d so_far.has.comes one.coming;
     takes = λ t. takes-more file mid files given mids ids a.programme b.programme c.programme so_far.ds d (so_far.has.takes t) (one.takes t);
     arrivals_are =
-        one.arrivals_are ∙ ap (λ (xs : List Arrived). xs ++ filter_map arrival_in (what d ∷ [])) so_far.has.arrivals_are
-        ∙ append_assoc (map arrived a.gathered.items) (arrivals_by so_far.ds) (filter_map arrival_in (what d ∷ []))
-        ∙ ap (λ (xs : List Arrived). map arrived a.gathered.items ++ xs) (arrivals-more so_far.ds d);
+        one.arrivals_are ∙ ap (λ (xs : List Arrival). xs ++ filter_map arrival_in (what d ∷ [])) so_far.has.arrivals_are
+        ∙ append_assoc a.gathered.items (arrivals_by so_far.ds) (filter_map arrival_in (what d ∷ []))
+        ∙ ap (λ (xs : List Arrival). a.gathered.items ++ xs) (arrivals-more so_far.ds d);
   };
   within = all-more second so_far.ds d so_far.within is;
 }
@@ -78,7 +77,7 @@ gathers-same tells second file mid files given mids ids a b c so_far same gather
   has = record {
     comes = subst (ComeAll a.programme so_far.ds) (sym same) so_far.has.comes;
     takes = λ t. subst (TakesAllOf file files given ids a.programme so_far.ds) (sym same) (takes-none-more file mid files given mids ids a.programme b.programme so_far.ds (so_far.has.takes t) (none t));
-    arrivals_are = ap (map arrived) gathered ∙ so_far.has.arrivals_are;
+    arrivals_are = gathered ∙ so_far.has.arrivals_are;
   };
   within = so_far.within;
 }
@@ -92,7 +91,7 @@ gathers-alone tells m file files given ids second a b d one none is eager = reco
   more = [];
   comes = (b.programme, one.coming, refl);
   takes = one.takes;
-  arrivals_are = one.arrivals_are ∙ ap (λ (xs : List Arrival). map arrived xs ++ filter_map arrival_in (what d ∷ [])) none;
+  arrivals_are = one.arrivals_are ∙ ap (λ (xs : List Arrival). xs ++ filter_map arrival_in (what d ∷ [])) none;
   is_first = is;
   alone = λ e. refl;
   within = tt;
@@ -111,7 +110,7 @@ gathers-all tells m file mid files given mids ids second a b c d one none is beh
       let (last, next, others) = behind.has.takes t rest left in
       (last, order ∙ ap (λ (xs : List Coming). what d ∷ xs) next, others));
   arrivals_are =
-      behind.has.arrivals_are ∙ ap (λ (xs : List Arrived). xs ++ arrivals_by behind.ds) (one.arrivals_are ∙ ap (λ (xs : List Arrival). map arrived xs ++ filter_map arrival_in (what d ∷ [])) none)
+      behind.has.arrivals_are ∙ ap (λ (xs : List Arrival). xs ++ arrivals_by behind.ds) (one.arrivals_are ∙ ap (λ (xs : List Arrival). xs ++ filter_map arrival_in (what d ∷ [])) none)
       ∙ sym (arrivals-append (what d ∷ []) (came_by behind.ds));
   is_first = is;
   alone = λ eager. absurd (seeded eager);

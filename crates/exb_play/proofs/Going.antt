@@ -19,7 +19,7 @@ use Rattle.exb_network.specs.Networks.{Network, world_of, IsQuiet, IsSame}
 use Rattle.exb_bridge.specs.Worlds.{all_left}
 use Rattle.exb_machine.specs.Worlds.{left_at}
 use Rattle.exb_motion.specs.Runs.Playing.{RunsAreFew, RunsAreUnderWay}
-use Rattle.exb_schedule.specs.declared.segment.Arrival.{Arrival}
+use Rattle.exb_model.specs.declared.arrival.Arrival.{Arrival}
 use Rattle.exb_schedule.specs.Playing.{HasPlayed, IsSegment, letters_in}
 use Rattle.exb_shelf.specs.Files.{Files, SameFiles}
 use Rattle.exb_shelf.specs.Shelf.{Id}

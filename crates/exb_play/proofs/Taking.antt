@@ -12,11 +12,9 @@ use Rattle.exb_model.specs.declared.arrival.Arrival.{Arrival}
 use Rattle.exb_model.specs.Input.{Input, Coming, Ordered, Captured, Mode, Eager, Seeded, alone, arrival_in, basis_of, given_by, groups_in, moment_of, number_in, second_of, tree_of}
 use Rattle.exb_model.specs.Tree.{is_external}
 use Rattle.exb_merge.specs.Agendas.{begins_in}
-use Rattle.exb_merge.specs.Arrivals.{arrival_with}
 use Rattle.exb_merge.specs.declared.programme.Next.{Next}
 use Rattle.exb_merge.specs.declared.programme.Next.TheVariants as next
 use Rattle.exb_merge.specs.declared.programme.Programme.{Programme}
-use Rattle.exb_merge.specs.declared.replays.Came.{Came}
 use Rattle.exb_merge.specs.Programmes.{IsComing, IsFrom, left_of, what}
 use Rattle.exb_merge.specs.Replays.{HasCome, HasPort, Standing, gone_on, ids_in, left_in, number_of, standings}
 use Rattle.exb_merge.proofs.Onward.{command_is, from_earlier, has_before, number_other, number_own, second_high, second_low}
@@ -192,23 +190,23 @@ pub record GoesOnBehind (i : Input) (before came : List Arrival) (b : Programme)
   pub counted : AreCounted (before ++ came) b
   pub external : AreExternal i b
 
-counted-more : (before : List Arrival) (c : Came) (a n : Programme) → AreCounted before a → HasCome (standings a.captures) c (standings n.captures) → AreCounted (before ++ arrival_with c ∷ []) n
+counted-more : (before : List Arrival) (c : Arrival) (a n : Programme) → AreCounted before a → HasCome (standings a.captures) c (standings n.captures) → AreCounted (before ++ c ∷ []) n
 counted-more before c a n counted come q = elim (cases_eq c.port q) [
   | inl same ↦
       let own : number_of (standings n.captures) q ≡ suc (number_of (standings a.captures) q) =
       ap (λ (ss : List Standing). number_of ss q) come.gone
       ∙ subst (λ (r : ℕ). number_of (gone_on c.port c.moment (standings a.captures)) r ≡ suc (number_of (standings a.captures) r)) same (number_own c.port c.moment (standings a.captures) come.port) in
-      let more = at-more q before (arrival_with c) true (eq-eqb c.port q same) in
+      let more = at-more q before c true (eq-eqb c.port q same) in
       let was = counted q in
       omega (arith, own, more, was)
   | inr other ↦
       let own : number_of (standings n.captures) q ≡ number_of (standings a.captures) q = ap (λ (ss : List Standing). number_of ss q) come.gone ∙ number_other c.port c.moment q (standings a.captures) other in
-      let more = at-more q before (arrival_with c) false (ne_eqb c.port q other) in
+      let more = at-more q before c false (ne_eqb c.port q other) in
       let was = counted q in
       omega (arith, own, more, was)
 ]
 
-external-more : (i : Input) (c : Came) (a n : Programme) → AreExternal i a → HasCome (standings a.captures) c (standings n.captures) → AreExternal i n
+external-more : (i : Input) (c : Arrival) (a n : Programme) → AreExternal i a → HasCome (standings a.captures) c (standings n.captures) → AreExternal i n
 external-more i c a n external come q has = external q (has_before c.port c.moment q (standings a.captures) (subst (HasPort q) come.gone has))
 
 pub goes-behind : (i : Input) (before : List Arrival) (a b : Programme) (ds : List Next) → ComeAll a ds b → AreCounted before a → AreExternal i a → GoesOnBehind i before (arrivals_by ds) b
@@ -222,10 +220,10 @@ goes-behind i before a b (next.Command number moment ∷ ds) (n, one, rest) coun
     goes-behind i before n b ds rest (λ q. counted q ∙ ap (λ (ss : List Standing). number_of ss q) (sym same)) (λ q has. external q (subst (HasPort q) same has))
 goes-behind i before a b (next.Record c ∷ ds) (n, one, rest) counted external =
     let come = one.is.0 in
-    let later = goes-behind i (before ++ arrival_with c ∷ []) n b ds rest (counted-more before c a n counted come) (external-more i c a n external come) in
+    let later = goes-behind i (before ++ c ∷ []) n b ds rest (counted-more before c a n counted come) (external-more i c a n external come) in
     record {
       places = (record { index = (let own = come.number in let was = counted c.port in omega (arith, own, was)); external = external c.port come.port }, later.places);
-      counted = subst (λ (xs : List Arrival). AreCounted xs b) (append_assoc before (arrival_with c ∷ []) (arrivals_by ds)) later.counted;
+      counted = subst (λ (xs : List Arrival). AreCounted xs b) (append_assoc before (c ∷ []) (arrivals_by ds)) later.counted;
       external = later.external;
     }
 

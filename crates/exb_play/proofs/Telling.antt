@@ -4,7 +4,8 @@ use Rattle.std.specs.Prelude.{slice_index_or}
 use Rattle.std.specs.List.{AllByRecursion}
 use Rattle.std.proofs.lemmas.List.{append-nil}
 use Rattle.exb_model.specs.declared.event.Event.{Event}
-use Rattle.exb_model.specs.Input.{Mode, Input, Arrival as Arrived, Segment, tree_of}
+use Rattle.exb_model.specs.Input.{Mode, Input, Segment, tree_of}
+use Rattle.exb_model.specs.declared.arrival.Arrival.{Arrival}
 use Rattle.exb_model.specs.Texts.{Counts, with_left}
 use Rattle.exb_model.specs.Traces.{TraceLine}
 use Rattle.exb_model.specs.Tree.{Shape, IsTree, is_external}
@@ -116,10 +117,10 @@ all-mapped P [] all k d low = absurd (omega (arith, low))
 all-mapped P (x ∷ xs) all zero d low = all-front P (copies_of x) (all_left xs) all
 all-mapped P (x ∷ xs) all (suc k) d low = all-mapped P xs (all-right P (copies_of x) (all_left xs) all) k d (omega (arith, low))
 
-kept-at : (came : List Arrived) (k : ℕ) (a : Arrived) → k < length came → slice_index_or came k a ≡ a → AllByRecursion (λ (b : Arrived). b.moment < 2 ^ 32 * 1_000_000_000) came →
+kept-at : (came : List Arrival) (k : ℕ) (a : Arrival) → k < length came → slice_index_or came k a ≡ a → AllByRecursion (λ (b : Arrival). b.moment < 2 ^ 32 * 1_000_000_000) came →
     a.moment < 2 ^ 32 * 1_000_000_000
 kept-at [] k a low is all = absurd (omega (arith, low))
-kept-at (b ∷ came) zero a low is all = let same = ap (λ (x : Arrived). x.moment) is in let own = all.0 in omega (arith, same, own)
+kept-at (b ∷ came) zero a low is all = let same = ap (λ (x : Arrival). x.moment) is in let own = all.0 in omega (arith, same, own)
 kept-at (b ∷ came) (suc k) a low is all = kept-at came k a (omega (arith, low)) is all.1
 
 pub frames-fit : (m : Mode) (i : Input) (manifest : Listed) (so_far : List Segment) (n : Network) (told : List Event) (passed : List Bool) (gone : List Leaving) (xs : List Left) (lines : List TraceLine) → RunsAreUnderWay → manifest.tree ≡ tree_of i →

@@ -17,8 +17,8 @@ use Rattle.exb_network.specs.Networks.{Network}
 use Rattle.exb_bridge.specs.Worlds.{all_left}
 use Rattle.exb_motion.specs.Playing.{IsTimely}
 use Rattle.exb_motion.specs.Runs.Playing.{arrivals_in}
-use Rattle.exb_schedule.specs.declared.segment.Arrival.{Arrival}
-use Rattle.exb_schedule.specs.Playing.{CanAll, HasPlayed as IsPlayedBy, IsSegment, arrived, gives}
+use Rattle.exb_model.specs.declared.arrival.Arrival.{Arrival}
+use Rattle.exb_schedule.specs.Playing.{CanAll, HasPlayed as IsPlayedBy, IsSegment, gives}
 use Rattle.exb_shelf.specs.Files.{Files}
 use Rattle.exb_shelf.specs.Shelf.{Id}
 use Rattle.exb_writers.specs.declared.counted.Counted.{Counted}
@@ -130,13 +130,13 @@ TakesAllOf file files given ids old ds new =
 pub record IsTaken (tells : Type 0) (file files : Files) (given ids : ℕ → Id) (old : Feed) (d : Next) (new : Feed) : Type 0 where
   pub coming : IsComing old.programme d new.programme
   pub takes : tells → IsTakenOf file files given ids old.programme d new.programme
-  pub arrivals_are : map arrived new.gathered.items ≡ map arrived old.gathered.items ++ filter_map arrival_in (what d ∷ [])
+  pub arrivals_are : new.gathered.items ≡ old.gathered.items ++ filter_map arrival_in (what d ∷ [])
 
 -- All of these came, and their arrivals stand behind those that had come.
 pub record HasTaken (tells : Type 0) (file files : Files) (given ids : ℕ → Id) (old : Feed) (ds : List Next) (new : Feed) : Type 0 where
   pub comes : ComeAll old.programme ds new.programme
   pub takes : tells → TakesAllOf file files given ids old.programme ds new.programme
-  pub arrivals_are : map arrived new.gathered.items ≡ map arrived old.gathered.items ++ filter_map arrival_in (map what ds)
+  pub arrivals_are : new.gathered.items ≡ old.gathered.items ++ filter_map arrival_in (map what ds)
 
 -- all of one second was taken
 pub record HasTakenSecond (tells : Type 0) (second : ℕ) (file files : Files) (given ids : ℕ → Id) (old new : Feed) : Type 0 where
@@ -162,7 +162,7 @@ pub record IsGathered (tells : Type 0) (m : Mode) (file files : Files) (given id
   pub more : List Next
   pub comes : ComeAll old (first ∷ more) new.programme
   pub takes : tells → TakesAllOf file files given ids old (first ∷ more) new.programme
-  pub arrivals_are : map arrived new.gathered.items ≡ filter_map arrival_in (map what (first ∷ more))
+  pub arrivals_are : new.gathered.items ≡ filter_map arrival_in (map what (first ∷ more))
   pub is_first : second_by first ≡ second
   pub alone : m ≡ Eager → more ≡ []
   pub within : AllByRecursion (λ d. second_by d ≡ second) more

@@ -1,19 +1,17 @@
 //! What comes in one segment: one event, or all of one second.
-ghost use Rattle.std.specs.Prelude.{◌≡◌, ◌++◌, ◌∷◌, [], true, false, map, IfOk, OnOk, IfErr, IfSome, IfNone, IsErrOf, ℕ};
+ghost use Rattle.std.specs.Prelude.{◌≡◌, ◌++◌, ◌∷◌, [], true, false, IfOk, OnOk, IfErr, IfSome, IfNone, IsErrOf, ℕ};
 ghost use Rattle.exb_model.specs.Input.{Eager};
-ghost use Rattle.exb_merge.specs.Arrivals.{arrival_with};
 ghost use Rattle.exb_merge.specs.Counting.{CountsAgain};
 ghost use Rattle.exb_merge.specs.declared.programme.Next.{Next as Coming};
 ghost use Rattle.exb_merge.specs.Replays.{ids_in, HasPort, standings};
-ghost use Rattle.exb_schedule.specs.Playing.{arrived};
 ghost use Rattle.exb_shelf.specs.Shelf.{NoFewer};
 ghost use Rattle.exb_play.specs.Playing.{mode_of};
 ghost use Rattle.exb_inputs.specs.Shelving.{OnlyReads};
 ghost use Rattle.exb_play.specs.UnderWay.{AreOthers, CanFeed, HasTakenSecond, IsGathered, IsTaken, NoMoreIn, NothingIsLeft, second_by};
 
 use crate::script::Schedule;
-use exb_merge::{Came, CaptureFault, Next, Programme};
-use exb_schedule::Arrival;
+use exb_merge::{CaptureFault, Next, Programme};
+use exb_model::arrival::Arrival;
 use exb_shelf::Shelf;
 use std::alloc::Global;
 use std::mem;
@@ -29,24 +27,12 @@ pub(crate) struct Feed<'a> {
     pub(crate) played: Vec<Arrival>,
 }
 
-/// A record that came, as an arrival.
-fn arrival(came: Came) -> Arrival
-    ensures { arrived result ≡ arrival_with came }
-{
-    Arrival {
-        port: came.port,
-        index: came.index,
-        moment: came.moment,
-        bytes: came.bytes,
-    }
-}
-
 /// Puts a record that came behind the arrivals so far.
-fn put(gathered: &mut Vec<Arrival>, came: Came) -> Result<(), CaptureFault>
-    ensures behind { OnOk result (map arrived gathered.new.items ≡ map arrived gathered.old.items ++ arrival_with came ∷ []) }
+fn put(gathered: &mut Vec<Arrival>, came: Arrival) -> Result<(), CaptureFault>
+    ensures behind { OnOk result (gathered.new.items ≡ gathered.old.items ++ came ∷ []) }
     ensures memory { IfErr result (λ fault. fault ≡ CaptureFault.Memory) }
 {
-    if gathered.push(arrival(came)).is_err() {
+    if gathered.push(came).is_err() {
         return Err(CaptureFault::Memory);
     }
     Ok(())

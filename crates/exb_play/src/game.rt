@@ -40,13 +40,14 @@ use exb_audit::facts::{events_numbers, lines_bytes};
 use exb_fate::Fate;
 use exb_inputs::Fault;
 use exb_machine::laws::steps_tell_passed;
+use exb_model::arrival::Arrival;
 use exb_model::setup::Timed;
 use exb_motion::laws::runs::{
     runs_are_few, runs_are_under_way, runs_say_passed, runs_write_eagerly, runs_write_fronts,
     runs_write_legally,
 };
 use exb_outputs::{Manifest, Outputs};
-use exb_schedule::{Arrival, World, WorldFault, count_left, eager, open, seeded};
+use exb_schedule::{World, WorldFault, count_left, eager, open, seeded};
 use exb_shelf::{Shelf, ShelfFault};
 use exb_tracing::laws::{runs_tell_legally, runs_tell_so_far};
 use exb_wiring::laws::counts_go_on;
