@@ -20,6 +20,8 @@ def room():
     """A folder for all temporary files of these tests and of what they start, which goes away with them: where TMPDIR says, or else in memory."""
     in_memory = "TMPDIR" not in os.environ and is_fit(MEMORY)
     folder = tempfile.mkdtemp(prefix="exbr-test-", dir=MEMORY if in_memory else None)
+    # Some tests have the program run by another user, who has to come to it.
+    os.chmod(folder, 0o711)
     os.environ["TMPDIR"] = tempfile.tempdir = folder
     try:
         yield
