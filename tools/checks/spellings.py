@@ -118,4 +118,4 @@ def spellings(program):
         return [Test("words", "all tables", skipped)]
     found = [(case[0], list(tables.rows(*case))) for case in tables.CASES]
     found.append(("limits", tables.LIMITS))
-    return [Test("words", name, lambda rows=rows: table(program, rows)) for name, rows in found]
+    return [Test("words", name, lambda rows=rows: table(program, rows), len(rows) / 50) for name, rows in found]

@@ -86,7 +86,8 @@ def run_all(tests, is_long=False, jobs=None):
     report = Report(tests, is_long)
     order = sorted(range(len(tests)), key=lambda at: -tests[at].seconds)
     fork = multiprocessing.get_context("fork")
-    with concurrent.futures.ProcessPoolExecutor(jobs or max(2, len(os.sched_getaffinity(0))), fork, Worker.begin, (tests,)) as pool:
+    jobs = min(len(tests), jobs or max(2, len(os.sched_getaffinity(0))))
+    with concurrent.futures.ProcessPoolExecutor(jobs, fork, Worker.begin, (tests,)) as pool:
         runs = {pool.submit(Worker.run, at): tests[at] for at in order}
         for it in concurrent.futures.as_completed(runs):
             report.take(runs[it], it.result())

@@ -69,6 +69,10 @@ RUNS = [
 ]
 
 
+# Tables that take long, and how many seconds: that of long lists, which are read in Python too.
+LONG = {"limits, light": 4}
+
+
 def skipped():
     raise Skip("the plain bridge in Python needs Python 3.11 or later")
 
@@ -87,4 +91,4 @@ def verdicts(program):
                   for name, rows in tables.files_of_nets()]
         found += [(name, [of_net(*it) for it in rows]) for name, rows in tables.nets_with_topologies()]
     found.append(("runs", [Row(*it) for it in RUNS]))
-    return [Test("verdicts", name, lambda rows=rows: table(program, rows)) for name, rows in found]
+    return [Test("verdicts", name, lambda rows=rows: table(program, rows), LONG.get(name, 0)) for name, rows in found]

@@ -1,4 +1,4 @@
-"""A hundred inputs of the soak with fixed seeds, on the program that EXBR_PROGRAM names."""
+"""Eighty inputs of the soak with fixed seeds, on the program that EXBR_PROGRAM names."""
 import os
 import subprocess
 import sys
@@ -14,14 +14,14 @@ def soak(*words):
 
 class Soak(unittest.TestCase):
     def plays(self, seed):
-        """Twenty-five inputs of a seed, each under eight faults that are drawn."""
+        """Twenty inputs of a seed, each under eight faults that are drawn."""
         if not PROGRAM:
             self.skipTest("no program is named")
         if sys.version_info < (3, 11):
             self.skipTest("the models in Python need Python 3.11")
-        ran = soak("--program", PROGRAM, "--inputs", "25", "--seed", str(seed), "--quiet")
+        ran = soak("--program", PROGRAM, "--inputs", "20", "--seed", str(seed), "--quiet")
         self.assertEqual(ran.returncode, 0, ran.stdout + ran.stderr)
-        self.assertRegex(ran.stdout.splitlines()[-1], r"^soak: 2\d\d runs of 25 inputs, 0 unexplained$")
+        self.assertRegex(ran.stdout.splitlines()[-1], r"^soak: 1\d\d runs of 20 inputs, 0 unexplained$")
 
     def test_seed_48(self):
         self.plays(48)

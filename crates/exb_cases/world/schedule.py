@@ -48,6 +48,11 @@ def directions(world):
             + [(number, DOWN) for number in sorted(numbers, key=lambda it: (depth(it), it))])
 
 
+def is_free(words, at):
+    """A control word before which no data word stands."""
+    return words[at][1] is None and all(stamp is None for _, stamp in words[:at])
+
+
 def meet(world, number, way, at):
     """Asks the fate of a control word; whether the word is gone."""
     verdict = world.next_fate()
