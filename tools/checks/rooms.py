@@ -2,11 +2,7 @@
 import contextlib
 import os
 import shutil
-import subprocess
-import sys
 import tempfile
-
-from .program import TOP
 
 MEMORY, LEAST = "/dev/shm", 1 << 30
 
@@ -19,16 +15,6 @@ def is_fit(folder):
     return not held.f_flag & os.ST_NOEXEC and held.f_bavail * held.f_frsize >= LEAST
 
 
-def compiled(folder):
-    """Begins to compile the Python of tests and tools to a folder, since hundreds of processes read it and write nothing beside it. Tests that
-    one of these tests starts take what is there."""
-    if "PYTHONPYCACHEPREFIX" in os.environ:
-        return None
-    os.environ["PYTHONPYCACHEPREFIX"] = folder
-    words = [sys.executable, "-m", "compileall", "-q", f"{TOP}/tools", f"{TOP}/bench", f"{TOP}/crates/exb_cases"]
-    return subprocess.Popen(words, stdin=subprocess.DEVNULL, stdout=subprocess.DEVNULL, stderr=subprocess.DEVNULL)
-
-
 @contextlib.contextmanager
 def room():
     """A folder for all temporary files of these tests and of what they start, which goes away with them: where TMPDIR says, or else in memory."""
@@ -37,11 +23,7 @@ def room():
     # Some tests have the program run by another user, who has to come to it.
     os.chmod(folder, 0o711)
     os.environ["TMPDIR"] = tempfile.tempdir = folder
-    compiler = compiled(f"{folder}/compiled")
     try:
         yield
     finally:
-        if compiler:
-            compiler.kill()
-            compiler.wait()
         shutil.rmtree(folder, ignore_errors=True)

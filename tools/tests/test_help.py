@@ -28,7 +28,6 @@ def answer(tool):
     """What is wrong with what a tool says, if anything is."""
     with tempfile.TemporaryDirectory() as folder:
         env = {"PATH": "/usr/local/bin:/usr/bin:/bin", "HOME": folder, "TMPDIR": folder, "PYTHONDONTWRITEBYTECODE": "1"}
-        env |= {name: it for name, it in os.environ.items() if name == "PYTHONPYCACHEPREFIX"}
         how = {"stdin": subprocess.DEVNULL, "capture_output": True, "text": True, "timeout": 60}
         ran = subprocess.run([os.path.join(TOP, tool), "--help"], cwd=folder, env=env, check=False, **how)
         if ran.returncode or not ran.stdout.strip():
