@@ -10,6 +10,10 @@ class Skip(Exception):
     """A test that isn't made, and why."""
 
 
+# The seconds of a test that begins before all others.
+FIRST = float("inf")
+
+
 class Test:
     """A name within a group, and a call that fails by AssertionError. A call may return how many tests it stands for, as (passed,
     failed, skips, text): a file of tests, say, whose skips are texts. `seconds` is what it takes by guess, if that is much."""
