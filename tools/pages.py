@@ -10,6 +10,7 @@ or wider than it may be, and paths of a machine. It prints a line each, and ends
 and not what is said of them.
 """
 import argparse
+import functools
 import os
 import re
 import sys
@@ -57,6 +58,7 @@ def links(page):
             yield f'{page}: {link} has no such heading'
 
 
+@functools.cache
 def sources(crate):
     """All words of a crate's sources, and the names of its files."""
     found = {crate}
@@ -79,9 +81,9 @@ def promises(crates):
     everything = set().union(*map(sources, crates))
     for part in re.split(r'\n(?=\*\*`|#)', page):
         mine = [it for it in re.findall(r'`(\w+)`', part) if it in crates]
-        words = set().union(*map(sources, mine)) if part.startswith('**') else everything
+        words = {'src', 'specs', 'out'}.union(*map(sources, mine)) if part.startswith('**') else everything | {'src', 'specs', 'out'}
         for name in spoken(part):
-            if name not in words | {'src', 'specs', 'out'}:
+            if name not in words:
                 yield f'docs/PROMISES.md: {", ".join(dict.fromkeys(mine))}: no {name} there'
     named = set(re.findall(r'`(\w+)`', page))
     for crate in crates:
@@ -127,6 +129,7 @@ def depths():
             name, _, below = line.partition(':')
             needs[name], meaning[name] = below.split(), group.endswith(': meaning')
 
+    @functools.cache
     def depth(name):
         return 1 + max((depth(it) for it in needs[name] if it in needs), default=0)
 

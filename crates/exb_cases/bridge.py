@@ -4,6 +4,7 @@ It is written from the rules of an 802.1Q bridge and of this project's commands 
 There is no E-TAG, no channel and no message here; of the tree it knows only which ports are external, which port of the bridge
 stands above one, and in which order extenders are opened. A topology is the text of its file, which has to be without a fault.
 """
+import functools
 import struct
 import tomllib
 
@@ -24,6 +25,12 @@ def number_of(name):
 
 def name_of(port):
     return f"b{port + 1}" if port < 64 else f"x{port // 64}.{port % 64 + 1}"
+
+
+@functools.lru_cache(maxsize=100)
+def tables_of(text):
+    """What a topology says, which many runs have to read again. Nobody changes it."""
+    return tomllib.loads(text)
 
 
 class Tree:
@@ -229,7 +236,7 @@ class Bridge:
     """The bridge in motion. `journal` has the lines of what happened, `left` the moments and frames that left each port."""
 
     def __init__(self, text):
-        self.topology = topology = tomllib.loads(text)
+        self.topology = topology = tables_of(text)
         self.bridge, self.commands = topology["bridge"], topology.get("command", [])
         self.tree = Tree(self.bridge, topology.get("extender", []))
         self.now = Configuration(self.tree, topology)

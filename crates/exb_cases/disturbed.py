@@ -29,21 +29,23 @@ def fate(kind, count):
     return letters(1, count)[:MOST] if kind == "drawn" else kind * count
 
 
+def at_even_seconds(text):
+    """The files of a run of a topology with three frames."""
+    return {"t.toml": text.encode(), "a.pcap": capture(*((second, tagged(10)) for second in (100, 102, 104)))}
+
+
 def chains():
-    """The runs over chains: a name, and the files."""
-    at_even = capture(*((second, tagged(10)) for second in (100, 102, 104)))
+    """The runs over chains: a name, and what makes the files, since letters of fates take long to draw."""
     for levels, counts in CHAINS:
         for kind, count in counts.items():
-            yield f"{levels} levels, {kind} {count}", {"t.toml": chain(levels, fate(kind, count)).encode(), "a.pcap": at_even}
+            yield f"{levels} levels, {kind} {count}", lambda it=(levels, kind, count): at_even_seconds(chain(it[0], fate(*it[1:])))
 
 
 def lost_answers():
-    """The first answer of a change is lost, beside sixteen drawn fates."""
+    """The first answer of a change is lost, beside sixteen drawn fates: as `chains` does."""
     text = RETAGGED.replace("at = 0", "at = 1").replace("'untagged' }", "'untagged', fate = 'PPLLL' }")
-    at_even = capture(*((second, tagged(10)) for second in (100, 102, 104)))
     for number in range(1, 17):
-        files = {"t.toml": f"{text}links = {{ fate = '{letters(number, 200)}' }}\n".encode(), "a.pcap": at_even}
-        yield f"a lost answer, fate {number}", files
+        yield f"a lost answer, fate {number}", lambda it=number: at_even_seconds(f"{text}links = {{ fate = '{letters(it, 200)}' }}\n")
 
 
 # Runs whose control frames are counted: one extender, two, and a member that is retagged as the frame comes.

@@ -9,7 +9,6 @@ import pathlib
 import random
 import struct
 import sys
-import tomllib
 from collections import deque
 
 import bridge
@@ -20,7 +19,7 @@ class Net:
     """Bridges in the order of the file, and for each wired port of each the bridge and the port at the far end."""
 
     def __init__(self, text, files):
-        net = tomllib.loads(text)
+        net = bridge.tables_of(text)
         self.names = [it["name"] for it in net["bridge"]]
         self.texts = [files[it["topology"]].decode() for it in net["bridge"]]
         self.bridges = [Bridge(text) for text in self.texts]

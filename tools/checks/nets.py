@@ -7,8 +7,6 @@ from .program import TOP, files_below, knows, play, same
 from .tests import Skip, Test
 
 FOLDER = os.path.join(TOP, "crates/exb_cases/nets")
-# Each run brings its files to the disk, which are many here: in memory that takes no time.
-MEMORY = "/dev/shm" if os.access("/dev/shm", os.W_OK) else None
 
 
 class Case:
@@ -22,7 +20,7 @@ class Case:
         folder = f"{FOLDER}/{self.name}"
         wanted = files_below(f"{folder}/expected")
         assert bool(wanted) == (self.status == 0), "files of expected/ are there exactly where the status is 0"
-        with tempfile.TemporaryDirectory(prefix="exbr-net-", dir=MEMORY) as room:
+        with tempfile.TemporaryDirectory(prefix="exbr-net-") as room:
             shutil.copytree(folder, f"{room}/it", ignore=shutil.ignore_patterns("expected"))
             judge(program, self.words, f"{room}/it", self.status, self.printed, wanted)
 
@@ -49,7 +47,7 @@ BIG = "".join(f"[[extender]]\nnumber = {at}\non = 'b{at}'\nports = 64\n" for at 
 
 
 def sized(program, files, status, line):
-    with tempfile.TemporaryDirectory(prefix="exbr-net-", dir=MEMORY) as room:
+    with tempfile.TemporaryDirectory(prefix="exbr-net-") as room:
         for name, data in files.items():
             with open(f"{room}/{name}", "wb") as it:
                 it.write(data)

@@ -1,20 +1,15 @@
 """Runs beside the plain bridge in Python: small inputs of which is said what comes of them (crates/exb_cases/outcomes.py) or what is asked of extenders
 (crates/exb_cases/exchanges.py), and generated ones (crates/exb_cases/trials.py); and beside the tree over links, which a seed plays (crates/exb_cases/seeded.py). What is printed, and each file byte
 for byte."""
-import os
-import sys
 import tempfile
 
-from .nets import MEMORY
-from .program import TOP, files_below, play, same
+from .program import files_below, play, same
 from .tests import Skip, Test
-
-sys.path.insert(0, os.path.join(TOP, "crates/exb_cases"))
 
 
 def played(program, words, files):
     """Plays these files: the status with what is printed, and the files that are there then."""
-    with tempfile.TemporaryDirectory(prefix="exbr-outcome-", dir=MEMORY) as room:
+    with tempfile.TemporaryDirectory(prefix="exbr-outcome-") as room:
         for file, data in files.items():
             with open(f"{room}/{file}", "wb") as it:
                 it.write(data)
@@ -98,7 +93,7 @@ def skipped():
 
 
 def disturbed_run(program, files):
-    as_plain(program, "t.toml", files)
+    as_plain(program, "t.toml", files())
 
 
 def over_links(program):

@@ -10,7 +10,11 @@ from .tests import Skip, Test
 
 TOP = os.path.dirname(os.path.dirname(os.path.dirname(os.path.abspath(__file__))))
 DATA = os.path.join(TOP, "crates/exb_cases/data")
+# The plain bridge in Python, which tests import where they need it.
+sys.path.insert(0, os.path.join(TOP, "crates/exb_cases"))
 SECONDS = 60
+# How a case ended, behind its name.
+ENDED = re.compile(r": \d+, (\d+ files as expected|none of \d+ files is there)")
 
 
 def play(program, words, folder, seconds=SECONDS):
@@ -88,7 +92,7 @@ def cases(program):
     for line in told:
         name, printed = line.split(" ")[0], ""
         for it in lines:
-            if re.match(rf"{re.escape(name)}: \d+, (\d+ files as expected|none of \d+ files is there)$", it):
+            if it.startswith(f"{name}: ") and ENDED.fullmatch(it[len(name):]):
                 break
             printed += f"{it}\n"
         found.append(Case(line, printed))
@@ -139,12 +143,13 @@ def made_by_model(program, number):
     """`make` prints what the plain bridge in Python comes to for the same number."""
     if sys.version_info < (3, 11):
         raise Skip("the plain bridge in Python needs Python 3.11 or later")
-    code = ("import sys; sys.dont_write_bytecode = True; sys.path.insert(0, sys.argv[1]); import bridge; from world.made import made; "
-            "topology, records = made(int(sys.argv[2])); plain = bridge.Bridge(topology); plain.play(records); print(plain.summary())")
-    ran = subprocess.run([sys.executable, "-c", code, f"{TOP}/crates/exb_cases", str(number)], capture_output=True, text=True)
-    assert ran.returncode == 0, f"the plain bridge ended with an error: {ran.stderr[-300:]}"
+    import bridge
+    from world.made import made
+    topology, records = made(number)
+    plain = bridge.Bridge(topology)
+    plain.play(records)
     status, printed, _ = play(program, ["make", str(number)], TOP)
-    assert (status, printed) == (0, ran.stdout), f"status {status}, {printed!r}, where the plain bridge comes to {ran.stdout!r}"
+    assert (status, printed) == (0, f"{plain.summary()}\n"), f"status {status}, {printed!r}, where the plain bridge comes to {plain.summary()!r}"
 
 
 NUMBERS = [1, 2, 3, 17, 100, 46, 65_535, 4_294_967_296, 9_999_999_999_999_999_999, 18_446_744_073_709_551_614]

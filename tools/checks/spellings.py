@@ -1,13 +1,8 @@
 """Words of the command line (crates/exb_cases/spellings.py): what each asks for, by what a run of it prints and writes."""
-import os
-import sys
 import tempfile
 
-from .nets import MEMORY
-from .program import TOP, files_below, play, same
+from .program import files_below, play, same
 from .tests import Skip, Test
-
-sys.path.insert(0, os.path.join(TOP, "crates/exb_cases"))
 
 CAPTURE = "a.pcap"
 FOLDERS = (".", "..", "/")
@@ -86,7 +81,7 @@ class Wanted:
 def judge(program, wanted, text, verdict):
     """Plays words: status, line and files are what they ask for, and no other file was made."""
     there, written, status, line = wanted.of(verdict)
-    with tempfile.TemporaryDirectory(prefix="exbr-words-", dir=MEMORY) as room:
+    with tempfile.TemporaryDirectory(prefix="exbr-words-") as room:
         for name, data in there.items():
             with open(f"{room}/{name}", "wb") as it:
                 it.write(data)
@@ -123,4 +118,4 @@ def spellings(program):
         return [Test("words", "all tables", skipped)]
     found = [(case[0], list(tables.rows(*case))) for case in tables.CASES]
     found.append(("limits", tables.LIMITS))
-    return [Test("words", name, lambda rows=rows: table(program, rows)) for name, rows in found]
+    return [Test("words", name, lambda rows=rows: table(program, rows), len(rows) / 50) for name, rows in found]

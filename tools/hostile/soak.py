@@ -1,7 +1,7 @@
 #!/usr/bin/env python3
 """Plays random runs of the built program under faults drawn at random, and counts how they ended.
 
-    tools/hostile/soak.py [--program FILE] [--seconds N] [--seed N] [--room FOLDER] [--quiet]
+    tools/hostile/soak.py [--program FILE] [--seconds N | --inputs N] [--seed N] [--room FOLDER] [--quiet]
 
 Each input is drawn as those of crates/exb_cases are: any tree, rules, commands and frames, often with fates, a seed or a trace; or a net of them. Its run
 without a fault must come to what the plain bridge and the tree over links in Python come to. Then it is played again under some
@@ -259,18 +259,18 @@ class Soak:
             raise Wrong(f"input {number}, exbr {' '.join(it.words)}: {why}") from None
 
 
-def soaked(soak, seconds, seed, quiet):
+def soaked(soak, words):
     """How many inputs were played, and what is wrong."""
     begun = told = time.monotonic()
     inputs, wrong = 0, []
-    while time.monotonic() - begun < seconds:
+    while inputs < words.inputs if words.inputs else time.monotonic() - begun < words.seconds:
         try:
-            soak.input(seed * 1_000_003 + inputs)
+            soak.input(words.seed * 1_000_003 + inputs)
         except Wrong as why:
             wrong.append(str(why))
             print(f"UNEXPLAINED: {why}", flush=True)
         inputs += 1
-        if not quiet and time.monotonic() - told > 15:
+        if not words.quiet and time.monotonic() - told > 15:
             told = time.monotonic()
             print(f"{told - begun:.0f} s: {soak.counts.total()} runs of {inputs} inputs, {len(wrong)} unexplained", flush=True)
     return inputs, wrong
@@ -280,12 +280,15 @@ def parsed():
     form = argparse.ArgumentParser(description=__doc__, formatter_class=argparse.RawDescriptionHelpFormatter)
     form.add_argument("--program", metavar="FILE", help="the program to try")
     form.add_argument("--seconds", type=float, default=60, metavar="N", help="how long (60)")
+    form.add_argument("--inputs", type=int, metavar="N", help="how many inputs, however long that takes")
     form.add_argument("--seed", type=int, default=1, metavar="N", help="what is drawn (1)")
     form.add_argument("--room", metavar="FOLDER", help="where the runs have their folders, as /dev/shm, which is faster than a disk")
     form.add_argument("--quiet", action="store_true", help="print the summary alone")
     words = form.parse_args()
     if words.seconds <= 0 or words.seed < 0:
         form.error("--seconds is above 0, and --seed not below it")
+    if words.inputs is not None and words.inputs < 1:
+        form.error("--inputs is above 0")
     if words.room and not os.path.isdir(words.room):
         form.error(f"there is no folder {words.room}")
     return words
@@ -296,7 +299,7 @@ def main():
     program = program_of(words.program)
     with tempfile.TemporaryDirectory(prefix="exbr-soak-", dir=words.room) as room:
         soak = Soak(program, room)
-        inputs, wrong = soaked(soak, words.seconds, words.seed, words.quiet)
+        inputs, wrong = soaked(soak, words)
     print("; ".join(f"{kind} {count}" for kind, count in sorted(soak.counts.items())))
     print("; ".join(f"status {status} {count}" if status >= 0 else f"{signal.Signals(-status).name} {count}"
                     for status, count in sorted(soak.statuses.items())))

@@ -14,13 +14,19 @@ def ran(tool, *words):
 
 @unittest.skipIf(sys.version_info < (3, 11), "the models in Python need Python 3.11")
 class Changes(unittest.TestCase):
+    def some_of_each_kind(self, *words):
+        found = ran("changes.py", "--program", PROGRAM, "--draw", "6", "--long", "0", "--jobs", "2", "--quiet", *words)
+        self.assertEqual(found.returncode, 0, found.stdout + found.stderr)
+        self.assertRegex(found.stdout.splitlines()[-1], r"^changes: [67]\d\d changes of 8 traces, \d+ legal, 0 differences$")
+
     @unittest.skipUnless(PROGRAM, "no program is named")
     def test_some_of_each_kind(self):
-        """Of each example but the long ones, in its order and in a drawn one."""
-        for words in ([], ["--run-seed", "7"]):
-            found = ran("changes.py", "--program", PROGRAM, "--draw", "6", "--long", "0", "--jobs", "2", "--quiet", *words)
-            self.assertEqual(found.returncode, 0, found.stdout + found.stderr)
-            self.assertRegex(found.stdout.splitlines()[-1], r"^changes: [67]\d\d changes of 8 traces, \d+ legal, 0 differences$")
+        """Of each example but the long ones, in its order."""
+        self.some_of_each_kind()
+
+    @unittest.skipUnless(PROGRAM, "no program is named")
+    def test_some_of_each_kind_in_a_drawn_order(self):
+        self.some_of_each_kind("--run-seed", "7")
 
     @unittest.skipUnless(PROGRAM, "no program is named")
     def test_a_long_trace(self):

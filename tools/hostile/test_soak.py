@@ -1,4 +1,4 @@
-"""Half a minute of the soak with a fixed seed, on the program that EXBR_PROGRAM names."""
+"""Eighty inputs of the soak with fixed seeds, on the program that EXBR_PROGRAM names."""
 import os
 import subprocess
 import sys
@@ -13,17 +13,33 @@ def soak(*words):
 
 
 class Soak(unittest.TestCase):
-    @unittest.skipUnless(PROGRAM, "no program is named")
-    @unittest.skipIf(sys.version_info < (3, 11), "the models in Python need Python 3.11")
-    def test_half_a_minute(self):
-        ran = soak("--program", PROGRAM, "--seconds", "30", "--seed", "48", "--quiet")
+    def plays(self, seed):
+        """Twenty inputs of a seed, each under eight faults that are drawn."""
+        if not PROGRAM:
+            self.skipTest("no program is named")
+        if sys.version_info < (3, 11):
+            self.skipTest("the models in Python need Python 3.11")
+        ran = soak("--program", PROGRAM, "--inputs", "20", "--seed", str(seed), "--quiet")
         self.assertEqual(ran.returncode, 0, ran.stdout + ran.stderr)
-        self.assertRegex(ran.stdout.splitlines()[-1], r"^soak: [1-9]\d* runs of [1-9]\d* inputs, 0 unexplained$")
+        self.assertRegex(ran.stdout.splitlines()[-1], r"^soak: 1\d\d runs of 20 inputs, 0 unexplained$")
+
+    def test_seed_48(self):
+        self.plays(48)
+
+    def test_seed_49(self):
+        self.plays(49)
+
+    def test_seed_50(self):
+        self.plays(50)
+
+    def test_seed_51(self):
+        self.plays(51)
 
     def test_words_that_are_none(self):
-        ran = soak("--seconds", "soon")
-        self.assertEqual(ran.returncode, 2)
-        self.assertIn("--seconds", ran.stderr)
+        for name, word in (("--seconds", "soon"), ("--inputs", "0")):
+            ran = soak(name, word)
+            self.assertEqual(ran.returncode, 2)
+            self.assertIn(name, ran.stderr)
 
 
 if __name__ == "__main__":

@@ -62,8 +62,8 @@ class Scratch:
         for name in PARTS:
             os.makedirs(os.path.dirname(self.at(name)), exist_ok=True)
             shutil.copy2(os.path.join(TOP, name), self.at(name))
-        # Python as it runs here, and nothing else of its folder, where an rt may lie.
-        self.write("bin/python3", f'#!/bin/sh\nexec "{sys.executable}" "$@"\n')
+        # Python as it runs here, without packages that these tools don't need, and nothing else of its folder, where an rt may lie.
+        self.write("bin/python3", f'#!/bin/sh\nexec "{sys.executable}" -S "$@"\n')
         for name in ("kit/rt", "bin/python3", "test"):
             os.chmod(self.at(name), 0o755)
 

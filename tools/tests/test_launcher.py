@@ -1,7 +1,9 @@
 """What ./exbr, tools/program, tools/build, tools/dist and .ci/run do and say, with dist/ as it must be and with a changed byte in it,
 in its record, or in a source; with the toolchain in the path, without it, and with another one."""
 import os
+import shutil
 import subprocess
+import tempfile
 import time
 import unittest
 
@@ -89,9 +91,18 @@ class Launched(unittest.TestCase):
         self.it = Scratch()
         self.addCleanup(self.it.close)
 
+    kept = None
+
     def refreshed(self):
-        status, _, said = self.it.run("tools/dist", "refresh")
-        self.assertEqual(status, 0, said)
+        """The repository once `tools/dist refresh` has run there: in the first test that asks for it, and copied to those behind it."""
+        if Launched.kept is None:
+            status, _, said = self.it.run("tools/dist", "refresh")
+            self.assertEqual(status, 0, said)
+            Launched.kept = tempfile.TemporaryDirectory(prefix="exbr-refreshed-")
+            unittest.addModuleCleanup(Launched.kept.cleanup)
+            shutil.copytree(self.it.top, Launched.kept.name, dirs_exist_ok=True)
+        else:
+            shutil.copytree(Launched.kept.name, self.it.top, dirs_exist_ok=True)
         return self.it
 
     def says(self, words, status, *parts, has_rt=True):

@@ -166,9 +166,10 @@ class Draws:
             first = next(event for event in self.rest if event.port == port)
             found.append(lambda event=first: self.happen(event))
         for (number, way), words in self.world.links.items():
-            data = [at for at, (_, stamp) in enumerate(words) if stamp is not None]
-            found += [lambda it=(number, way, data[0]): self.world.take(*it)] if data else []
-            found += [lambda it=(number, way, at): meet(self.world, *it) for at in range(len(words)) if is_free(words, at)]
+            # The first data word, and the control words in front of it.
+            data = next((at for at, (_, stamp) in enumerate(words) if stamp is not None), len(words))
+            found += [lambda it=(number, way, data): self.world.take(*it)] if data < len(words) else []
+            found += [lambda it=(number, way, at): meet(self.world, *it) for at in range(data)]
         return found + [self.world.beat]
 
 
