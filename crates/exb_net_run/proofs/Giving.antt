@@ -5,11 +5,9 @@ use Rattle.std.proofs.lemmas.Option.{same_Some}
 use Rattle.exb_model.specs.declared.setup.Timed.{Timed}
 use Rattle.exb_model.specs.declared.arrival.Arrival.{Arrival}
 use Rattle.exb_machine.specs.Worlds.{Step, Arrive, Order}
-use Rattle.exb_merge.specs.Arrivals.{arrival_with}
 use Rattle.exb_merge.specs.declared.agenda.NetNext.{NetNext}
 use Rattle.exb_merge.specs.declared.programme.Next.{Next}
 use Rattle.exb_merge.specs.declared.programme.Next.TheVariants as next
-use Rattle.exb_merge.specs.declared.replays.Came.{Came}
 use Rattle.exb_nets.specs.Nets.{Net, is_wired}
 use Rattle.exb_net_file.specs.declared.apart.NetRest.{NetRest}
 use Rattle.exb_wiring.specs.Playing.{Dones}
@@ -20,13 +18,13 @@ use Rattle.exb_net.specs.Nets.{Handled, IsPlaying}
 use Rattle.exb_net_run.specs.UnderWay.{CanGive, IsFree, IsStepOf, commands_in, letters_at, letters_for, letters_of}
 
 module _ {V : Type 0} {X : V → Type 0} (n : Net) (s told : Dones) (rests : List NetRest) (d : NetNext) (x y : Bridges V X) (can : CanGive n s told rests d x) where
-  pub gives-record : (came : Came) (a : Arrival) → d.next ≡ next.Record came → a ≡ arrival_with came → ((m : Net) (u v : Dones) → IsPlaying m u v x → is_wired m.wires d.bridge a.port ≡ false → Handled m d.bridge (Arrive a) u v y) →
+  pub gives-record : (came a : Arrival) → d.next ≡ next.Record came → a ≡ came → ((m : Net) (u v : Dones) → IsPlaying m u v x → is_wired m.wires d.bridge a.port ≡ false → Handled m d.bridge (Arrive a) u v y) →
       Handled n d.bridge can.step s told y
-  gives-record came a is arrives plays =
-      let step : can.step ≡ Arrive (arrival_with came) = subst (λ (z : Next). IsStepOf can.rest.commands z can.step) is can.is in
+  gives-record came a is same plays =
+      let step : can.step ≡ Arrive came = subst (λ (z : Next). IsStepOf can.rest.commands z can.step) is can.is in
       let free : is_wired n.wires d.bridge came.port ≡ false = subst (λ (z : Next). IsFree n d.bridge z) is can.free in
-      subst (λ (z : Step). Handled n d.bridge z s told y) (ap Arrive arrives ∙ sym step)
-      (plays n s told can.playing (ap (λ (z : Arrival). is_wired n.wires d.bridge z.port) arrives ∙ free))
+      subst (λ (z : Step). Handled n d.bridge z s told y) (ap Arrive same ∙ sym step)
+      (plays n s told can.playing (ap (λ (z : Arrival). is_wired n.wires d.bridge z.port) same ∙ free))
 
   pub gives-command : (number moment : ℕ) (rest : NetRest) (c : Timed) → d.next ≡ next.Command number moment → slice_get rests d.bridge ≡ Some rest → slice_get rest.commands (number - 1) ≡ Some c →
       ((m : Net) (u v : Dones) → IsPlaying m u v x → Handled m d.bridge (Order c.command) u v y) → Handled n d.bridge can.step s told y

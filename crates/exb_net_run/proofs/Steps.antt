@@ -14,7 +14,6 @@ use Rattle.exb_network.specs.Networks.{tree_of, world_of}
 use Rattle.exb_schedule.specs.Worlds.{network_of}
 use Rattle.exb_shelf.specs.Files.{Files}
 use Rattle.exb_shelf.specs.Shelf.{Id}
-use Rattle.exb_merge.specs.Arrivals.{arrival_with}
 use Rattle.exb_merge.specs.declared.agenda.NetNext.{NetNext}
 use Rattle.exb_merge.specs.declared.programme.Next.{Next}
 use Rattle.exb_merge.specs.declared.programme.Next.TheVariants as next
@@ -65,7 +64,7 @@ has-step n b start last d a (next.Record c) e cs w goes is commands given nexts 
     let come = is.0 in
     let free = goes.free c.port come.port in
     record {
-      step = Arrive (arrival_with c);
+      step = Arrive c;
       is = refl;
       can = record {
         external = free.0;

@@ -14,7 +14,6 @@ use Rattle.exb_schedule.specs.Playing.{letters_in}
 use Rattle.exb_schedule.specs.Worlds.{network_of}
 use Rattle.exb_shelf.specs.Files.{Files}
 use Rattle.exb_shelf.specs.Shelf.{Id}
-use Rattle.exb_merge.specs.Arrivals.{arrival_with}
 use Rattle.exb_merge.specs.declared.agenda.NetNext.{NetNext}
 use Rattle.exb_merge.specs.declared.programme.Next.{Next}
 use Rattle.exb_merge.specs.declared.programme.Next.TheVariants as next
@@ -238,7 +237,7 @@ pub record IsAllTold {V : Type 0} {X : V → Type 0} (tells : Type 0) (r : NetRu
 -- the step that gives what comes, where these are the commands of its bridge
 abbrev pub IsStepOf : List Timed → Next → Step → Type 0
 IsStepOf cs (next.Command number moment) step = (1 ≤ number) × ((c : Timed) × (slice_get cs (number - 1) ≡ Some c) × (step ≡ Order c.command))
-IsStepOf cs (next.Record c) step = step ≡ Arrive (arrival_with c)
+IsStepOf cs (next.Record c) step = step ≡ Arrive c
 
 -- how many letters are planned for it
 abbrev pub letters_of : Option Timed → ℕ

@@ -2,7 +2,6 @@
 ghost use Rattle.std.specs.Prelude.{◌≡◌, ◌+◌, ◌<◌, ◌≤◌, ◌^◌, ℕ, List, Some, None, All, length, slice_get, IfErr, IfOk, IfSome, IsErrOf, OnErr, OnOk, string_bytes};
 ghost use Rattle.exb_model.specs.Input.{seconds_after};
 ghost use Rattle.exb_model.specs.Texts.{summary_line};
-ghost use Rattle.exb_merge.specs.Arrivals.{arrival_with};
 ghost use Rattle.exb_merge.specs.NetAgendas.{AreAllReplays, ComesTo, IsAgenda, IsFirstOf, all_ids, programmes_in};
 ghost use Rattle.exb_merge.specs.declared.programme.Programme.{Programme};
 ghost use Rattle.exb_merge.specs.Streams.{Stream};
@@ -10,7 +9,6 @@ ghost use Rattle.exb_nets.specs.Nets.{Net as Wired};
 ghost use Rattle.exb_wiring.specs.Playing.{Dones};
 ghost use Rattle.exb_net.specs.Lists.{AreEach};
 ghost use Rattle.exb_net.specs.Nets.{Handled, IsPlaying};
-ghost use Rattle.exb_schedule.specs.Playing.{arrived};
 ghost use Rattle.exb_schedule.specs.Worlds.{fate_in};
 ghost use Rattle.exb_text.specs.Tallies.{FitsTally, counts_of};
 ghost use Rattle.exb_inputs.specs.Shelving.{CountsFaults, OnlyReads};
@@ -26,11 +24,11 @@ use crate::desk::{Desk, Room, add, finish, note};
 use exb_inputs::Fault;
 use exb_machine::laws::steps_tell_passed;
 use exb_merge::laws::agendas_stay;
-use exb_merge::{Agenda, Came, NetNext, Next};
+use exb_merge::{Agenda, NetNext, Next};
 use exb_net::Net;
 use exb_net_file::NetRest;
 use exb_net_inputs::of_member;
-use exb_schedule::{Arrival, WorldFault};
+use exb_schedule::WorldFault;
 use exb_shelf::{Shelf, ShelfFault};
 use exb_text::Tally;
 use exb_wiring::laws::{
@@ -49,18 +47,6 @@ pub(crate) struct NetGame {
     pub(crate) net: Net,
     pub(crate) desks: Vec<Desk>,
     pub(crate) room: Room,
-}
-
-/// A record that came, as an arrival.
-fn arrival(came: Came) -> Arrival
-    ensures { arrived result ≡ arrival_with came }
-{
-    Arrival {
-        port: came.port,
-        index: came.index,
-        moment: came.moment,
-        bytes: came.bytes,
-    }
 }
 
 /// The seconds from what came before to what comes at `second`, 0 for what comes first.
@@ -125,9 +111,8 @@ fn give(
     let bridge = due.bridge;
     match due.next {
         Next::Record(came) => {
-            let frame = arrival(came);
-            let given = net.arrive(bridge, &frame);
-            *buffer = frame.bytes.into_vec();
+            let given = net.arrive(bridge, &came);
+            *buffer = came.bytes.into_vec();
             given
         }
         Next::Command { number, .. } => {

@@ -2,7 +2,6 @@ use Rattle.std.proofs.Common.{◌≡◌, ◌-◌, List, length, Some, ap, sym, �
 use Rattle.std.specs.Prelude.{slice_get}
 use Rattle.std.proofs.lemmas.Option.{slice_get_within}
 use Rattle.exb_model.specs.declared.setup.Timed.{Timed}
-use Rattle.exb_merge.specs.Arrivals.{arrival_with}
 use Rattle.exb_inputs.proofs.Outcomes.{on_ok_by}
 use Rattle.exb_net.proofs.Places.{at_place}
 use Rattle.exb_net_file.specs.declared.apart.NetRest.{NetRest}
@@ -13,7 +12,7 @@ pub returns-in-Record-clause-ok : goal.returns-in-Record-clause-ok
 returns-in-Record-clause-ok g c =
     on_ok_by c.arrive-given.result
     (λ get n s told can.
-    gives-record n s told c.args.rests.now c.args.due c.args.net.now c.arrive-given.new.self can c.in-Record.came _ c.in-Record.is (c.arrival-frame.ensures ∙ ap arrival_with c.in-Record.came-is) (get _ c.arrive-given.ensures.ok))
+    gives-record n s told c.args.rests.now c.args.due c.args.net.now c.arrive-given.new.self can c.in-Record.came _ c.in-Record.is c.in-Record.came-is (get _ c.arrive-given.ensures.ok))
 
 pub returns-in-Command-clause-ok : goal.returns-in-Command-clause-ok
 returns-in-Command-clause-ok g c =
