@@ -14,10 +14,9 @@ ghost use Rattle.exb_machine.specs.Runs.Sessions.{AreLow, Each};
 ghost use Rattle.exb_boxes.specs.Numbers.{IsNumber};
 ghost use Rattle.exb_bridge.specs.Worlds.{Rest, whole, world_in, IsAt, Does};
 
-use crate::site::hung_on;
 use crate::bridge::Bridge;
 use crate::room::{Buffers, Room};
-use crate::site::Site;
+use crate::site::{Site, hung_on};
 use exb_boxes::Post;
 use exb_boxes::forms::channel_tag;
 use exb_boxes::log::{add_events, note_out};

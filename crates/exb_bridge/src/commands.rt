@@ -18,12 +18,7 @@ use exb_model::memory::NoMemory;
 /// The clock goes on.
 #[cold]
 #[inline(never)]
-pub fn tick(
-    site: &Site,
-    seconds: u32,
-    room: &mut Room,
-    bridge: &mut Bridge,
-) -> Result<(), NoMemory>
+pub fn tick(site: &Site, seconds: u32, room: &mut Room, bridge: &mut Bridge) -> Result<(), NoMemory>
     ghost rest: { Rest }
     requires at { IsAt site.now (whole rest bridge.old) }
     requires clock { (world_in (whole rest bridge.old)).table.clock + seconds < 2 ^ 63 }

@@ -17,11 +17,10 @@ ghost use Rattle.exb_bridge.specs.Sites.{limits_in};
 ghost use Rattle.exb_bridge.specs.Worlds.{Rest, whole, world_in, IsAt, Does, HasLeft, KeepsTrace};
 
 use crate::arrivals::{ignore, stamp_of};
-use crate::hearing::hear;
-use crate::site::hung_on;
 use crate::bridge::Bridge;
+use crate::hearing::hear;
 use crate::room::Room;
-use crate::site::Site;
+use crate::site::{Site, hung_on};
 use exb_boxes::log::note_out;
 use exb_boxes::{Left, Log, Post, Row};
 use exb_control::{Ingress, Outbox, SendTo};
@@ -255,7 +254,10 @@ pub fn come(
         return ignore(arrival, &mut room.post.log);
     }
     let passed = has_passed(&room.outbox.ingress);
-    let bytes = room.post.store.copy(room.post.alloc, arrival.bytes.as_slice())?;
+    let bytes = room
+        .post
+        .store
+        .copy(room.post.alloc, arrival.bytes.as_slice())?;
     let copy = Arrival {
         port: arrival.port,
         index: arrival.index,

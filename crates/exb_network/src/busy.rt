@@ -118,6 +118,11 @@ pub(crate) fn next_busy(site: &Site, core: &Core, way: Way, from: u8) -> Option<
     site.tree().is_tree();
     match way {
         Way::Up => first_busy(site.upwards(), site.upward_places(), &core.up, from),
-        Way::Down => first_busy(site.downwards(), site.downward_places(), &core.bridge.down, from),
+        Way::Down => first_busy(
+            site.downwards(),
+            site.downward_places(),
+            &core.bridge.down,
+            from,
+        ),
     }
 }

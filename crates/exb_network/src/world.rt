@@ -18,10 +18,10 @@ ghost use Rattle.exb_network.specs.Steps.{way_of};
 ghost use Rattle.exb_network.specs.Turns.{order_of, IsTurn};
 ghost use Rattle.exb_network.specs.Worlds.{world_in, IsAt, Does};
 
+use crate::bridging::{order, tick};
 use crate::busy::Turn;
 use crate::site::Core;
 use crate::step::{Step, Way};
-use crate::bridging::{order, tick};
 use crate::stepping::{arrive, carry, deliver, lose, mark, repeat};
 use crate::telling::{tell_ins, tell_outs};
 use crate::{allowing, beating, busy};

@@ -20,9 +20,9 @@ tag_into-requires-clause-fits g c =
 pub put-requires : goal.put-requires
 put-requires g c =
     let low : c.trunk-trunk.result - 1 < 64 = search rules in (
-    c.requires.0,
-    (low, hung_numbered c.tree-tree.result.now c.is_tree.ensures c.at.result c.in-Some.below (sym c.hung_on.ensures ∙ c.in-Some.is)),
-  )
+      c.requires.0,
+      (low, hung_numbered c.tree-tree.result.now c.is_tree.ensures c.at.result c.in-Some.below (sym c.hung_on.ensures ∙ c.in-Some.is)),
+    )
 
 pub returns : goal.returns
 returns g c =
