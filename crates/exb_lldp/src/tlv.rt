@@ -25,7 +25,7 @@ pub const CHASSIS_IS_MAC: u8 = 4;
 pub const PORT_IS_LOCAL: u8 = 7;
 
 /// A place in the sequence of TLVs.
-#[derive(Clone, Copy, PartialEq, Eq)]
+#[derive(Clone, Copy)]
 pub enum Place {
     ChassisId,
     PortId,
