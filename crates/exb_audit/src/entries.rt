@@ -8,7 +8,7 @@ ghost use Rattle.exb_audit.specs.Words.{is_arrival_entry, is_long_entry, IsNamed
 use crate::words::{first_word, is_number, number, port};
 
 /// The record that a line of a journal names: the number of its port, and its index, from 1.
-#[derive(Clone, Copy, Debug, PartialEq, Eq)]
+#[derive(Clone, Copy)]
 pub(crate) struct Named {
     pub(crate) port: u16,
     pub(crate) index: u64,

@@ -8,7 +8,7 @@ use exb_model::port::{PORTS, PortId};
 use std::alloc::Global;
 
 /// The frames of a capture or of an output file, in order, with the port whose file it is.
-#[derive(Debug, Drop)]
+#[derive(Drop)]
 pub struct PortFrames {
     pub port: PortId,
     pub frames: Vec<Bytes>,

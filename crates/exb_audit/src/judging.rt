@@ -27,7 +27,7 @@ use exb_model::tree::Tree;
 use std::alloc::Global;
 
 /// What a judge finds.
-#[derive(Clone, Copy, Debug, PartialEq, Eq)]
+#[derive(Clone, Copy)]
 pub enum Judged {
     /// All rules hold.
     Legal,

@@ -15,7 +15,7 @@ use std::alloc::Global;
 use std::mem;
 
 /// A frame that left a device, at each port of a row, with the moment of its records in nanoseconds.
-#[derive(Debug, Drop)]
+#[derive(Drop)]
 pub struct Left {
     /// The ports at which it left.
     pub row: Row,

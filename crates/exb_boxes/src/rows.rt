@@ -7,7 +7,7 @@ use exb_model::port::PortId;
 use std::marker::Model;
 
 /// Some ports of one device.
-#[derive(Clone, Copy, Debug, PartialEq, Eq)]
+#[derive(Clone, Copy)]
 pub struct Row {
     device: u8,
     /// Each a bit: that of port k, counted from 1, is bit k - 1.

@@ -25,7 +25,7 @@ const MOST_BYTES: u32 = 262_144;
 const SECONDS: u64 = 4_294_967_296;
 
 /// An interface of a section.
-#[derive(Clone, Copy, Debug, Default, Drop, PartialEq, Eq)]
+#[derive(Clone, Copy, Default, Drop)]
 pub struct Interface {
     /// Its link type.
     pub link: u16,

@@ -8,7 +8,7 @@ use exb_shelf::{OpenFault, Shelf};
 use std::alloc::Global;
 
 /// What is told of a capture without a fault.
-#[derive(Clone, Copy, Debug, PartialEq, Eq)]
+#[derive(Clone, Copy)]
 pub struct Scanned {
     /// How many bytes it has.
     pub bytes: u64,
@@ -19,7 +19,7 @@ pub struct Scanned {
 }
 
 /// Why a capture is refused.
-#[derive(Clone, Copy, Debug, PartialEq, Eq)]
+#[derive(Clone, Copy, Debug)]
 pub enum ScanFault {
     /// Memory ran out.
     Memory,

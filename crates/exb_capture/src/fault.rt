@@ -3,7 +3,7 @@ ghost use Rattle.std.specs.Prelude.{◌≡◌};
 ghost use Rattle.exb_capture.specs.Formats.{at_place};
 
 /// What is wrong, by the tables of the two formats.
-#[derive(Clone, Copy, Debug, PartialEq, Eq)]
+#[derive(Clone, Copy, Debug)]
 pub enum Flaw {
     /// It has no magic number of a classic capture.
     NotPcap,
@@ -28,7 +28,7 @@ pub enum Flaw {
 }
 
 /// What is wrong, and the byte at which it is.
-#[derive(Clone, Copy, Debug, PartialEq, Eq)]
+#[derive(Clone, Copy, Debug)]
 pub struct Fault {
     pub flaw: Flaw,
     pub at: u64,

@@ -12,7 +12,7 @@ use exb_shelf::{OpenFault, PIECE, Shelf, ShelfFault};
 use std::alloc::Global;
 
 /// Why a capture can't be read on.
-#[derive(Clone, Copy, Debug, PartialEq, Eq)]
+#[derive(Clone, Copy)]
 pub enum Halt {
     /// Memory ran out.
     Memory,

@@ -13,7 +13,7 @@ use crate::fault::{Fault, Flaw};
 
 /// A record that was looked at: its moment in nanoseconds since the epoch, below 2^32 seconds; where in what was
 /// looked at its frame begins; and how many bytes that has, at most 262,144.
-#[derive(Clone, Copy, Debug, PartialEq, Eq)]
+#[derive(Clone, Copy)]
 pub struct Seen {
     pub moment: u64,
     pub from: u32,

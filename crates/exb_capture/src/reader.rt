@@ -17,7 +17,7 @@ use std::marker::Model;
 const BUFFER: usize = 327_680;
 
 /// What comes next. A record's bytes stay in the reader until it is asked again.
-#[derive(Clone, Copy, Debug, PartialEq, Eq)]
+#[derive(Clone, Copy)]
 pub enum Ahead {
     /// A captured frame in what is held.
     Record(Seen),

@@ -12,7 +12,7 @@ use exb_shelf::{OpenFault, Shelf};
 use std::alloc::Global;
 
 /// Why a capture isn't read on.
-#[derive(Clone, Copy, Debug, PartialEq, Eq)]
+#[derive(Clone, Copy, Debug)]
 pub enum ReplayFault {
     /// Memory ran out.
     Memory,

@@ -3,7 +3,7 @@ use exb_model::command::Command;
 use exb_model::port::PortId;
 
 /// A job in the queue of changes.
-#[derive(Clone, Copy, Debug, PartialEq, Eq)]
+#[derive(Clone, Copy, Debug)]
 pub enum Job {
     /// Opens an extender once it was heard: it is asked to begin its session, and its cascade ports are created.
     Opening { extender: u8 },
@@ -14,7 +14,7 @@ pub enum Job {
 }
 
 /// How far the change at work is.
-#[derive(Clone, Copy, Debug, PartialEq, Eq)]
+#[derive(Clone, Copy)]
 pub enum Phase {
     /// What it needs is asked for; the old configuration is in force.
     Preparing,

@@ -10,7 +10,7 @@ use exb_model::port_set::PortSet;
 use exb_model::vlan::Kind;
 
 /// The members of a VLAN. A port in both sets is untagged.
-#[derive(Clone, Copy, Debug, PartialEq, Eq)]
+#[derive(Clone, Copy)]
 pub struct Members {
     pub tagged: PortSet,
     pub untagged: PortSet,

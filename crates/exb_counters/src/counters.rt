@@ -15,7 +15,7 @@ use std::alloc::Global;
 const PORTS: u16 = 4160;
 
 /// What is counted at one port.
-#[derive(Clone, Copy, Debug, Default, PartialEq, Eq)]
+#[derive(Clone, Copy)]
 pub struct Counts5 {
     /// Frames that came in and were relayed.
     pub relayed: u64,

@@ -1,7 +1,7 @@
 //! Why bytes are no control message.
 
 /// The first thing that is wrong with the bytes of a control message.
-#[derive(Clone, Copy, Debug, PartialEq, Eq)]
+#[derive(Clone, Copy, Debug)]
 pub enum CspFault {
     /// The bytes end before the header or the body does.
     Cut,

@@ -6,7 +6,7 @@ ghost use Rattle.exb_csp.specs.Kinds.{number_of, kind_numbered, form_of, is_leng
 use crate::message::RequestKind;
 
 /// What the type of a message names.
-#[derive(Clone, Copy, Debug, PartialEq, Eq)]
+#[derive(Clone, Copy)]
 pub(crate) enum Form {
     /// A request of this kind.
     Ask(RequestKind),

@@ -42,7 +42,7 @@ pub enum Request {
 }
 
 /// Which request it is.
-#[derive(Clone, Copy, Debug, PartialEq, Eq)]
+#[derive(Clone, Copy, Debug)]
 pub enum RequestKind {
     Open,
     PortCreate,
@@ -54,7 +54,7 @@ pub enum RequestKind {
 }
 
 /// An extender's answer.
-#[derive(Clone, Copy, Debug, PartialEq, Eq)]
+#[derive(Clone, Copy, Debug)]
 pub struct Response {
     /// The kind of the request that is answered.
     pub to: RequestKind,

@@ -16,7 +16,7 @@ const HEADER: usize = 14;
 const PAYLOAD: usize = 18;
 
 /// What the header of an ECP frame says.
-#[derive(Clone, Copy, Debug, PartialEq, Eq)]
+#[derive(Clone, Copy, Debug)]
 pub struct Pdu {
     /// Whether it acknowledges a request, or else is one.
     pub acknowledgement: bool,
@@ -29,7 +29,7 @@ pub struct Pdu {
 }
 
 /// Why a frame has no header of ECP; they are tried in this order.
-#[derive(Clone, Copy, Debug, PartialEq, Eq)]
+#[derive(Clone, Copy, Debug)]
 pub enum EcpFault {
     /// It has no destination and EtherType, or others than those of ECP.
     NotEcp,

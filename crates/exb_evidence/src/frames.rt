@@ -18,14 +18,14 @@ use std::alloc::Global;
 pub const LIMIT: u32 = 536_870_912;
 
 /// A file of captured frames, and the port whose frames they are.
-#[derive(Debug, Drop)]
+#[derive(Drop)]
 pub struct PortFile {
     pub port: PortId,
     pub name: Text,
 }
 
 /// In which grammar a file of frames is read.
-#[derive(Clone, Copy, Debug, PartialEq, Eq)]
+#[derive(Clone, Copy)]
 pub enum Grammar {
     /// As pcapng where it begins so, else as classic pcap.
     Either,
@@ -34,7 +34,7 @@ pub enum Grammar {
 }
 
 /// Why files of frames can't be read.
-#[derive(Debug, Drop)]
+#[derive(Drop)]
 pub enum FramesFault {
     /// Memory ran out.
     Memory,

@@ -13,7 +13,7 @@ use exb_shelf::Shelf;
 use std::alloc::Global;
 
 /// Why a text can't be read line by line.
-#[derive(Clone, Copy, Debug, PartialEq, Eq)]
+#[derive(Clone, Copy, Debug)]
 pub enum LinesFault {
     /// Memory ran out.
     Memory,

@@ -12,7 +12,7 @@ const E_CIDS: usize = 16384;
 
 /// The rows of an extender: for each E-CID a word in which bit k - 1 is port k. An E-CID whose row is 0
 /// goes to no port.
-#[derive(Debug, Drop)]
+#[derive(Drop)]
 pub struct MemberSets {
     rows: Vec<u64>,
 }

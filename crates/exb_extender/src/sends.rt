@@ -4,7 +4,7 @@ use arrayvec::ArrayVec;
 use exb_model::buffers::ControlBuf;
 
 /// A side of an extender.
-#[derive(Clone, Copy, Debug, PartialEq, Eq, Default)]
+#[derive(Clone, Copy, Default)]
 pub enum Side {
     /// Towards the controlling bridge.
     #[default]
@@ -14,7 +14,7 @@ pub enum Side {
 }
 
 /// In which form the frame that came goes out.
-#[derive(Clone, Copy, Debug, PartialEq, Eq, Default)]
+#[derive(Clone, Copy, Default)]
 pub enum Form {
     /// As it is.
     #[default]
@@ -26,14 +26,14 @@ pub enum Form {
 }
 
 /// A side to which the frame that came goes out, and in which form.
-#[derive(Clone, Copy, Debug, PartialEq, Eq, Default)]
+#[derive(Clone, Copy, Default)]
 pub struct Out {
     pub to: Side,
     pub form: Form,
 }
 
 /// What becomes of a frame that arrives at an external port.
-#[derive(Clone, Copy, Debug, PartialEq, Eq)]
+#[derive(Clone, Copy)]
 pub enum Entry {
     /// It goes up.
     Sent,

@@ -2,7 +2,7 @@
 use std::alloc::AllocError;
 
 /// What a call is asked for.
-#[derive(Clone, Copy, PartialEq, Eq)]
+#[derive(Clone, Copy)]
 pub enum Asked {
     Open,
     Read,

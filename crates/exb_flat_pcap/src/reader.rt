@@ -24,7 +24,7 @@ pub struct Record<'a> {
 }
 
 /// Why a file is no classic capture, with the place of the byte.
-#[derive(Clone, Copy, Debug)]
+#[derive(Clone, Copy)]
 pub enum PcapFault {
     /// It has no magic number of a classic capture.
     NotPcap,

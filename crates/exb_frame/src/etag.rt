@@ -14,7 +14,7 @@ pub const E_TAG_TYPE: u16 = 0x893F;
 /// The fields of an E-TAG (after IEEE 802.1BR): the priority of the frame (PCP below 8, DEI), the E-CID of
 /// the port by which it came (below 4,096; 0 for none), and the E-CID to which it goes (below 16,384: one
 /// port's E-channel below 4,096, a group from there on).
-#[derive(Clone, Copy, Debug, PartialEq, Eq, Default)]
+#[derive(Clone, Copy, Debug)]
 pub struct ETag {
     pub pcp: u8,
     pub dei: bool,

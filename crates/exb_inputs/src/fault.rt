@@ -11,7 +11,7 @@ use exb_model::text::Text;
 use exb_shelf::ShelfFault;
 
 /// What is wrong with a capture that is there.
-#[derive(Clone, Copy, Debug, PartialEq, Eq)]
+#[derive(Clone, Copy)]
 pub enum Flaw {
     /// It has more bytes than this limit.
     Large {
@@ -26,7 +26,7 @@ pub enum Flaw {
 }
 
 /// What an audit reads beside the topology.
-#[derive(Clone, Copy, Debug, PartialEq, Eq)]
+#[derive(Clone, Copy)]
 pub enum Part {
     /// All captures together.
     Captures,
@@ -39,7 +39,7 @@ pub enum Part {
 }
 
 /// Why a call ends before its end.
-#[derive(Debug, Drop)]
+#[derive(Drop)]
 pub enum Fault {
     /// The words are none that are accepted.
     Usage,

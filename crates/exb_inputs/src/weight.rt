@@ -17,7 +17,7 @@ const ENTRY: usize = 250;
 const VALUE: usize = 60;
 
 /// Where a byte stands.
-#[derive(Clone, Copy, PartialEq, Eq)]
+#[derive(Clone, Copy)]
 enum Place {
     /// Outside of strings and comments.
     Open,

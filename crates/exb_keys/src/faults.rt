@@ -7,7 +7,7 @@ use exb_model::text::Text;
 use std::alloc::{AllocError, AllocFailed};
 
 /// What is wrong at a key.
-#[derive(Clone, Copy, Debug, PartialEq, Eq)]
+#[derive(Clone, Copy, Debug)]
 pub enum KeyFault {
     /// A key or table that is required is absent.
     Missing,

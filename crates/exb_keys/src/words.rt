@@ -12,7 +12,7 @@ use exb_model::vlan::Kind;
 use std::alloc::Global;
 
 /// A word of a list of ports.
-#[derive(Clone, Copy, Debug, PartialEq, Eq)]
+#[derive(Clone, Copy)]
 pub enum Word {
     /// `*`: all external ports.
     All,

@@ -10,7 +10,7 @@ use exb_model::port::PortId;
 use indexmap::IndexMap;
 
 /// Where a station was seen last, and when.
-#[derive(Clone, Copy, Debug, PartialEq, Eq)]
+#[derive(Clone, Copy, PartialEq, Eq)]
 pub struct Place {
     pub port: PortId,
     /// The clock in seconds.

@@ -10,7 +10,7 @@ use exb_model::vlan::Vid;
 use std::hash::{Hash, Hasher};
 
 /// A station: an address in a VLAN. Its eight bytes are compared and hashed as one number.
-#[derive(Clone, Copy, Debug)]
+#[derive(Clone, Copy)]
 pub struct StationKey {
     pub vid: Vid,
     pub address: Mac,

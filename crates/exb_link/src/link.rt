@@ -11,20 +11,20 @@ use std::collections::VecDeque;
 use std::marker::Model;
 
 /// A word that found no memory on its link, handed back.
-#[derive(Debug, Drop)]
+#[derive(Drop)]
 pub struct PushBack {
     pub word: Word,
 }
 
 /// How many data words and control words a link has.
-#[derive(Clone, Copy, Debug, PartialEq, Eq)]
+#[derive(Clone, Copy)]
 pub struct Counts {
     pub frames: u64,
     pub control: u64,
 }
 
 /// A data word, and how many control words were sent after it and before the next data word.
-#[derive(Debug, Drop)]
+#[derive(Drop)]
 pub struct Sent {
     word: Word,
     behind: u64,
@@ -32,7 +32,7 @@ pub struct Sent {
 
 /// One direction of a link, seen as the list of its words in order of sending. Positions count its control
 /// words in that order, from 0.
-#[derive(Debug, Drop)]
+#[derive(Drop)]
 pub struct Link {
     frames: VecDeque<Sent>,
     control: VecDeque<Word>,

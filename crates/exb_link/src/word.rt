@@ -7,7 +7,7 @@ use exb_model::port::PortId;
 
 /// The record by which a data word came in: its port, its index there, numbered from 1, and its time in
 /// nanoseconds. No rule reads it.
-#[derive(Clone, Copy, Debug, PartialEq, Eq)]
+#[derive(Clone, Copy)]
 pub struct Stamp {
     pub port: PortId,
     pub index: u64,
@@ -15,7 +15,7 @@ pub struct Stamp {
 }
 
 /// A frame on a link. A data word has the stamp of its record.
-#[derive(Debug, Drop)]
+#[derive(Drop)]
 pub struct Word {
     pub bytes: Bytes,
     pub stamp: Option<Stamp>,

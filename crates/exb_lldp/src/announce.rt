@@ -2,7 +2,7 @@
 use exb_model::address::Mac;
 
 /// What an extender announces of itself.
-#[derive(Clone, Copy, Debug, PartialEq, Eq)]
+#[derive(Clone, Copy, Debug)]
 pub struct Announce {
     /// The address by which the extender is known.
     pub chassis: Mac,
@@ -11,7 +11,7 @@ pub struct Announce {
 }
 
 /// Why a frame announces nothing. An offset counts bytes from the frame's beginning.
-#[derive(Clone, Copy, Debug, PartialEq, Eq)]
+#[derive(Clone, Copy, Debug)]
 pub enum LldpFault {
     /// It has no destination and EtherType, or others than those of an announcement.
     NotLldp,

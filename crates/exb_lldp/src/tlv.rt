@@ -25,7 +25,7 @@ pub const CHASSIS_IS_MAC: u8 = 4;
 pub const PORT_IS_LOCAL: u8 = 7;
 
 /// A place in the sequence of TLVs.
-#[derive(Clone, Copy, Debug, PartialEq, Eq)]
+#[derive(Clone, Copy)]
 pub enum Place {
     ChassisId,
     PortId,
@@ -34,7 +34,7 @@ pub enum Place {
 }
 
 /// A TLV that lies whole in its frame.
-#[derive(Clone, Copy, Debug)]
+#[derive(Clone, Copy)]
 pub struct Tlv<'a> {
     /// The offset of its header.
     pub at: usize,

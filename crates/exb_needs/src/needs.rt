@@ -11,7 +11,7 @@ use exb_model::tree::Tree;
 use std::alloc::Global;
 
 /// What the fullest cascade port of the bridge needs where all external ports are present; 0 without extenders.
-#[derive(Clone, Copy, Debug, PartialEq, Eq)]
+#[derive(Clone, Copy)]
 pub struct Needs {
     /// Channels: one for each cascade port and each external port of the extenders below it.
     pub channels: u64,

@@ -16,7 +16,7 @@ use std::alloc::Global;
 use std::collections::VecDeque;
 
 /// A frame that left a wired port, on its way to the far end of the wire, with the moment of its record.
-#[derive(Debug, Drop)]
+#[derive(Drop)]
 pub struct Crossing {
     pub to: End,
     pub moment: u64,

@@ -11,7 +11,7 @@ use exb_nets::wires::{End, Wire};
 use std::alloc::Global;
 
 /// A wired port of a bridge: what is at the far end of its wire, and the index of the next frame that arrives at it.
-#[derive(Clone, Copy, Debug)]
+#[derive(Clone, Copy)]
 pub struct WiredEnd {
     pub port: PortId,
     pub far: End,

@@ -4,7 +4,7 @@ use exb_model::port::PortId;
 use exb_model::setup::Setup;
 
 /// A port of a bridge of a net.
-#[derive(Clone, Copy, Debug, PartialEq, Eq)]
+#[derive(Clone, Copy)]
 pub struct End {
     /// The bridge, counted from 0 in the order of the file.
     pub bridge: u8,
@@ -12,14 +12,14 @@ pub struct End {
 }
 
 /// A wire between two external ports.
-#[derive(Clone, Copy, Debug, PartialEq, Eq)]
+#[derive(Clone, Copy)]
 pub struct Wire {
     pub a: End,
     pub b: End,
 }
 
 /// The setups of the bridges of a net, and the wires between them, both in the order of the file.
-#[derive(Debug, Drop)]
+#[derive(Drop)]
 pub struct NetSetup {
     pub setups: List<Setup>,
     pub wires: List<Wire>,

@@ -8,7 +8,7 @@ use std::alloc::Global;
 use std::marker::Model;
 
 /// All channels are in use.
-#[derive(Clone, Copy, Debug, PartialEq, Eq)]
+#[derive(Clone, Copy)]
 pub struct NoChannel;
 
 /// The channels of a space: each is free, or of one port, and a port has at most one. Contracts see the

@@ -18,7 +18,7 @@ const FIRST: u16 = 4096;
 const FACTOR: u64 = 11400714819323198485;
 
 /// All groups are in use.
-#[derive(Clone, Copy, Debug, PartialEq, Eq)]
+#[derive(Clone, Copy)]
 pub struct NoGroup;
 
 /// The groups of a space: each is free, or of one set of ports that isn't empty, and a set has at most one.

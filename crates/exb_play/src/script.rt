@@ -2,7 +2,7 @@
 use exb_model::setup::{Setup, Timed, Verdict};
 
 /// How the events of an input are played.
-#[derive(Clone, Copy, Debug, PartialEq, Eq)]
+#[derive(Clone, Copy)]
 pub enum Schedule {
     /// One after another: all settles after each.
     Eager,

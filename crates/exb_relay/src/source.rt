@@ -8,7 +8,7 @@ use exb_model::vlan::Vid;
 
 /// The way up of a port of an extender: the port of the bridge above it, 1 to 64, and the channel that the port
 /// has in the number space there.
-#[derive(Clone, Copy, Debug, PartialEq, Eq)]
+#[derive(Clone, Copy)]
 pub(crate) struct Uplink {
     pub trunk: u8,
     pub channel: u16,
@@ -16,7 +16,7 @@ pub(crate) struct Uplink {
 
 /// The port of a frame that passes, with its way up where it is a port of an extender, and the priority of the
 /// frame (`pcp` is below 8).
-#[derive(Clone, Copy, Debug, PartialEq, Eq)]
+#[derive(Clone, Copy)]
 pub(crate) struct Source {
     pub port: PortId,
     pub uplink: Option<Uplink>,

@@ -1,5 +1,5 @@
 //! The system's files and standard output. What they hold is not told.
-ghost use Rattle.std.specs.Prelude.{◌≡◌, ◌<◌, ◌≤◌, ℕ, [], None, length, IfOk};
+ghost use Rattle.std.specs.Prelude.{◌≡◌, ◌<◌, ◌≤◌, ℕ, [], None, length, IfOk, IfSome};
 ghost use Rattle.exb_shelf.specs.Shelf.{Faults, no_id};
 ghost use Rattle.exb_shelf.specs.System.{system_ids, system_faults, sink_faults};
 
@@ -151,18 +151,24 @@ fn write_some<W: Write>(to: &mut W, bytes: &[u8]) -> io::Result<usize>
     Err(refused())
 }
 
-fn read_part(rt: &HostRuntime, name: &str, place: u64, into: &mut [u8]) -> io::Result<usize>
-    ensures { IfOk result (λ n. n ≤ length into.old) }
+// How much was read, or None where the system failed.
+fn read_part(rt: &HostRuntime, name: &str, place: u64, into: &mut [u8]) -> Option<usize>
+    ensures { IfSome result (λ n. n ≤ length into.old) }
 {
-    let file = File::open(rt, name)?;
-    read_some(&file, place, into)
+    match File::open(rt, name) {
+        Ok(file) => read_some(&file, place, into).ok(),
+        Err(_) => None,
+    }
 }
 
-fn append_part(rt: &HostRuntime, name: &str, written: u64, bytes: &[u8]) -> io::Result<usize>
-    ensures { IfOk result (λ n. n ≤ length bytes.now) }
+// How much was written, or None where the system failed.
+fn append_part(rt: &HostRuntime, name: &str, written: u64, bytes: &[u8]) -> Option<usize>
+    ensures { IfSome result (λ n. n ≤ length bytes.now) }
 {
-    let mut file = open_to_append(rt, name, written)?;
-    write_some(&mut file, bytes)
+    match open_to_append(rt, name, written) {
+        Ok(mut file) => write_some(&mut file, bytes).ok(),
+        Err(_) => None,
+    }
 }
 
 fn sync_file(rt: &HostRuntime, name: &str, written: u64) -> io::Result<()> {
@@ -215,6 +221,42 @@ fn written_from(written: &mut Vec<u64>, next: usize) -> Result<(), AllocError> {
     Ok(())
 }
 
+// Opens a file to be read, and keeps which it is, in a function of its own: what the system tells of a
+// file or of a fault ends here, and not where a shelf's clauses are shown.
+fn opened(
+    rt: &HostRuntime,
+    known: &mut Known,
+    written: &mut Vec<u64>,
+    next: usize,
+    name: &str,
+) -> Result<(), OpenFault> {
+    match open_to_read(rt, name) {
+        Ok(file) => {
+            if written_from(written, next).is_err() || known.add_read(rt, name, &file).is_err() {
+                return Err(OpenFault::Memory);
+            }
+            Ok(())
+        }
+        Err(e) if e.kind() == ErrorKind::NotFound => Err(OpenFault::Missing),
+        Err(_) => Err(OpenFault::Failed),
+    }
+}
+
+// Makes room for a file that is made.
+fn room_for(known: &mut Known, written: &mut Vec<u64>, next: usize) -> Result<(), AllocError> {
+    known.reserve()?;
+    written_from(written, next)
+}
+
+// Opens a file to be written, and keeps which it is.
+fn made(rt: &HostRuntime, known: &mut Known, name: &str) -> Result<(), ShelfFault> {
+    match open_to_make(rt, known, name) {
+        Ok(file) if known.add(&file).is_ok() => Ok(()),
+        Ok(_) => Err(ShelfFault::Memory),
+        Err(_) => Err(ShelfFault::Failed),
+    }
+}
+
 fn how_much(written: &[u64], id: usize) -> u64 {
     match written.get(id) {
         Some(n) => *n,
@@ -240,27 +282,21 @@ impl Shelf for FileShelf {
     #[tactic(auto, using(crate::proofs::EntryLemmas::entries))]
     fn open(&mut self, name: &str) -> Result<u32, OpenFault> {
         empty_made(&self.rt, self.entries.as_slice(), &mut self.full);
-        match open_to_read(&self.rt, name) {
-            Ok(file) => {
-                let (known, written) = (&mut self.known, &mut self.written);
-                if written_from(written, self.entries.len()).is_err()
-                    || known.add_read(&self.rt, name, &file).is_err()
-                {
-                    return Err(OpenFault::Memory);
-                }
-                match give(self.alloc, &mut self.entries, true, name) {
-                    Ok(id) => Ok(id),
-                    Err(_) => Err(OpenFault::Memory),
-                }
-            }
-            Err(e) if e.kind() == ErrorKind::NotFound => {
+        let next = self.entries.len();
+        match opened(&self.rt, &mut self.known, &mut self.written, next, name) {
+            Ok(()) => match give(self.alloc, &mut self.entries, true, name) {
+                Ok(id) => Ok(id),
+                Err(_) => Err(OpenFault::Memory),
+            },
+            Err(OpenFault::Missing) => {
                 self.missing = self.missing.saturating_add(1);
                 Err(OpenFault::Missing)
             }
-            Err(_) => {
+            Err(OpenFault::Failed) => {
                 self.reads = self.reads.saturating_add(1);
                 Err(OpenFault::Failed)
             }
+            Err(OpenFault::Memory) => Err(OpenFault::Memory),
         }
     }
 
@@ -270,7 +306,7 @@ impl Shelf for FileShelf {
         let entry = &self.entries[id as usize];
         let place = entry.place;
         match read_part(&self.rt, entry.name.as_str(), place, into) {
-            Ok(n) if n as u64 <= u64::MAX - place => {
+            Some(n) if n as u64 <= u64::MAX - place => {
                 advance(&mut self.entries, id, n);
                 Ok(n)
             }
@@ -284,19 +320,19 @@ impl Shelf for FileShelf {
     #[tactic(auto, using(crate::proofs::EntryLemmas::entries))]
     fn create(&mut self, name: &str) -> Result<u32, ShelfFault> {
         let given = self.entries.len();
-        if self.known.reserve().is_err() || written_from(&mut self.written, given).is_err() {
+        if room_for(&mut self.known, &mut self.written, given).is_err() {
             return Err(ShelfFault::Memory);
         }
         let Ok(id) = give(self.alloc, &mut self.entries, false, name) else {
             return Err(ShelfFault::Memory);
         };
-        match open_to_make(&self.rt, &self.known, name) {
-            Ok(file) if self.known.add(&file).is_ok() => Ok(id),
-            Ok(_) => {
+        match made(&self.rt, &mut self.known, name) {
+            Ok(()) => Ok(id),
+            Err(ShelfFault::Memory) => {
                 self.entries.truncate(given);
                 Err(ShelfFault::Memory)
             }
-            Err(_) => {
+            Err(ShelfFault::Failed) => {
                 self.entries.truncate(given);
                 self.writes = self.writes.saturating_add(1);
                 Err(ShelfFault::Failed)
@@ -313,7 +349,7 @@ impl Shelf for FileShelf {
         let entry = &self.entries[id as usize];
         let written = how_much(self.written.as_slice(), id as usize);
         match append_part(&self.rt, entry.name.as_str(), written, bytes) {
-            Ok(n) if n > 0 => {
+            Some(n) if n > 0 => {
                 count(self.written.as_mut_slice(), id, n);
                 Ok(n)
             }

@@ -6,7 +6,7 @@ ghost use Rattle.exb_shelf.specs.Counting.{after_open, after_read, after_write, 
 ghost use Rattle.exb_shelf.specs.Shelf.{Id, Faults, IsReading, IsWriting, reading, writing, moved, Rose, NoFewer};
 
 /// Why a file could not be opened.
-#[derive(Clone, Copy, Debug, PartialEq, Eq)]
+#[derive(Clone, Copy, Debug)]
 pub enum OpenFault {
     /// There is no file of this name.
     Missing,

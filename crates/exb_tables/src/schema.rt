@@ -40,6 +40,29 @@ pub(crate) fn is_of_three(key: &str, a: &str, b: &str, c: &str) -> bool
     key == a || key == b || key == c
 }
 
+// Whether it is one of four names.
+fn is_of_four(key: &str, a: &str, b: &str, c: &str, d: &str) -> bool
+    ensures { result ≡ is_among (a.now ∷ b.now ∷ c.now ∷ d.now ∷ []) key.now }
+{
+    is_of_two(key, a, b) || is_of_two(key, c, d)
+}
+
+// Whether it is one of five names.
+fn is_of_five(key: &str, a: &str, b: &str, c: &str, d: &str, e: &str) -> bool
+    ensures { result ≡ is_among (a.now ∷ b.now ∷ c.now ∷ d.now ∷ e.now ∷ []) key.now }
+{
+    is_of_two(key, a, b) || is_of_three(key, c, d, e)
+}
+
+// Whether it is the name of a table. A `match` of many texts is dear to prove, and two calls aren't.
+#[tactic(auto, unfolding(crate::specs::Schemas::has_key))]
+fn is_table(key: &str) -> bool
+    ensures { result ≡ has_key Schema.Root key.now }
+{
+    is_of_three(key, "bridge", "links", "extender")
+        || is_of_five(key, "port", "vlan", "static", "command", "captures")
+}
+
 impl Schema {
     /// Whether the table defines that key.
     #[tactic(auto, unfolding(crate::specs::Schemas::has_key))]
@@ -47,24 +70,14 @@ impl Schema {
         ensures { result ≡ has_key self key.now }
     {
         match self {
-            Schema::Root => matches!(
-                key,
-                "bridge"
-                    | "links"
-                    | "extender"
-                    | "port"
-                    | "vlan"
-                    | "static"
-                    | "command"
-                    | "captures"
-            ),
-            Schema::Bridge => matches!(key, "ports" | "channels" | "groups" | "ageing" | "out"),
-            Schema::Links => matches!(key, "fate"),
-            Schema::Extender => matches!(key, "number" | "on" | "ports"),
-            Schema::Port => matches!(key, "name" | "pvid" | "accept" | "filter" | "isolated"),
-            Schema::Vlan => matches!(key, "vid" | "last" | "tagged" | "untagged"),
-            Schema::Static => matches!(key, "vid" | "mac" | "ports"),
-            Schema::Command { op } => matches!(key, "at" | "op" | "fate") || op.has(key),
+            Schema::Root => is_table(key),
+            Schema::Bridge => is_of_five(key, "ports", "channels", "groups", "ageing", "out"),
+            Schema::Links => key == "fate",
+            Schema::Extender => is_of_three(key, "number", "on", "ports"),
+            Schema::Port => is_of_five(key, "name", "pvid", "accept", "filter", "isolated"),
+            Schema::Vlan => is_of_four(key, "vid", "last", "tagged", "untagged"),
+            Schema::Static => is_of_three(key, "vid", "mac", "ports"),
+            Schema::Command { op } => is_of_three(key, "at", "op", "fate") || op.has(key),
         }
     }
 }

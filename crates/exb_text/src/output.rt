@@ -10,7 +10,7 @@ use exb_model::text::Text;
 use std::alloc::Global;
 
 /// A kind of file that a run writes.
-#[derive(Clone, Copy, Debug, PartialEq, Eq)]
+#[derive(Clone, Copy)]
 pub enum Output {
     /// What leaves an external port.
     Capture(PortId),

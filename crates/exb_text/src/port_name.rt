@@ -7,7 +7,7 @@ use std::fmt;
 
 /// A port that prints as its name: `b1` to `b64` for the ports of the bridge, `xN.K` for port K of extender N,
 /// both counted from 1.
-#[derive(Clone, Copy, Debug, PartialEq, Eq)]
+#[derive(Clone, Copy)]
 pub struct PortName(pub PortId);
 
 impl fmt::Display for PortName {

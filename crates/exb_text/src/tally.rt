@@ -8,7 +8,7 @@ use exb_model::memory::NoMemory;
 use std::alloc::Global;
 
 /// What the summary of a run counts.
-#[derive(Clone, Copy, Debug, Default, PartialEq, Eq)]
+#[derive(Clone, Copy, Default)]
 pub struct Tally {
     /// Arrivals that were relayed.
     pub relayed: u64,

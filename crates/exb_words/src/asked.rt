@@ -3,7 +3,7 @@ ghost use Rattle.std.specs.Prelude.{◌≡◌};
 ghost use Rattle.exb_words.specs.Kinds.{eager_with};
 
 /// How a run is asked for.
-#[derive(Clone, Copy, Debug, Default, PartialEq, Eq)]
+#[derive(Clone, Copy)]
 pub struct Options {
     /// With a trace.
     pub trace: bool,
@@ -27,7 +27,7 @@ impl Options {
 }
 
 /// What the words ask for.
-#[derive(Clone, Copy, Debug)]
+#[derive(Clone, Copy)]
 pub enum Asked<'a> {
     /// To play the captures of a topology.
     Run { topology: &'a str, options: Options },

@@ -5,7 +5,7 @@ use exb_model::event::Cause;
 use exb_model::list::List;
 
 /// A channel or a group in the space of a bridge port, which is numbered 1 to 64.
-#[derive(Clone, Copy, Debug, PartialEq, Eq)]
+#[derive(Clone, Copy, Debug)]
 pub struct Number {
     pub bridge_port: u8,
     pub number: u16,
@@ -25,7 +25,7 @@ pub struct Change {
 }
 
 /// Whether a change is made.
-#[derive(Debug, Drop)]
+#[derive(Drop)]
 pub enum Decision {
     /// The numbers below a bridge port don't suffice.
     Refused(Cause),

@@ -2,7 +2,7 @@
 use exb_model::port_set::PortSet;
 
 /// A group with its set, in the space of a bridge port, which is numbered from 1.
-#[derive(Clone, Copy, Debug, PartialEq, Eq)]
+#[derive(Clone, Copy)]
 pub struct GroupAt {
     /// The bridge port.
     pub bridge_port: u8,

@@ -3,7 +3,7 @@ use exb_model::port_set::PortSet;
 use std::hash::{Hash, Hasher};
 
 /// A set of extended ports below a bridge port, which is numbered 1 to 64.
-#[derive(Clone, Copy, Debug, PartialEq, Eq)]
+#[derive(Clone, Copy, PartialEq, Eq)]
 pub struct SetAt {
     pub bridge_port: u8,
     pub set: PortSet,

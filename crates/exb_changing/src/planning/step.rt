@@ -1,7 +1,7 @@
 //! What becomes of rows.
 
 /// What becomes of rows.
-#[derive(Clone, Copy, Debug, PartialEq, Eq)]
+#[derive(Clone, Copy)]
 pub enum Step {
     /// They are laid.
     Lay,

@@ -28,7 +28,7 @@ impl Model for Asker {
 }
 
 /// What a message is to an asker.
-#[derive(Clone, Copy, Debug, PartialEq, Eq)]
+#[derive(Clone, Copy, Debug)]
 pub enum Taken {
     /// The answer that is waited for.
     Answer(Response),
