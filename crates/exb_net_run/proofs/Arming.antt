@@ -8,8 +8,8 @@ use Rattle.exb_topology.specs.Sound.{IsSound}
 use Rattle.exb_net_file.specs.declared.apart.NetRest.{NetRest}
 use Rattle.exb_net_file.specs.declared.members.NetMember.{NetMember}
 use Rattle.exb_net_file.specs.Apart.{rest_of}
-use Rattle.exb_net.specs.Lists.{AreEach}
-use Rattle.exb_net.proofs.Places.{all_by, is_there, of_all, put_here, put_there}
+use Rattle.exb_net_run.specs.Lists.{AreEach}
+use Rattle.exb_net_run.proofs.Places.{all_by, is_there, of_all, put_here, put_there}
 
 -- ---- two lists that grow together
 module _ {A B : Type 0} (R : ℕ → A → B → Type 0) where

@@ -26,8 +26,8 @@ use Rattle.exb_nets.specs.NetHistory.{Due, dues}
 use Rattle.exb_nets.specs.Order.{AreHere, AreInOrder}
 use Rattle.exb_net_file.specs.declared.apart.NetRest.{NetRest}
 use Rattle.exb_inputs.specs.Shelving.{OnlyReads}
-use Rattle.exb_net.specs.declared.node.Node.{Node}
-use Rattle.exb_net.proofs.Places.{is_there}
+use Rattle.exb_net_run.specs.declared.node.Node.{Node}
+use Rattle.exb_net_run.proofs.Places.{is_there}
 use Rattle.exb_outputs.specs.Apart.{AreApart}
 use Rattle.exb_outputs.specs.Manifests.{Listed}
 use Rattle.exb_outputs.specs.Writing.{ids_of}

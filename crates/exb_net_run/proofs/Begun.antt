@@ -10,8 +10,8 @@ use Rattle.exb_merge.specs.declared.programme.Programme.{Programme}
 use Rattle.exb_merge.specs.NetAgendas.{all_to_play, dues_left}
 use Rattle.exb_wiring.specs.Delivering.{HaveBegun, OpenedNetsRun}
 use Rattle.exb_wiring.specs.UnderWay.{IsNew, OpenedNetsAreNew}
-use Rattle.exb_net.specs.declared.net.Net.{Net as Bridges}
-use Rattle.exb_net.specs.Nets.{IsPlaying, Opens, no_dones}
+use Rattle.exb_net_run.specs.declared.net.Net.{Net as Bridges}
+use Rattle.exb_net_run.specs.Bridging.{IsPlaying, Opens, no_dones}
 use Rattle.exb_outputs.specs.Manifests.{Listed}
 use Rattle.exb_writers.proofs.PortCounts.{none_together}
 use Rattle.exb_net_run.specs.declared.game.NetGame.{NetGame}

@@ -35,7 +35,7 @@ use Rattle.exb_writers.specs.Counts.{AreCounted, counts_so_far, counts_text, cou
 use Rattle.exb_writers.specs.Texts.{output_text}
 use Rattle.exb_writers.proofs.Counting.{LeftExternal, count_events-left, counts-whole}
 use Rattle.exb_writers.proofs.PortCounts.{counts-of, counts_end, port_whole}
-use Rattle.exb_net.proofs.Places.{is_there}
+use Rattle.exb_net_run.proofs.Places.{is_there}
 use Rattle.exb_net_run.specs.declared.desk.Desk.{Desk}
 use Rattle.exb_net_run.specs.declared.game.NetGame.{NetGame}
 use Rattle.exb_net_run.specs.Desks.{AreAllFronts, AreNoted, AreWhole, CanEndAll, IsWhole, OnlyAllListed, manifests_in, tallies_in, text_of}

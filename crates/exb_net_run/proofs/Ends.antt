@@ -11,7 +11,7 @@ use Rattle.exb_nets.specs.NetHistory.{Due, Goes, openings}
 use Rattle.exb_nets.specs.Ending.{NetsHaveHistories}
 use Rattle.exb_nets.specs.Laws.{HistoriesGoOn}
 use Rattle.exb_wiring.specs.Laws.{NetsArePlayed}
-use Rattle.exb_net.specs.Nets.{no_dones}
+use Rattle.exb_net_run.specs.Bridging.{no_dones}
 use Rattle.exb_net_file.specs.declared.members.NetMember.{NetMember}
 use Rattle.exb_net_file.specs.Members.{tree_in}
 use Rattle.exb_outputs.specs.Manifests.{Listed}

@@ -11,10 +11,10 @@ use Rattle.exb_merge.specs.declared.programme.Next.TheVariants as next
 use Rattle.exb_nets.specs.Nets.{Net, is_wired}
 use Rattle.exb_net_file.specs.declared.apart.NetRest.{NetRest}
 use Rattle.exb_wiring.specs.Playing.{Dones}
-use Rattle.exb_net.specs.declared.net.Net.{Net as Bridges}
-use Rattle.exb_net.specs.declared.node.Node.{Node}
-use Rattle.exb_net.specs.Lists.{AreEach}
-use Rattle.exb_net.specs.Nets.{Handled, IsPlaying}
+use Rattle.exb_net_run.specs.declared.net.Net.{Net as Bridges}
+use Rattle.exb_net_run.specs.declared.node.Node.{Node}
+use Rattle.exb_net_run.specs.Lists.{AreEach}
+use Rattle.exb_net_run.specs.Bridging.{Handled, IsPlaying}
 use Rattle.exb_net_run.specs.UnderWay.{CanGive, IsFree, IsStepOf, commands_in, letters_at, letters_for, letters_of}
 
 module _ {V : Type 0} {X : V → Type 0} (n : Net) (s told : Dones) (rests : List NetRest) (d : NetNext) (x y : Bridges V X) (can : CanGive n s told rests d x) where

@@ -31,10 +31,10 @@ use Rattle.exb_nets.specs.NetHistory.{Due, due_second}
 use Rattle.exb_nets.specs.Order.{IsNext, taken_after, taken_by}
 use Rattle.exb_wiring.specs.Playing.{Dones, Plays, PlaysOne, tree_in}
 use Rattle.exb_wiring.specs.UnderWay.{AreOneMore, IsOneMore, LeftAt, orders_at, orders_in, records_at, records_in, records_of}
-use Rattle.exb_net.specs.declared.net.Net.{Net as Bridges}
-use Rattle.exb_net.specs.declared.node.Node.{Node}
-use Rattle.exb_net.specs.Nets.{IsPlaying}
-use Rattle.exb_net.proofs.Places.{is_there}
+use Rattle.exb_net_run.specs.declared.net.Net.{Net as Bridges}
+use Rattle.exb_net_run.specs.declared.node.Node.{Node}
+use Rattle.exb_net_run.specs.Bridging.{IsPlaying}
+use Rattle.exb_net_run.proofs.Places.{is_there}
 use Rattle.exb_outputs.specs.Apart.{AreApart}
 use Rattle.exb_outputs.specs.Manifests.{Listed}
 use Rattle.exb_outputs.specs.Writing.{HasTexts, pieces_of}

@@ -14,11 +14,11 @@ use Rattle.exb_merge.specs.Replays.{ReadsOn}
 use Rattle.exb_model.specs.declared.setup.Setup.{Setup}
 use Rattle.exb_nets.specs.declared.wires.Wire.{Wire}
 use Rattle.exb_nets.specs.Nets.{Net, IsNet}
-use Rattle.exb_net.specs.declared.net.Net.{Net as Bridges}
-use Rattle.exb_net.specs.declared.node.Node.{Node}
-use Rattle.exb_net.specs.Lists.{AreEach}
-use Rattle.exb_net.specs.Nets.{IsBegun, IsSetupOf}
-use Rattle.exb_net.proofs.Places.{is_there}
+use Rattle.exb_net_run.specs.declared.net.Net.{Net as Bridges}
+use Rattle.exb_net_run.specs.declared.node.Node.{Node}
+use Rattle.exb_net_run.specs.Lists.{AreEach}
+use Rattle.exb_net_run.specs.Bridging.{IsBegun, IsSetupOf}
+use Rattle.exb_net_run.proofs.Places.{is_there}
 use Rattle.exb_net_file.specs.declared.apart.NetParts.{NetParts}
 use Rattle.exb_net_file.specs.declared.apart.NetRest.{NetRest}
 use Rattle.exb_net_file.specs.declared.members.NetMember.{NetMember}

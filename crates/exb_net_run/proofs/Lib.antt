@@ -1,3 +1,13 @@
+mod Wired
+mod Sending
+mod Entering
+pub mod Places
+mod MarkLemmas
+mod Quiet
+mod One
+mod Turning
+mod Whole
+mod Made
 pub mod Noting
 pub mod Several
 pub mod Held

@@ -19,9 +19,9 @@ use Rattle.exb_text.specs.declared.output.Output.{Output}
 use Rattle.exb_outputs.specs.Writing.{HasTexts, IsReady, pieces_of}
 use Rattle.exb_outputs.proofs.Cutting.{GoesOnAs}
 use Rattle.exb_wiring.specs.Playing.{Dones}
-use Rattle.exb_net.specs.declared.node.Node.{Node}
-use Rattle.exb_net.specs.Marks.{AreQuietFrom}
-use Rattle.exb_net.proofs.Places.{is_there, set_here, set_there}
+use Rattle.exb_net_run.specs.declared.node.Node.{Node}
+use Rattle.exb_net_run.specs.Marks.{AreQuietFrom}
+use Rattle.exb_net_run.proofs.Places.{is_there, set_here, set_there}
 use Rattle.exb_net_run.specs.declared.desk.Desk.{Desk}
 use Rattle.exb_net_run.specs.Desks.{AreAllFronts, AreFronts, AreMore, AreNoted, AreManifestsApart, AreReady, AreWhole, IsMore, IsNoted, IsWhole, OnlyAllListed, OnlyWritesAll, manifests_in, tallies_in, text_of}
 use Rattle.exb_net_run.proofs.Noting.{fronts_now, goes-on, goes-same, quiet-noted, texts_stay}

@@ -3,8 +3,8 @@ use Rattle.std.proofs.Common.{ℕ, List, [], ap, ◌∙◌, subst, inl}
 use Rattle.std.specs.Prelude.{slice_get}
 use Rattle.exb_merge.specs.declared.programme.Programme.{Programme}
 use Rattle.exb_nets.specs.Order.{AreTimely}
-use Rattle.exb_net.specs.declared.net.Net.{Net as Bridges}
-use Rattle.exb_net.specs.Nets.{IsBegun, no_dones}
+use Rattle.exb_net_run.specs.declared.net.Net.{Net as Bridges}
+use Rattle.exb_net_run.specs.Bridging.{IsBegun, no_dones}
 use Rattle.exb_outputs.specs.Manifests.{Listed, output_name}
 use Rattle.exb_shelf.specs.Files.{Files, SameFiles}
 use Rattle.exb_shelf.specs.Shelf.{Id, Opens}

@@ -5,9 +5,9 @@ use Rattle.std.proofs.lemmas.Option.{slice_get_within}
 use Rattle.exb_merge.specs.declared.agenda.NetNext.{NetNext}
 use Rattle.exb_merge.specs.declared.programme.Programme.{Programme}
 use Rattle.exb_net_file.specs.declared.apart.NetRest.{NetRest}
-use Rattle.exb_net.specs.declared.node.Node.{Node}
-use Rattle.exb_net.specs.Lists.{AreEach}
-use Rattle.exb_net.proofs.Places.{all_by, is_there}
+use Rattle.exb_net_run.specs.declared.node.Node.{Node}
+use Rattle.exb_net_run.specs.Lists.{AreEach}
+use Rattle.exb_net_run.proofs.Places.{all_by, is_there}
 use Rattle.exb_net_run.specs.UnderWay.{IsPaid, IsWithin, letters_at}
 
 module _ {V : Type 0} {X : V → Type 0} (verdicts : Node V X → ℕ) where

@@ -16,7 +16,7 @@ use Rattle.exb_model.specs.declared.setup.Setup.{Setup}
 use Rattle.exb_nets.specs.declared.wires.Wire.{Wire}
 use Rattle.exb_nets.specs.Nets.{Net, IsNet}
 use Rattle.exb_wiring.specs.Playing.{tree_in}
-use Rattle.exb_net.specs.Nets.{IsSetupOf, no_dones}
+use Rattle.exb_net_run.specs.Bridging.{IsSetupOf, no_dones}
 use Rattle.exb_net_file.specs.declared.apart.NetParts.{NetParts}
 use Rattle.exb_net_file.specs.declared.members.NetMember.{NetMember}
 use Rattle.exb_net_file.specs.Apart.{IsTakenApart, setup_in}

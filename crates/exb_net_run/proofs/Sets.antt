@@ -8,7 +8,7 @@ use Rattle.std.proofs.lemmas.Option.{get_or_from_slice_get, slice_get-map, slice
 use Rattle.exb_inputs.specs.declared.fault.Fault.{Fault}
 use Rattle.exb_model.specs.declared.setup.Setup.{Setup}
 use Rattle.exb_nets.specs.declared.wires.Wire.{Wire}
-use Rattle.exb_net.proofs.Places.{at_place}
+use Rattle.exb_net_run.proofs.Places.{at_place}
 use Rattle.exb_net_file.specs.declared.apart.NetParts.{NetParts}
 use Rattle.exb_net_file.specs.declared.apart.NetRest.{NetRest}
 use Rattle.exb_net_file.specs.declared.members.NetMember.{NetMember}

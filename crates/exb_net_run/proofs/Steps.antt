@@ -26,11 +26,11 @@ use Rattle.exb_nets.specs.NetHistory.{basis_in}
 use Rattle.exb_net_file.specs.declared.apart.NetRest.{NetRest}
 use Rattle.exb_wiring.specs.Playing.{Dones, IsStepFor, PlaysOne, pass, tree_in}
 use Rattle.exb_wiring.specs.Delivering.{HavePassed}
-use Rattle.exb_net.specs.declared.net.Net.{Net as Bridges}
-use Rattle.exb_net.specs.declared.node.Node.{Node}
-use Rattle.exb_net.specs.Holding.{IsAt as IsAtNode}
-use Rattle.exb_net.specs.Nets.{Handled, IsPlaying, Passes}
-use Rattle.exb_net.proofs.Places.{all_by, is_there, of_all}
+use Rattle.exb_net_run.specs.declared.net.Net.{Net as Bridges}
+use Rattle.exb_net_run.specs.declared.node.Node.{Node}
+use Rattle.exb_net_run.specs.Holding.{IsAt as IsAtNode}
+use Rattle.exb_net_run.specs.Bridging.{Handled, IsPlaying, Passes}
+use Rattle.exb_net_run.proofs.Places.{all_by, is_there, of_all}
 use Rattle.exb_net_run.specs.declared.game.NetGame.{NetGame}
 use Rattle.exb_net_run.specs.UnderWay.{AreOfRests, CanGive, GoesOnAt, IsDue, IsFree, IsLast, IsSince, IsStepOf, NetRun}
 use Rattle.exb_net_run.proofs.Passing.{pass_given}

@@ -9,8 +9,8 @@ use Rattle.exb_net_file.specs.declared.apart.NetRest.{NetRest}
 use Rattle.exb_wiring.specs.Delivering.{HavePassed, SecondsPass}
 use Rattle.exb_wiring.specs.Playing.{Dones, PlaysOne, pass}
 use Rattle.exb_wiring.specs.UnderWay.{AreOneMore, EventsAddOne}
-use Rattle.exb_net.specs.declared.net.Net.{Net as Bridges}
-use Rattle.exb_net.specs.Nets.{Handled, IsPlaying, Passes}
+use Rattle.exb_net_run.specs.declared.net.Net.{Net as Bridges}
+use Rattle.exb_net_run.specs.Bridging.{Handled, IsPlaying, Passes}
 use Rattle.exb_net_run.specs.declared.game.NetGame.{NetGame}
 use Rattle.exb_net_run.specs.UnderWay.{AreOfRests, CanGive, IsDue, NetRun}
 use Rattle.exb_net_run.proofs.Steps.{can-give, here, plays-one}

@@ -18,7 +18,7 @@ use Rattle.exb_writers.specs.Counts.{AreCountsOf, CanCount, GoTogether, IsCounte
 use Rattle.exb_writers.specs.Leaving.{CanBeWritten}
 use Rattle.exb_writers.specs.Texts.{text_so_far}
 use Rattle.exb_wiring.specs.Playing.{Dones}
-use Rattle.exb_net.specs.declared.node.Node.{Node}
+use Rattle.exb_net_run.specs.declared.node.Node.{Node}
 use Rattle.exb_net_run.specs.declared.desk.Desk.{Desk}
 use Rattle.exb_net_run.specs.Summing.{added}
 

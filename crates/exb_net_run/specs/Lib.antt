@@ -1,3 +1,12 @@
+pub mod Ends
+pub mod Crossings
+pub mod Nodes
+pub mod Lists
+pub mod Making
+pub mod Marks
+pub mod Holding
+pub mod Bridging
+pub mod Turns
 pub mod Nets
 pub mod Summing
 pub mod Outputs

@@ -7,8 +7,8 @@ use Rattle.exb_model.specs.Setup.{shape_of}
 use Rattle.exb_inputs.specs.declared.checked.Checked.{Checked}
 use Rattle.exb_nets.specs.declared.wires.Wire.{Wire}
 use Rattle.exb_nets.specs.Order.{AreTimely}
-use Rattle.exb_net.specs.declared.net.Net.{Net as Bridges}
-use Rattle.exb_net.specs.Nets.{IsBegun, no_dones}
+use Rattle.exb_net_run.specs.declared.net.Net.{Net as Bridges}
+use Rattle.exb_net_run.specs.Bridging.{IsBegun, no_dones}
 use Rattle.exb_net_file.specs.declared.apart.NetParts.{NetParts}
 use Rattle.exb_net_file.specs.declared.apart.NetRest.{NetRest}
 use Rattle.exb_net_file.specs.declared.members.NetMember.{NetMember}

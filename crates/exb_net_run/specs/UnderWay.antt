@@ -28,9 +28,9 @@ use Rattle.exb_nets.specs.Order.{AreHere, AreInOrder, AreTimely, taken_after}
 use Rattle.exb_net_file.specs.declared.apart.NetRest.{NetRest}
 use Rattle.exb_wiring.specs.Delivering.{HaveVids}
 use Rattle.exb_wiring.specs.Playing.{AreOpened, Dones, Plays, tree_in}
-use Rattle.exb_net.specs.declared.net.Net.{Net as Bridges}
-use Rattle.exb_net.specs.declared.node.Node.{Node}
-use Rattle.exb_net.specs.Nets.{IsBegun, IsPlaying, no_dones}
+use Rattle.exb_net_run.specs.declared.net.Net.{Net as Bridges}
+use Rattle.exb_net_run.specs.declared.node.Node.{Node}
+use Rattle.exb_net_run.specs.Bridging.{IsBegun, IsPlaying, no_dones}
 use Rattle.exb_writers.specs.Texts.{output_text}
 use Rattle.exb_outputs.specs.Apart.{AreApart}
 use Rattle.exb_outputs.specs.Manifests.{Listed}

@@ -7,8 +7,8 @@ ghost use Rattle.exb_merge.specs.declared.programme.Programme.{Programme};
 ghost use Rattle.exb_merge.specs.Streams.{Stream};
 ghost use Rattle.exb_nets.specs.Nets.{Net as Wired};
 ghost use Rattle.exb_wiring.specs.Playing.{Dones};
-ghost use Rattle.exb_net.specs.Lists.{AreEach};
-ghost use Rattle.exb_net.specs.Nets.{Handled, IsPlaying};
+ghost use Rattle.exb_net_run.specs.Lists.{AreEach};
+ghost use Rattle.exb_net_run.specs.Bridging.{Handled, IsPlaying};
 ghost use Rattle.exb_schedule.specs.Worlds.{fate_in};
 ghost use Rattle.exb_text.specs.Tallies.{FitsTally, counts_of};
 ghost use Rattle.exb_inputs.specs.Shelving.{CountsFaults, OnlyReads};
@@ -20,12 +20,12 @@ ghost use Rattle.exb_net_run.specs.Shelving.{AreOthersAll, IsNetChange, IsOfCapt
 ghost use Rattle.exb_net_run.specs.Summing.{added};
 ghost use Rattle.exb_net_run.specs.UnderWay.{AreOfRests, CanBegin, CanGive, HasWritten, IsAllTold, IsCutOff, IsDue, IsGoing, IsPaid, IsWithin, NetRun, came_by, letters_at};
 
+use crate::Net;
 use crate::desk::{Desk, Room, add, finish, note};
 use exb_inputs::Fault;
 use exb_machine::laws::steps_tell_passed;
 use exb_merge::laws::agendas_stay;
 use exb_merge::{Agenda, NetNext, Next};
-use exb_net::Net;
 use exb_net_file::NetRest;
 use exb_net_inputs::of_member;
 use exb_schedule::WorldFault;

@@ -1,15 +1,32 @@
 //! A net is played: FILE and topologies are read and captures checked (`exb_net_inputs`), the outputs of all bridges are made, and what
-//! comes to the net (`exb_merge::Agenda`) is given to its bridge, event after event, and what follows is played (`exb_net`). What each
+//! comes to the net (`exb_merge::Agenda`) is given to its bridge, event after event, and what follows is played. What each
 //! bridge tells and sends is written and counted as it happens. Upwards it promises that the files of each bridge are those of its history
-//! in the net's eager run, and hold fronts of them where the call ends early. It knows no world but through `exb_net`.
+//! in the net's eager run, and hold fronts of them where the call ends early.
 //!
-//! `src`: `desk` (what one bridge writes and counts), `game` (all of them, one event after another), `opening` (what is made before the
-//! first event), `play` (the whole call).
+//! The bridges, wired to one another, are one value, `Net`: each has a world of links, with a fate of its own, and its wired
+//! ports, each with what is at the far end of its wire and the index of its next frame. What is given to one of them, a frame or a
+//! command, is played as a segment of the eager run is, and then each frame that leaves a wired port for it at the far end of its wire, in the
+//! order of their queue, until none is between bridges: so its worlds do what `exb_wiring` says of runs of several worlds. It moves each world by
+//! `exb_schedule` alone.
+//!
+//! `src`: `ends` (the wired ports of a bridge), `crossing` (the queue), `node` (one bridge), `marks` (sets of bridges), `making` and `net`
+//! (all of them); `desk` (what one bridge writes and counts), `game` (all of them, one event after another), `opening` (what is made before the
+//! first event), `play` (the whole call). `specs`: `Holding` and `Bridging` say where the bridges are and what a call of `Net` does.
 #![tactic(auto)]
 
+pub mod crossing;
 mod desk;
+pub mod ends;
 mod game;
+mod making;
+mod marks;
+pub mod net;
+pub mod node;
 mod opening;
 mod play;
 
+pub use crossing::Crossing;
+pub use ends::WiredEnd;
+pub use net::Net;
+pub use node::Node;
 pub use play::play_net;

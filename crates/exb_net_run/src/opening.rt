@@ -5,7 +5,7 @@ ghost use Rattle.exb_inputs.specs.declared.fault.Fault.{Fault};
 ghost use Rattle.exb_merge.specs.declared.programme.Programme.{Programme};
 ghost use Rattle.exb_merge.specs.NetAgendas.{IsAgenda, all_ids, programmes_in};
 ghost use Rattle.exb_model.specs.Setup.{IsValid};
-ghost use Rattle.exb_net.specs.Lists.{AreEach};
+ghost use Rattle.exb_net_run.specs.Lists.{AreEach};
 ghost use Rattle.exb_net_file.specs.declared.apart.NetRest.{NetRest};
 ghost use Rattle.exb_nets.specs.declared.wires.Wire.{Wire};
 ghost use Rattle.exb_net_file.specs.declared.members.NetMember.{NetMember};

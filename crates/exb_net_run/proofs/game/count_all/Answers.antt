@@ -2,7 +2,7 @@ use Rattle.std.proofs.Common.{◌≡◌, ◌+◌, ◌<◌, ℕ, suc, List, [], �
 use Rattle.std.proofs.lemmas.List.{take_all}
 use Rattle.exb_model.specs.Texts.{Counts}
 use Rattle.exb_text.specs.Tallies.{FitsTally, counts_of}
-use Rattle.exb_net.proofs.Places.{at_place}
+use Rattle.exb_net_run.proofs.Places.{at_place}
 use Rattle.exb_net_run.specs.declared.desk.Desk.{Desk}
 use Rattle.exb_net_run.specs.Desks.{tallies_in}
 use Rattle.exb_net_run.specs.Summing.{added}

@@ -6,7 +6,7 @@ use Rattle.std.proofs.lemmas.Result.{err_from_is_err_and}
 use Rattle.exb_outputs.specs.Manifests.{Listed}
 use Rattle.exb_outputs.proofs.ShelvingLemmas.{writes_from}
 use Rattle.exb_writers.specs.Counts.{counts_text}
-use Rattle.exb_net.proofs.Places.{at_place, set_there}
+use Rattle.exb_net_run.proofs.Places.{at_place, set_there}
 use Rattle.exb_net_run.specs.declared.desk.Desk.{Desk}
 use Rattle.exb_net_run.specs.Desks.{AreFronts, IsWhole, text_of}
 use Rattle.exb_net_run.proofs.Noted.{desk_at, fronts_stay, noted_stays, now_fronts, only_none, only_one, others_stay, manifest_at, manifests-long, manifests-same-long, manifests_set, tallies_set, whole_fronts, whole_stays}

@@ -3,7 +3,7 @@ use Rattle.std.specs.Prelude.{slice_get}
 use Rattle.std.proofs.lemmas.Option.{slice_get_within}
 use Rattle.exb_model.specs.declared.setup.Timed.{Timed}
 use Rattle.exb_inputs.proofs.Outcomes.{on_ok_by}
-use Rattle.exb_net.proofs.Places.{at_place}
+use Rattle.exb_net_run.proofs.Places.{at_place}
 use Rattle.exb_net_file.specs.declared.apart.NetRest.{NetRest}
 use Rattle.exb_net_run.proofs.Giving.{gives-command, gives-record, letters-given, number-low}
 use Rattle.exb_net_run.proofs.game.give.Goals as goal

@@ -3,7 +3,7 @@ use Rattle.std.proofs.lemmas.Option.{slice_get_within}
 use Rattle.exb_inputs.specs.declared.fault.Fault.{Fault}
 use Rattle.exb_inputs.specs.declared.fault.Fault.TheVariants.{Memory}
 use Rattle.exb_merge.specs.NetAgendas.{programmes_in}
-use Rattle.exb_net.proofs.Places.{at_place}
+use Rattle.exb_net_run.proofs.Places.{at_place}
 use Rattle.exb_net_inputs.specs.Refusing.{member_fault}
 use Rattle.exb_net_run.specs.Shelving.{IsOfCaptures}
 use Rattle.exb_net_run.proofs.Failing.{failed-changed, failed-counts, failed-never, of-bridge, unnamed-changed, unnamed-never, unnamed-play}

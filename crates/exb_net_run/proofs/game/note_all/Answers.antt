@@ -5,7 +5,7 @@ use Rattle.std.proofs.lemmas.Result.{err_from_is_err_and}
 use Rattle.exb_schedule.specs.Worlds.{network_of}
 use Rattle.exb_outputs.specs.Manifests.{Listed}
 use Rattle.exb_outputs.proofs.ShelvingLemmas.{writes_from}
-use Rattle.exb_net.proofs.Places.{at_place, is_there, set_there}
+use Rattle.exb_net_run.proofs.Places.{at_place, is_there, set_there}
 use Rattle.exb_net_run.specs.Desks.{AreAllFronts, AreNoted, AreManifestsApart, CanNote, IsMore, IsNoted, OnlyWritesAll, manifests_in}
 use Rattle.exb_net_run.proofs.Noted.{fronts_more, noted_all, noted_more, noted_skip, only_none, only_one, manifests-same-long, manifests_set, ready_more, upto_high, upto_none}
 use Rattle.exb_net_run.proofs.game.note_all.Goals as goal

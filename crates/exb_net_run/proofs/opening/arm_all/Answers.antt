@@ -1,6 +1,6 @@
 use Rattle.std.proofs.Common.{◌<◌, ◌≤◌, ◌+◌, ◌^◌, [], length, take, refl, ap, subst, sym, ◌∙◌, arith}
 use Rattle.exb_net_file.specs.declared.apart.NetRest.{NetRest}
-use Rattle.exb_net.specs.Lists.{AreEach}
+use Rattle.exb_net_run.specs.Lists.{AreEach}
 use Rattle.exb_net_run.proofs.Arming.{first_taken, front_is, next_holds, no_pairs, other_is, other_low, rest_is}
 use Rattle.exb_net_run.proofs.opening.arm_all.Goals as goal
 

@@ -1,5 +1,5 @@
 use Rattle.std.proofs.Common.{◌≡◌, ◌<◌, ◌+◌, ◌^◌, drop, length, take}
-use Rattle.exb_net.specs.Lists.{AreEach}
+use Rattle.exb_net_run.specs.Lists.{AreEach}
 use Rattle.exb_net_run.proofs.opening.arm_all.Given as goal
 
 -- The fates so far are armed, for the first bridge and so many others.

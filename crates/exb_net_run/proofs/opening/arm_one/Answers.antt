@@ -1,6 +1,6 @@
 use Rattle.std.proofs.Common.{◌<◌, ◌+◌, ◌^◌, ◌++◌, ◌∷◌, [], List, length, subst, sym}
 use Rattle.exb_model.specs.declared.setup.Verdict.{Verdict}
-use Rattle.exb_net.specs.Lists.{AreEach}
+use Rattle.exb_net_run.specs.Lists.{AreEach}
 use Rattle.exb_net_run.proofs.Arming.{one_pair}
 use Rattle.exb_net_run.proofs.opening.arm_one.Goals as goal
 

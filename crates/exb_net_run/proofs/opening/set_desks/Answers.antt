@@ -4,7 +4,7 @@ use Rattle.std.specs.declared.vec.Vec.{Vec}
 use Rattle.std.proofs.lemmas.List.{length-map}
 use Rattle.std.proofs.lemmas.Result.{err_from_is_err_and}
 use Rattle.exb_model.specs.Setup.{IsValid}
-use Rattle.exb_net.proofs.Places.{of_all}
+use Rattle.exb_net_run.proofs.Places.{of_all}
 use Rattle.exb_net_file.specs.declared.apart.NetRest.{NetRest}
 use Rattle.exb_net_file.specs.declared.members.NetMember.{NetMember}
 use Rattle.exb_net_file.specs.Apart.{rest_of}

@@ -6,7 +6,7 @@ use Rattle.exb_inputs.proofs.ShelvingLemmas.{counts_from}
 use Rattle.exb_outputs.specs.Manifests.{Listed}
 use Rattle.exb_outputs.proofs.ShelvingLemmas.{fault_counts, is_writing}
 use Rattle.exb_merge.specs.NetAgendas.{all_ids, programmes_in}
-use Rattle.exb_net.specs.Nets.{no_dones}
+use Rattle.exb_net_run.specs.Bridging.{no_dones}
 use Rattle.exb_net_run.specs.Desks.{AreManifestsApart, manifests_in}
 use Rattle.exb_net_run.specs.Shelving.{IsOfCaptures, OnlyGoesOnAll}
 use Rattle.exb_net_run.proofs.Begun.{opened-can, opened-cut, opened-going, opened-more, opened-together, unopened-cut}

@@ -1,0 +1,30 @@
+-- Bridges that told nothing.
+use Rattle.std.proofs.Common.{◌≡◌, ℕ, List, refl, arith}
+use Rattle.exb_network.specs.Networks.{IsQuiet, Network}
+use Rattle.exb_schedule.specs.Worlds.{network_of}
+use Rattle.exb_net_run.specs.declared.ends.WiredEnd.{WiredEnd}
+use Rattle.exb_net_run.specs.declared.node.Node.{Node}
+use Rattle.exb_net_run.specs.Lists.{AreEach}
+use Rattle.exb_net_run.specs.Marks.{AreQuietBut, mark_of}
+use Rattle.exb_net_run.specs.Nodes.{HasForgotten}
+use Rattle.exb_net_run.proofs.Places.{is_there}
+use Rattle.std.proofs.lemmas.Option.{slice_get_within}
+
+-- it has nothing to forget
+pub forgets_nothing : (w : Network) (ends : List WiredEnd) → IsQuiet w → HasForgotten w w ends ends
+forgets_nothing w ends quiet = record { world = refl; same = record { site = refl; failed = refl; tracing = refl }; quiet = quiet; ends = refl }
+
+module _ {V : Type 0} {X : V → Type 0} where
+  -- where all are marked
+  pub all_marked : (marks : ℕ) → ((b : ℕ) → mark_of marks b ≡ 1) → (nodes : List (Node V X)) → AreQuietBut marks nodes
+  all_marked marks all nodes = record { each = λ b x is none. absurd (let one = all b in omega (arith, one, none)) }
+
+  -- where all have forgotten, whatever is marked
+  pub all_quiet : (marks : ℕ) (xs ys : List (Node V X)) → AreEach (λ b u v. HasForgotten (network_of u.world) (network_of v.world) u.ends.items v.ends.items) xs ys → AreQuietBut marks ys
+  all_quiet marks xs ys all = record {
+    each = λ b y is none.
+        let low = slice_get_within ys b y is in
+        let same = all.long in
+        let x = is_there xs b (omega (arith, low, same)) in
+        (all.each b x.0 y x.1 is).quiet;
+  }

@@ -1,0 +1,31 @@
+use Rattle.std.proofs.Common.{◌+◌, ◌==◌, ◌≤◌, if◌then◌else◌, length, refl, arith}
+use Rattle.std.proofs.lemmas.Bool.{eq-eqb}
+use Rattle.exb_net_run.proofs.Places.{at_place, each_set}
+use Rattle.exb_net_run.proofs.Whole.{ordered_so}
+use Rattle.exb_net_run.proofs.net.Net.command.Goals as goal
+
+pub index_mut-requires : goal.index_mut-requires
+index_mut-requires g c = omega (arith, c.requires.here, c.args.self.now.nodes.ok.0)
+
+pub order-requires-clause-can : goal.order-requires-clause-can
+order-requires-clause-can g c = c.requires.can c.index_mut.result.now (at_place c.args.self.now.nodes.items c.args.bridge c.index_mut.result.now c.requires.here c.index_mut.ensures.value)
+
+pub order-requires-clause-few : goal.order-requires-clause-few
+order-requires-clause-few g c = c.requires.fate c.index_mut.result.now (at_place c.args.self.now.nodes.items c.args.bridge c.index_mut.result.now c.requires.here c.index_mut.ensures.value)
+
+pub returns-in-Ok-clause-ok : goal.returns-in-Ok-clause-ok
+returns-in-Ok-clause-ok g c = λ n s told k.
+    let x = c.args.self.now in
+    let is = at_place x.nodes.items c.args.bridge c.index_mut.result.now c.requires.here c.index_mut.ensures.value in
+    ordered_so n s told x k c.bridges_handle.ensures c.args.bridge c.args.command.now.command c.index_mut.result.now c.order.new.node _ c.requires.here is c.in-Ok.ensures.ok refl (record { queue = refl; wires = refl; came = refl })
+
+more : (n k : _) → n ≤ n + k
+more n k = omega arith
+
+pub returns-in-Ok-clause-fates : goal.returns-in-Ok-clause-fates
+returns-in-Ok-clause-fates g c =
+    let nodes = c.args.self.now.nodes.items in
+    let i = c.args.bridge in
+    let is = at_place nodes i c.index_mut.result.now c.requires.here c.index_mut.ensures.value in
+    each_set (λ b x y. (goal.Fate-dyn g (y.world.fate.vtable, y.world.fate.value)).left y.world.fate.value ≤ (goal.Fate-dyn g (x.world.fate.vtable, x.world.fate.value)).left x.world.fate.value + (if b == i then length c.args.command.now.fate else 0)) nodes i c.index_mut.result.now c.order.new.node is
+    (rw (eq-eqb i i refl) c.order.ensures.fate) (λ k z ne. more _ _)
