@@ -76,8 +76,7 @@ impl Direction {
     }
 
     /// Takes the control word at a position out.
-    #[cold]
-    #[inline(never)]
+    #[inline(always)]
     pub fn take_control(&mut self, extender: u8, place: u64) -> Option<Word>
         requires { IsNumber extender }
         ensures word { result ≡ slice_get (filter is_control (words_of self.old extender)) place }

@@ -84,8 +84,7 @@ fn push_control(control: &mut VecDeque<Word>, word: Word) -> Result<(), PushBack
 }
 
 // Takes out the word at a place among those of a queue.
-#[cold]
-#[inline(never)]
+#[inline(always)]
 fn remove_at(words: &mut VecDeque<Word>, place: usize) -> Option<Word>
     ensures word { result ≡ slice_get words.old.items place }
     ensures rest { words.new.items ≡ remove words.old.items place }
@@ -221,6 +220,7 @@ impl Link {
     }
 
     /// Takes out the control word at a position; None exactly where there is none. Every other word stays.
+    #[inline(always)]
     pub fn take_control(&mut self, at: u64) -> Option<Word>
         ensures word { result ≡ slice_get (filter is_control self.old) at }
         ensures rest { self.new ≡ without_control self.old at }

@@ -1,6 +1,6 @@
 -- Which sources a command touches.
 use Rattle.std.proofs.Common.{◌≡◌, ◌≢◌, ℕ, zero, suc, ◌+◌, ◌<◌, ◌≤◌, ◌==◌, Bool, true, false, cond, List, [], ◌∷◌, ◌++◌, Some, None, filter, take, refl, sym, ◌∙◌, ap, inl, inr, arith, eq-eqb, eqb-true}
-use Rattle.std.specs.Prelude.{find, option_map, slice_get, bytes_eq}
+use Rattle.std.specs.Prelude.{Option, find, option_map, slice_get, bytes_eq}
 use Rattle.std.specs.List.{flat_map, range_with_len}
 use Rattle.std.proofs.lemmas.Bool.{cases_Bool, cases_eq, ne_eqb, and_parts}
 use Rattle.std.proofs.lemmas.List.{append-nil}
@@ -44,6 +44,24 @@ whole_list (x ∷ xs) zero h = absurd (is_some_none h)
     is_some_none : {X : Type 0} {x : X} → Some x ≡ None → ⊥
     is_some_none h = cc
 whole_list (x ∷ xs) (suc n) h = ap (λ l. x ∷ l) (whole_list xs n h)
+
+-- ---- what is there, by a part of it
+pub mapped_some : {X Y : Type 0} (f : X → Y) (o : Option X) (y : Y) → option_map f o ≡ Some y → (x : X) × (o ≡ Some x) × (f x ≡ y)
+mapped_some f (Some x) y h = (x, refl, same (f x) y h)
+  where
+    same : {Y : Type 0} (a b : Y) → Some a ≡ Some b → a ≡ b
+    same a b h = cc
+mapped_some f None y h = absurd (none_some y h)
+  where
+    none_some : {Y : Type 0} (y : Y) → None ≡ Some y → ⊥
+    none_some y h = cc
+
+pub mapped_none : {X Y : Type 0} (f : X → Y) (o : Option X) → option_map f o ≡ None → o ≡ None
+mapped_none f None h = refl
+mapped_none f (Some x) h = absurd (some_none (f x) h)
+  where
+    some_none : {Y : Type 0} (y : Y) → Some y ≡ None → ⊥
+    some_none y h = cc
 
 -- ---- the two kinds of a VLAN
 pub kinds_with : (b : Bridge) (p vid : ℕ) (test : ℕ → Bool) (kind : Kind) → test p ≡ true → b.member vid p ≡ Some kind →

@@ -51,18 +51,18 @@ fn cover_all(alloc: Global, tree: &Tree, groups: &[GroupAt]) -> Result<Vec<Cover
     Ok(covered)
 }
 
-// The rows at an extender, in the order of the groups.
-fn rows_at(alloc: Global, covered: &[Covered], extender: u8) -> Result<Vec<GroupRow>, NoMemory>
+// The rows at an extender, in the order of the groups, in place of what was in `rows`.
+fn rows_at(covered: &[Covered], extender: u8, rows: &mut Vec<GroupRow>) -> Result<(), NoMemory>
     requires { extender < 65 }
-    ensures { IfOk result (λ made. made.items ≡ rows_of_covered covered.now extender) }
+    ensures { OnOk result (rows.new.items ≡ rows_of_covered covered.now extender) }
 {
-    let mut rows = Vec::new(alloc);
+    rows.clear();
     for group in covered {
         if let Some(row) = group.row(extender) {
             rows.push(row)?;
         }
     }
-    Ok(rows)
+    Ok(())
 }
 
 /// Asks each extender, by depth and number, for the rows there of all groups.
@@ -76,8 +76,9 @@ pub(crate) fn put_groups(
     ensures { OnOk result (asks.new ≡ asks.old ++ group_asks step tree.now (map seen_group groups.now)) }
 {
     let covered = cover_all(alloc, tree, groups)?;
+    let mut rows = Vec::with_capacity(alloc, groups.len())?;
     for extender in tree.order() {
-        let rows = rows_at(alloc, covered.as_slice(), *extender)?;
+        rows_at(covered.as_slice(), *extender, &mut rows)?;
         put_messages(asks, step, *extender, rows.as_slice())?;
     }
     Ok(())

@@ -1,5 +1,5 @@
 //! The parts that a command touches.
-ghost use Rattle.std.specs.Prelude.{◌≡◌, ℕ, ◌≤◌, ◌++◌, Bool, true, if◌then◌else◌, [], filter, flat_map, map, IfOk, OnOk};
+ghost use Rattle.std.specs.Prelude.{◌≡◌, ℕ, ◌≤◌, ◌++◌, Bool, true, false, Some, if◌then◌else◌, [], filter, flat_map, map, slice_get, IfOk, OnOk};
 ghost use Rattle.exb_model.specs.Ports.{port_in};
 ghost use Rattle.exb_model.specs.Tree.{Shape};
 ghost use Rattle.exb_model.specs.Configuration.{is_for};
@@ -227,6 +227,49 @@ fn add_touched<V: View>(
     }
 }
 
+// Whether a command may touch a static entry of a VLAN. It is asked of each entry, of which most aren't touched, before its ports are
+// copied.
+#[inline(always)]
+fn may_touch(config: &Config, command: &Command, vid: Vid) -> bool
+    ensures { (e : StaticAt) → e.vid ≡ vid → result ≡ false → entry_touched command.now (bridge_of config.now) e ≡ [] }
+{
+    match *command {
+        Command::Vlan { vid: of, .. }
+        | Command::Member { vid: of, .. }
+        | Command::Unmember { vid: of, .. }
+        | Command::Unstatic { vid: of, .. } => vid.number() == of.number(),
+        Command::Up { port } | Command::Down { port } | Command::Isolate { port, .. } => {
+            config.member(vid, port).is_some()
+        }
+        _ => false,
+    }
+}
+
+// Puts the parts of the static entry at a place, which is one of this VLAN, if a command touches them.
+#[inline(always)]
+fn add_entry_at<V: View>(
+    parts: &mut Vec<SetAt>,
+    branches: &Branches,
+    view: &V,
+    config: &Config,
+    command: &Command,
+    at: u64,
+    vid: Vid,
+) -> Result<(), NoMemory>
+    ensures { (t : Shape) → (e : StaticAt) → AreBranches t (V.bridge view.now) branches.now →
+        slice_get (bridge_of config.now).statics at ≡ Some e → e.vid ≡ vid →
+        OnOk result (Adds t (V.bridge view.now)
+        (entry_touched command.now (bridge_of config.now) e) parts.old.items parts.new.items) }
+{
+    if !may_touch(config, command, vid) {
+        return Ok(());
+    }
+    match config.static_at(at) {
+        Some(entry) => add_touched(parts, branches, view, config, command, &entry),
+        None => Ok(()),
+    }
+}
+
 // Puts the parts of the static entries that a command touches.
 fn add_entries<V: View>(
     parts: &mut Vec<SetAt>,
@@ -240,8 +283,8 @@ fn add_entries<V: View>(
         (flat_map (entry_touched command.now (bridge_of config.now)) (bridge_of config.now).statics) parts.old.items parts.new.items) }
 {
     for at in 0..u64::MAX {
-        match config.static_at(at) {
-            Some(entry) => add_touched(parts, branches, view, config, command, &entry)?,
+        match config.static_vid(at) {
+            Some(vid) => add_entry_at(parts, branches, view, config, command, at, vid)?,
             None => return Ok(()),
         }
     }
