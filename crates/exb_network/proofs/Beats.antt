@@ -1,20 +1,18 @@
 -- The parts of a beat, one after another.
 use Rattle.std.proofs.Common.{◌≡◌, ℕ, ◌+◌, ◌-◌, ◌^◌, ◌<◌, ◌≤◌, ◌&&◌, Bool, true, false, not, min, List, drop, None, inl, inr, refl, arith, sym, ap, subst, ◌∙◌}
 use Rattle.exb_model.specs.Setup.{Limits}
-use Rattle.std.specs.Prelude.{if◌then◌else◌, is_none, Option, Some, slice_get, slice_index}
+use Rattle.std.specs.Prelude.{if◌then◌else◌, Option, Some, slice_get, slice_index}
 use Rattle.std.proofs.lemmas.Bool.{and_parts, cases_Bool, false_from_ne_true, false≢true}
 use mathlib.Core.Path.{fun_ext}
 use Rattle.exb_model.specs.Tree.{Shape, IsTree, is_extender}
-use Rattle.exb_changing.specs.Machine.{Moved, State, Work, beats_in, still}
-use Rattle.exb_control.specs.Controls.{is_settled}
-use Rattle.exb_control.specs.Queues.{is_empty}
+use Rattle.exb_changing.specs.Machine.{still}
 use Rattle.exb_extender.specs.Fields.{Fields}
 use Rattle.exb_extender.specs.Machine.{ExtenderState, Beats}
 use Rattle.exb_extender.specs.Resting.{rests}
 use Rattle.exb_extender.proofs.RestingLemmas.{beat_counts, rests_rested}
 use Rattle.exb_machine.specs.Effects.{Effect, only, then_do, each}
 use Rattle.exb_machine.specs.Extending.{reacts}
-use Rattle.exb_machine.specs.Hearing.{beats_control, beats_near, moves}
+use Rattle.exb_machine.specs.Hearing.{beats_control, beats_near}
 use Rattle.exb_machine.specs.Stepping.{all_extenders, beats_all, if_there}
 use Rattle.exb_machine.specs.Worlds.{World, next_beat}
 use Rattle.exb_machine.specs.Runs.Asks.{AsksWell}
@@ -22,14 +20,12 @@ use Rattle.exb_boxes.specs.Numbers.{number_in}
 use Rattle.exb_boxes.specs.declared.log.Log.{Log}
 use Rattle.exb_bridge.specs.Worlds.{Whole}
 use Rattle.exb_boxes.specs.Devices.{Devices, state_at, far_of, has_extender, if_rests, is_there}
-use Rattle.exb_boxes.specs.Ends.{near_of}
 use Rattle.exb_bridge.specs.Leading.{Leads}
 use Rattle.exb_bridge.specs.Sites.{Site}
 use Rattle.exb_bridge.specs.Worlds.{world_in, IsAt, Does}
-use Rattle.exb_bridge.proofs.Cores.{tells_nothing}
 use Rattle.exb_bridge.proofs.Doing.{leads_first, does_then}
 use Rattle.exb_bridge.proofs.Loops.{numbers_lead, numbers_told, numbers_skip}
-use Rattle.exb_bridge.proofs.Again.{all_near_control, idle_near}
+use Rattle.exb_bridge.proofs.Again.{all_near_control}
 use Rattle.exb_network.proofs.Idling.{mark}
 use Rattle.exb_network.proofs.Resting.{beats_at, wakes_at, resting_in, rested_world, rest_first}
 

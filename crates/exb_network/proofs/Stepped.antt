@@ -4,21 +4,15 @@ use Rattle.std.specs.List.{filter, slice_get}
 use Rattle.std.proofs.lemmas.Bool.{cases_eq, ne_eqb, and_parts, and_from, ltb-true, lt-ltb, le-ltb}
 use Rattle.std.proofs.lemmas.List.{append-nil}
 use mathlib.Core.Path.{fun_ext}
-use Rattle.exb_model.specs.declared.command.Command.{Command}
 use Rattle.exb_model.specs.declared.event.Event.TheVariants as event
 use Rattle.exb_model.specs.declared.arrival.Arrival.{Arrival}
 use Rattle.exb_model.specs.Setup.{Limits}
 use Rattle.exb_model.specs.Tree.{Shape, IsTree, HangsOn, device, on, is_port, is_cascade, is_extender, is_external, port_number}
 use Rattle.exb_link.specs.declared.word.Word.{Word}
 use Rattle.exb_link.specs.Words.{is_control, is_data, without_control, without_data}
-use Rattle.exb_control.specs.declared.outbox.Outbox.{Outbox}
-use Rattle.exb_changing.specs.Deciding.{decide}
-use Rattle.exb_changing.specs.Machine.{ordered}
-use Rattle.exb_control.specs.Boxes.{HasTicked, IsMoved}
-use Rattle.exb_control.specs.Controls.{Parts, decide_of, state_of}
 use Rattle.exb_machine.specs.Worlds.{World, Way, Up, Down}
 use Rattle.exb_model.specs.Tables.{at}
-use Rattle.exb_machine.specs.Worlds.{Tick as Ticks, Mark, Lose}
+use Rattle.exb_machine.specs.Worlds.{Mark, Lose}
 use Rattle.exb_machine.specs.Extending.{arrives_at, takes_from_below}
 use Rattle.exb_machine.specs.Relaying.{bridge_takes, comes}
 use Rattle.exb_machine.specs.Stepping.{arrives, control_at, counted, done_by, first_data, rest_of, takes, takes_any, takes_up, with_words, words_on}
@@ -29,9 +23,8 @@ use Rattle.exb_bridge.specs.Worlds.{Whole}
 use Rattle.exb_network.specs.Arrivals.{IsPortAt}
 use Rattle.exb_boxes.specs.Directions.{words_of}
 use Rattle.exb_boxes.specs.Indices.{next_of}
-use Rattle.exb_bridge.specs.Sites.{Site, limits_in}
+use Rattle.exb_bridge.specs.Sites.{Site}
 use Rattle.exb_bridge.specs.Worlds.{world_in, all_left, IsAt, Does, KeepsTrace}
-use Rattle.exb_bridge.proofs.Coming.{learned_world, learned_at}
 use Rattle.exb_bridge.proofs.Cores.{tells_nothing}
 
 -- ---- fields

@@ -3,7 +3,6 @@ use Rattle.std.specs.Prelude.{OnOk}
 use Rattle.exb_machine.specs.Effects.{each}
 use Rattle.exb_machine.specs.Hearing.{beats_near}
 use Rattle.exb_machine.specs.Stepping.{all_extenders, if_there}
-use Rattle.exb_bridge.specs.Sites.{limits_in}
 use Rattle.exb_bridge.specs.Worlds.{Rest, whole, world_in, IsAt, Does}
 use Rattle.exb_network.proofs.bridging.beat_ends.Goals as goal
 

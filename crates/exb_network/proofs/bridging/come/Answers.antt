@@ -1,7 +1,6 @@
 use Rattle.std.proofs.Common.{sym, subst}
 use Rattle.std.specs.Prelude.{OnOk}
 use Rattle.exb_machine.specs.Relaying.{comes}
-use Rattle.exb_bridge.specs.Sites.{limits_in}
 use Rattle.exb_bridge.specs.Worlds.{Rest, whole, world_in, IsAt, Does}
 use Rattle.exb_network.proofs.bridging.come.Goals as goal
 

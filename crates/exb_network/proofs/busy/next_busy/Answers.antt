@@ -44,4 +44,4 @@ returns-in-Down-clause-found c =
     let t = c.args.site.now.tree in
     rw c.in-Down.is (
     IfSome_then c.first_busy-in-Down.result c.first_busy-in-Down.ensures.found (λ turn one.
-    turn_is t Down (world_in (whole_of c.args.core.now)) c.downwards.result.now c.args.core.now.down c.args.from turn c.downwards.ensures (λ n. refl) (rw c.downwards.ensures (depth_extends t)) one))
+    turn_is t Down (world_in (whole_of c.args.core.now)) c.downwards.result.now c.args.core.now.bridge.down c.args.from turn c.downwards.ensures (λ n. refl) (rw c.downwards.ensures (depth_extends t)) one))

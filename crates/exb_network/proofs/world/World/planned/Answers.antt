@@ -13,5 +13,5 @@ pub returns : goal.returns
 returns c =
     let w = c.self.inside in
     subst (λ (n : Network). n.failed ≡ false → IfOk c.planned.result (λ count. count ≡ planned (tree_of n) (decide (tree_of n) (bounds_of n)) (world_of n).control)) c.self.view_is
-    (λ awake. IfOk-weaker c.planned.result (λ count. count ≡ planned w.core.control.active.shape (decide_of w.core.control.active) (state_of w.core.control))
-    (λ count. count ≡ planned w.site.tree (decide w.site.tree (limits_in w.site)) (state_of w.core.control)) (λ count is. planned_at w.site w.core (state_of w.core.control) count (c.self.invariant awake).at is) c.planned.ensures.count)
+    (λ awake. IfOk-weaker c.planned.result (λ count. count ≡ planned w.core.bridge.control.active.shape (decide_of w.core.bridge.control.active) (state_of w.core.bridge.control))
+    (λ count. count ≡ planned w.site.tree (decide w.site.tree (limits_in w.site)) (state_of w.core.bridge.control)) (λ count is. planned_at w.site w.core (state_of w.core.bridge.control) count (c.self.invariant awake).at is) c.planned.ensures.count)
