@@ -28,7 +28,7 @@ pub mod Giving
 pub mod Adding
 pub mod Turned
 pub mod Sets
-pub mod Ends
+pub mod Ended
 pub mod Reading
 pub mod Prepared
 pub mod Opened

@@ -37,7 +37,7 @@ use Rattle.exb_net_run.specs.Desks.{IsNoted, text_of}
 use Rattle.exb_net_run.specs.Nets.{input_in, net_of, manifest_with}
 use Rattle.exb_net_run.specs.Setting.{AreSet, IsPrepared, IsSet, run_of}
 use Rattle.exb_net_run.specs.UnderWay.{AreDesks}
-use Rattle.exb_net_run.proofs.Ends.{HasTrees}
+use Rattle.exb_net_run.proofs.Ended.{HasTrees}
 use Rattle.exb_net_run.proofs.Held.{mapped_some}
 use Rattle.exb_net_run.proofs.Sets.{manifests_apart}
 

@@ -11,7 +11,7 @@ use Rattle.exb_net_run.specs.Nets.{net_of, manifest_with}
 use Rattle.exb_net_run.specs.Opening.{WritesNetOutput}
 use Rattle.exb_net_run.specs.Outputs.{AreNetFronts}
 use Rattle.exb_net_run.specs.UnderWay.{HasWritten, IsCutOff}
-use Rattle.exb_net_run.proofs.Ends.{cut_fronts, made_fronts, played, played_fronts}
+use Rattle.exb_net_run.proofs.Ended.{cut_fronts, made_fronts, played, played_fronts}
 use Rattle.exb_net_run.proofs.Prepared.{net_is, prepared, trees_are}
 use Rattle.exb_net_run.proofs.Reading.{captures_stay, members_same, net_same}
 use Rattle.exb_net_run.proofs.Several.{only_all_then}
