@@ -111,13 +111,13 @@ def at(table, place):
 
 
 def of_bit(table, place, bit):
-    """The verdict of the first entry that has the place and the bit."""
+    """The verdict of the first entry that has the place and the bit, or None."""
     for span, verdict in entries(table):
         places, _, bits = span.partition(".")
         first, _, last = places.partition("-")
         if int(first) <= place <= int(last or first) and int(bits or "FF", 16) & bit:
             return verdict
-    raise AssertionError(f"no entry for bit {bit} at {place}")
+    return None
 
 
 def filled(verdict, data):
@@ -137,8 +137,9 @@ def tried(words, told, cut, turned):
     for place in range(len(data)):
         yield data[:place], at(cut, place)
         for bit in (1 << it for it in range(8)):
-            other = data[:place] + bytes([data[place] ^ bit]) + data[place + 1 :]
-            yield other, of_bit(turned, place, bit)
+            other, verdict = data[:place] + bytes([data[place] ^ bit]) + data[place + 1 :], of_bit(turned, place, bit)
+            assert verdict, f"no entry for bit {bit} at {place}"
+            yield other, verdict
 
 
 def rows(words, told, cut, turned):

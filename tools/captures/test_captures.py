@@ -7,22 +7,17 @@ are those of the second reader; of one with a fault the status is 4, and the lin
 import os
 import pathlib
 import random
-import shutil
 import struct
-import subprocess
 import sys
-import tempfile
 import unittest
 
 HERE = pathlib.Path(__file__).resolve().parent
 TOP = HERE.parent.parent
 sys.dont_write_bytecode = True
-sys.path.insert(0, str(TOP / "crates/exb_cases"))
+sys.path[:0] = [str(TOP / "tools"), str(TOP / "crates/exb_cases")]
 import captured
-import frames
 import pcapng
-
-TOPOLOGY = "bridge = { ports = 2 }\ncaptures = { b1 = 'in.pcapng' }\n"
+from checks import readings
 
 
 def program():
@@ -64,36 +59,14 @@ def some_file(draw):
 @unittest.skipUnless(program(), "no program: set EXBR_PROGRAM")
 class Captures(unittest.TestCase):
     def setUp(self):
-        self.folder = tempfile.mkdtemp()
-        self.addCleanup(shutil.rmtree, self.folder)
-        pathlib.Path(self.folder, "topology.toml").write_text(TOPOLOGY, encoding="utf-8")
         self.read, self.refused = 0, 0
 
     def judge(self, file, name):
         """The program says of a file what the second reader does."""
-        pathlib.Path(self.folder, "in.pcapng").write_bytes(file)
-        ran = subprocess.run([program(), "run", "topology.toml"], cwd=self.folder, capture_output=True, text=True, check=False)
-        records, fault = captured.read(file)
-        if fault:
-            self.refused += 1
-            self.assertEqual((ran.returncode, ran.stdout), (4, "exbr: capture b1: %s at %d\n" % fault), name)
-            return
-        self.read += 1
-        self.assertEqual((ran.returncode, ran.stdout.split()[:2]), (0, ["arrivals", str(len(records))]), name)
-        out = captured.read(pathlib.Path(self.folder, "out-b2.pcap").read_bytes())[0]
-        rest = iter(self.raised(records))
-        for time, frame in out:
-            self.assertTrue(any((at // 1000 * 1000, data) == (time, frame) for at, data in rest), name)
-
-    @staticmethod
-    def raised(records):
-        """Moments never fall; a frame leaves as it came where it is untagged, and those with a tag leave without."""
-        least = 0
-        for time, frame in records:
-            least = max(least, time)
-            yield least, frame
-            if frame[12:14] == b"\x81\x00":
-                yield least, frame[:12] + frame[16:]
+        fault = captured.read(file)[1]
+        self.read, self.refused = self.read + (not fault), self.refused + bool(fault)
+        with self.subTest(name):
+            readings.judge(program(), file)
 
     def test_each_bit_of_a_small_file(self):
         small = pcapng.HEAD + pcapng.block(1, struct.pack("<HHIHHI", 1, 0, 0, 9, 1, 9)) + pcapng.block(6, struct.pack("<IIIII", 0, 0, 5, 2, 2) + b"ab\0\0")

@@ -5,7 +5,6 @@ ghost use Rattle.exb_capture.specs.Replaying.{IsKept};
 
 use crate::compare::{same, same_at};
 use crate::hostile::bytes_of;
-use crate::pcapng::ROW;
 use crate::scans::{CUTS, capture, changed, number, shelf_with};
 use exb_capture::{Replay, ReplayFault, Scanned, scan};
 use exb_faulty::{Disturbance, FaultyShelf};
@@ -13,6 +12,10 @@ use exb_model::bytes::Bytes;
 use std::alloc::Global;
 use std::process::Abort;
 use std::str::SplitWhitespace;
+
+/// The broadcast as pcapng: 140 bytes.
+const ROW: &str =
+    "0A0D0D0A 1C000000 4D3C2B1A 01000000 8xFF 1C000000 01000000 14000000 01000000 00000400 14000000 06000000 5C000000 00000000 00000000 00E1F505 3C000000 3C000000 6xFF 020000000001 0800 46x00 5C000000";
 
 const TIME: Option<u64> = Some(100_000_000_000);
 

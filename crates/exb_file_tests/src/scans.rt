@@ -1,10 +1,8 @@
 //! Captures that are checked, each on a shelf that reads at most so many bytes at once.
-use crate::compare::{same, same_at};
+use crate::compare::same;
 use crate::hostile::bytes_of;
-use crate::reading::of_plain;
-use exb_capture::{Fault, ScanFault, Scanned, header_text, record_text, scan};
+use exb_capture::{ScanFault, Scanned, header_text, record_text, scan};
 use exb_faulty::{Disturbance, FaultyShelf};
-use exb_flat_pcap::Reader;
 use std::alloc::Global;
 use std::process::Abort;
 use std::str::SplitWhitespace;
@@ -21,25 +19,8 @@ const FRAMES: [(u64, u32); 4] = [
 /// At most so many bytes are read at once.
 pub(crate) const CUTS: [usize; 5] = [1, 3, 16, 24, 65_536];
 
-/// Changes of the capture: the place of four bytes, these, which are those that stand there where nothing changes, and the length to
-/// which it is cut.
-const CHANGED: &str = "0 D4C3B2A1 100\n\
-     0 D4C3B2A1 0\n\
-     0 D4C3B2A1 3\n\
-     0 D4C3B2A1 23\n\
-     0 D4C3B2A1 24\n\
-     0 D4C3B2A1 39\n\
-     0 D4C3B2A1 99\n\
-     0 D4C3B2A1 116\n\
-     0 D4C3B2A1 117\n\
-     0 D4C3B2A1 133\n\
-     4 02000300 100\n\
-     20 69000000 100\n\
-     28 40420F00 100\n\
-     32 FFFFFFFF 100\n\
-     108 FFFFFFFF 133";
-
-/// A change, how many bytes may be read, and what is told. A time that is none is a fault whatever follows, which comes before the limit.
+/// A change of the capture, as the place of four bytes, these, which are those that stand there where nothing changes, and the length to which it is cut; how many
+/// bytes may be read; and what is told. A time that is none is a fault whatever follows, which comes before the limit.
 const LIMITED: &str = "0 D4C3B2A1 100 100>100 1 Some(100000000000)\n\
      0 D4C3B2A1 100 99>Large { limit: 99 }\n\
      0 D4C3B2A1 100 39>Large { limit: 39 }\n\
@@ -96,27 +77,6 @@ pub(crate) fn changed(rt: &impl Abort, alloc: Global, words: &mut SplitWhitespac
     file
 }
 
-// What the plain reader reads of it, as a scan tells it.
-fn read(file: &[u8]) -> Result<(u64, Option<u64>), Fault> {
-    let mut reader = match Reader::new(file) {
-        Ok(reader) => reader,
-        Err(fault) => return Err(of_plain(fault)),
-    };
-    let mut records = 0u64;
-    let mut first = None;
-    for _record in 0..9u32 {
-        match reader.next() {
-            Ok(Some(record)) => {
-                records = records.saturating_add(1);
-                first = first.or(Some(record.moment));
-            }
-            Ok(None) => return Ok((records, first)),
-            Err(fault) => return Err(of_plain(fault)),
-        }
-    }
-    Ok((records, first))
-}
-
 // What is told of a file.
 fn told_text(rt: &impl Abort, alloc: Global, told: Result<Scanned, ScanFault>) -> String {
     let text = match told {
@@ -130,19 +90,6 @@ fn told_text(rt: &impl Abort, alloc: Global, told: Result<Scanned, ScanFault>) -
         Err(fault) => format!(in alloc; "{fault:?}"),
     };
     text.expect(rt, "memory")
-}
-
-// What the plain reader reads of a file, as a scan tells it.
-fn whole_text(rt: &impl Abort, alloc: Global, file: &[u8]) -> String {
-    let told = match read(file) {
-        Ok((records, first)) => Ok(Scanned {
-            bytes: file.len() as u64,
-            records,
-            first,
-        }),
-        Err(fault) => Err(ScanFault::Fault { fault }),
-    };
-    told_text(rt, alloc, told)
 }
 
 // A shelf with this capture.
@@ -166,23 +113,6 @@ fn shelf_text(rt: &impl Abort, alloc: Global, shelf: &mut FaultyShelf, limit: u6
 fn scan_text(rt: &impl Abort, alloc: Global, file: &[u8], bytes: usize, limit: u64) -> String {
     let mut shelf = shelf_with(rt, alloc, file, Disturbance::Slow { bytes });
     shelf_text(rt, alloc, &mut shelf, limit)
-}
-
-// Asserts that a scan tells of a changed file what the whole reader reads, however much is read at once.
-fn judge_change(rt: &impl Abort, alloc: Global, change: &str) {
-    let file = changed(rt, alloc, &mut change.split_whitespace());
-    let whole = whole_text(rt, alloc, file.as_slice());
-    for most in &CUTS {
-        let told = scan_text(rt, alloc, file.as_slice(), *most, 1_000_000);
-        same_at(rt, told.as_str(), whole.as_str(), change, *most);
-    }
-}
-
-#[test]
-fn a_scan_tells_what_the_plain_reader_reads(rt: HostRuntime) {
-    for change in CHANGED.lines() {
-        judge_change(&rt, rt.alloc(), change);
-    }
 }
 
 // Asserts what a scan tells of the whole capture, where at most so many bytes are read at once.
