@@ -112,7 +112,8 @@ fn long_capture(rt: &impl Abort, alloc: Global) -> Vec<u8> {
 #[test]
 fn a_long_file_is_read_through_a_short_buffer(rt: HostRuntime) {
     let file = long_capture(&rt, rt.alloc());
-    let wanted = "0 100000; 1000000000 100000; 2000000000 100000; 3000000000 100000; 4000000000 100000; ";
+    let wanted =
+        "0 100000; 1000000000 100000; 2000000000 100000; 3000000000 100000; 4000000000 100000; ";
     for size in &[1_000, 65_536, 99_999, 162_144, 500_104] {
         let told = sized_text(&rt, rt.alloc(), file.as_slice(), *size);
         same_at(&rt, told.as_str(), wanted, "pieces of", *size);
