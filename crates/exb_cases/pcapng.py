@@ -4,13 +4,12 @@ import struct
 import sys
 
 import captured
+import readings
 from frames import *
 
 WRITTEN = os.path.join(os.path.dirname(os.path.abspath(__file__)), "written")
 NAMES = {"first": ["comments", "dumpcap", "editcap", "nanoseconds", "text2pcap", "tshark"], "both": ["mergecap"]}
-HEAD = bytes.fromhex("0A0D0D0A 1C000000 4D3C2B1A 01000000 FFFFFFFFFFFFFFFF 1C000000")
-ETHERNET = bytes.fromhex("01000000 14000000 01000000 00000400 14000000")
-ROW = HEAD + ETHERNET + bytes.fromhex("06000000 5C000000 00000000 00000000 00E1F505 3C000000 3C000000") + F + bytes.fromhex("5C000000")
+HEAD, ETHERNET, ROW = map(readings.bytes_of, (readings.HEAD, readings.ETHERNET, readings.ROW))
 
 
 def read(name):

@@ -1,8 +1,8 @@
 #!/usr/bin/env python3
 """The program and a second reader of captures (crates/exb_cases/captured.py) say the same of files that nobody made with care.
 
-Each file is the capture of a port. Of one that is read the status is 0, and what leaves the other port and the journal's records
-are those of the second reader; of one with a fault the status is 4, and the line names the fault and its byte.
+Each file is the capture of a port. Of one that is read the status is 0, and all that is written and printed is what the plain bridge in Python
+makes of the second reader's records; of one with a fault the status is 4, the line names the fault and its byte, and no file is made.
 """
 import os
 import pathlib
