@@ -47,7 +47,7 @@ impl Store {
     pub fn keep(&mut self, bytes: Bytes) {
         if self.kept.len() < MOST {
             match self.kept.reserve(1) {
-                Ok(()) => self.kept.push_reserved(bytes.into_vec()),
+                Ok(()) => self.kept.push_reserved(bytes.into_buffer()),
                 Err(_) => {}
             }
         }

@@ -374,7 +374,7 @@ fn take_data(
     requires cascade { is_cascade site.now.tree (bridge_port - 1) ≡ true }
     ensures { OnOk result (Does (comes_from site.now.tree (holder_by (world_in (whole rest bridge.old)) (bridge_port - 1) (read_etag word.bytes)) word.stamp (stripped word.bytes) (world_in (whole rest bridge.old))) site.now (whole rest bridge.new) room.old.post.log room.new.post.log) }
 {
-    let Word { bytes, stamp } = word;
+    let Word { mut bytes, stamp } = word;
     let Some(port) = holder(site, bridge, bridge_port, bytes.as_slice()) else {
         return Ok(());
     };
@@ -384,10 +384,9 @@ fn take_data(
     if !site.tree().is_external(port) {
         return Ok(());
     }
-    let mut buffer = bytes.into_vec();
-    strip_in_place(&mut buffer);
+    strip_in_place(&mut bytes);
     let stamp = Stamp { port, ..stamp };
-    come_in(site, &stamp, Bytes::from_vec(buffer), room, bridge)
+    come_in(site, &stamp, bytes, room, bridge)
 }
 
 /// The bridge takes a word at its port on which an extender hangs.

@@ -6,6 +6,7 @@ ghost use Rattle.exb_frame.specs.TagValues.{tag_of};
 
 use crate::append::{begin, put};
 use byteorder::{BigEndian, ByteOrder};
+use exb_model::bytes::Bytes;
 use exb_model::memory::NoMemory;
 
 /// The EtherType of an E-TAG.
@@ -85,13 +86,11 @@ pub fn strip_into(frame: &[u8], into: &mut Vec<u8>) -> Result<(), NoMemory>
     put(&frame[20..], into)
 }
 
-/// Takes the eight bytes at byte 12 out where they stand: what follows them is moved into their place.
+/// Takes the eight bytes at byte 12 out where they stand: the addresses before them move into their place.
 #[inline(always)]
-pub fn strip_in_place(bytes: &mut Vec<u8>)
-    requires { 20 ≤ length bytes.old.items }
-    ensures { bytes.new.items ≡ stripped bytes.old.items }
+pub fn strip_in_place(bytes: &mut Bytes)
+    requires { 20 ≤ length bytes.old }
+    ensures { bytes.new ≡ stripped bytes.old }
 {
-    let len = bytes.len();
-    bytes.copy_within(20.., 12);
-    bytes.truncate(len - 8);
+    bytes.take_out(12, 8);
 }

@@ -1,5 +1,5 @@
 //! Bytes, and numbers among them.
-ghost use Rattle.std.specs.Prelude.{◌≡◌, ◌+◌, ◌<◌, length, IfOk};
+ghost use Rattle.std.specs.Prelude.{◌≡◌, ◌+◌, ◌≤◌, ◌<◌, ◌++◌, length, take, drop, IfOk};
 ghost use Rattle.exb_model.specs.Frames.{IsBytes, number_at};
 
 use crate::memory::NoMemory;
@@ -21,18 +21,24 @@ pub fn number_at(bytes: &[u8], at: usize) -> u16
     u16::from_be_bytes([bytes[at], bytes[at + 1]])
 }
 
-/// Bytes, seen as a list.
+/// Bytes with room in front, seen as the list of them: what is taken out near the front moves the few bytes before it, and not
+/// the many behind it.
 #[derive(Debug, Drop)]
 pub struct Bytes {
+    /// What is in front of the first byte has no meaning.
     items: Vec<u8>,
+    /// Where the first byte stands.
+    start: usize,
 }
 
 impl Model for Bytes {
-    ghost use Rattle.std.specs.Prelude.{ℕ, List};
+    ghost use Rattle.std.specs.Prelude.{ℕ, ◌≤◌, List, length, drop};
 
     ghost Value = { List ℕ };
 
-    ghost view = { λ b. b.items.items };
+    ghost view = { λ b. drop b.start b.items.items };
+
+    ghost invariant = { λ b. b.start ≤ length b.items.items };
 }
 
 impl Bytes {
@@ -42,27 +48,38 @@ impl Bytes {
     {
         Ok(Bytes {
             items: Vec::from_slice(alloc, bytes)?,
+            start: 0,
         })
     }
 
     /// The bytes.
+    #[inline(always)]
     pub fn as_slice(&self) -> &[u8]
         ensures { result.now ≡ self.now }
     {
-        self.items.as_slice()
+        &self.items[self.start..]
     }
 
     /// Bytes that a buffer holds. Nothing is copied.
     pub fn from_vec(items: Vec<u8>) -> Bytes
         ensures { result ≡ items.items }
     {
-        Bytes { items }
+        Bytes { items, start: 0 }
     }
 
-    /// The buffer that holds the bytes, to be used again.
-    pub fn into_vec(self) -> Vec<u8>
-        ensures { result.items ≡ self }
+    /// Takes `count` bytes out at place `at`: those before it move up, and nothing behind it is touched.
+    #[inline(always)]
+    pub fn take_out(&mut self, at: usize, count: usize)
+        requires inside { at + count ≤ length self.old }
+        ensures { self.new ≡ take at self.old ++ drop (at + count) self.old }
     {
+        let start = self.start + count;
+        self.items.copy_within(self.start..self.start + at, start);
+        self.start = start;
+    }
+
+    /// The buffer that holds the bytes, to be written anew: what it holds has no meaning.
+    pub fn into_buffer(self) -> Vec<u8> {
         self.items
     }
 }

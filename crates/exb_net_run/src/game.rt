@@ -112,7 +112,7 @@ fn give(
     match due.next {
         Next::Record(came) => {
             let given = net.arrive(bridge, &came);
-            *buffer = came.bytes.into_vec();
+            *buffer = came.bytes.into_buffer();
             given
         }
         Next::Command { number, .. } => {

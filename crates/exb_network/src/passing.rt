@@ -15,7 +15,6 @@ use exb_bridge::Site;
 use exb_extender::{Form, Out, Side};
 use exb_frame::etag::strip_in_place;
 use exb_link::Word;
-use exb_model::bytes::Bytes;
 use exb_model::memory::NoMemory;
 
 /// A word goes on to a side in another form than that in which it came; its buffer is kept.
@@ -58,10 +57,8 @@ fn strip(
     requires long { 20 ≤ length word.bytes }
     ensures { OnOk result (Does (sent_to site.now.tree number word.stamp to (stripped word.bytes) (world_in core.old)) site.now core.new post.old.log post.new.log) }
 {
-    let Word { bytes, stamp } = word;
-    let mut buffer = bytes.into_vec();
-    strip_in_place(&mut buffer);
-    let bytes = Bytes::from_vec(buffer);
+    let Word { mut bytes, stamp } = word;
+    strip_in_place(&mut bytes);
     send_to(site, number, to, Word { bytes, stamp }, core, post)
 }
 

@@ -42,7 +42,7 @@ fn put(gathered: &mut Vec<Arrival>, came: Arrival) -> Result<(), CaptureFault>
 #[inline(always)]
 fn spare(alloc: Global, played: &mut Vec<Arrival>) -> Vec<u8> {
     match played.pop() {
-        Some(arrival) => arrival.bytes.into_vec(),
+        Some(arrival) => arrival.bytes.into_buffer(),
         None => Vec::new(alloc),
     }
 }

@@ -8,6 +8,7 @@ use crate::words::{bytes_of, expect_bytes, row_of};
 use exb_frame::classify::classify;
 use exb_frame::egress::{VlanTag, egress_into};
 use exb_frame::etag::{ETag, strip_in_place, strip_into, tag_into};
+use exb_model::bytes::Bytes;
 use exb_model::frame_kind::Seen;
 use exb_model::vlan::{Kind, Vid};
 use std::alloc::Global;
@@ -69,8 +70,8 @@ fn strip(rt: &impl Abort, frame: &[u8], out: &mut Vec<u8>) {
 }
 
 // The same where it stands.
-fn strip_there(rt: &impl Abort, frame: &mut Vec<u8>) {
-    assert!(rt; frame.len() >= 20);
+fn strip_there(rt: &impl Abort, frame: &mut Bytes) {
+    assert!(rt; frame.as_slice().len() >= 20);
     strip_in_place(frame);
 }
 
@@ -92,7 +93,7 @@ fn e_tags_are_put_in_and_taken_out(rt: HostRuntime) {
 
 #[test]
 fn e_tags_are_taken_out_in_place(rt: HostRuntime) {
-    let mut frame = bytes_of(&rt, rt.alloc(), TAGGED);
+    let mut frame = Bytes::from_vec(bytes_of(&rt, rt.alloc(), TAGGED));
     strip_there(&rt, &mut frame);
     expect_bytes(&rt, rt.alloc(), frame.as_slice(), PLAIN);
     expect_bytes(&rt, rt.alloc(), &TAG.write(), "893FB00310020000");
