@@ -20,8 +20,7 @@ use Rattle.exb_frame.specs.declared.egress.VlanTag.{VlanTag}
 use Rattle.exb_frame.specs.declared.etag.ETag.{ETag}
 use Rattle.exb_frame.specs.Egress.{can_leave, priority}
 use Rattle.exb_frame.specs.TagValues.{tag_of}
-use Rattle.exb_learn.specs.Entries.{table_of, look_of}
-use Rattle.exb_learn.specs.Calls.{Table}
+use Rattle.exb_learn.specs.Entries.{Entries, table_of, look_of}
 use Rattle.exb_relay.specs.declared.send.Ingress.{Ingress}
 use Rattle.exb_relay.specs.declared.send.Ingress.TheVariants as ingress
 use Rattle.exb_relay.specs.declared.send.SendTo.{SendTo}
@@ -30,9 +29,6 @@ use Rattle.exb_relay.specs.Sends.{ingress_by, ingress_of, pcp_of, dei_of}
 use Rattle.exb_relay.specs.Spaces.{numbers_of}
 use Rattle.exb_relay.proofs.Words.{pcp_small}
 use Rattle.exb_control.specs.ActiveConfigs.{bridge_in}
-use Rattle.exb_control.specs.declared.outbox.Outbox.{Outbox}
-use Rattle.exb_control.specs.Boxes.{HasCome, ingress_for}
-use Rattle.exb_control.specs.Controls.{Parts, state_of}
 use Rattle.exb_link.specs.declared.word.Word.{Word}
 use Rattle.exb_machine.specs.Controls.{taught}
 use Rattle.exb_machine.specs.Worlds.{World, with_table}
@@ -41,10 +37,11 @@ use Rattle.exb_machine.specs.Extending.{hung_on, stamp_of}
 use Rattle.exb_machine.specs.Relaying.{comes, passed_by, puts_word, sent_by, sends_all, sends_for, sends_in}
 use Rattle.exb_boxes.specs.declared.log.Log.{Log}
 use Rattle.exb_bridge.specs.Worlds.{Whole}
-use Rattle.exb_bridge.specs.Sends.{CanSend, HasPassed, HasTold, is_passed, learns, sent_for}
+use Rattle.exb_bridge.specs.Sends.{CanSend, HasPassed, HasTold, ingress_for, is_passed, learns, sends_by, sent_for, taught_by}
 use Rattle.exb_bridge.specs.Sites.{Site}
 use Rattle.exb_bridge.specs.Worlds.{world_in, all_left, IsAt, Does, KeepsTrace}
 use Rattle.exb_bridge.proofs.BridgeSends.{can_all, sends_as}
+use Rattle.exb_bridge.proofs.Fields.{learned_world, learned_at}
 
 -- ---- what has passed
 abbrev pcp_in : Ingress → ℕ
@@ -207,54 +204,35 @@ comes_told s a w c old mid new sent told =
     silent : IsSilent (sends_all s.tree a (sends_for s.tree w a) o (with_table (taught w.control.bridge a w.table) w))
     silent = all_silent s.tree a (sends_for s.tree w a) o (with_table (taught w.control.bridge a w.table) w)
 
--- ---- the control
--- nothing of it but what is learned has changed
-module _ (s : Site) (c : Whole) (p : Parts) (rest : p ≡ record c.control { learned = p.learned }) where
-  pub learned_world : (u : Table) → table_of p.learned ≡ u → world_in (record c { control = p }) ≡ with_table u (world_in c)
-  learned_world u is =
-      ap (λ (q : Parts). record (world_in c) { control = state_of q; table = table_of p.learned }) rest
-      ∙ ap (λ (v : Table). record (world_in c) { table = v }) is
-
-  pub learned_at : IsAt s c → IsAt s (record c { control = p })
-  learned_at at =
-      record {
-        shape = ap (λ (q : Parts). q.active.shape) rest ∙ at.shape;
-        limits = ap (λ (q : Parts). q.active.limits) rest ∙ at.limits;
-        awake = ap (λ (q : Parts). q.failed) rest ∙ at.awake;
-        there = at.there;
-        only = at.only;
-        ports = at.ports;
-      }
-
+-- ---- what is learned and sent
 -- it is learned from, and nothing is told yet
-pub came_learns : (s : Site) (c : Whole) (p : Parts) (a : Arrival) (relayed : Bool) (out : Outbox) → HasCome a.port a.bytes relayed c.control p out → (log : Log) → IsAt s c →
-    Does (learns a (world_in c)) s (record c { control = p }) log log
-came_learns s c p a relayed out came log at =
+pub came_learns : (s : Site) (c : Whole) (l : Entries) (a : Arrival) → table_of l ≡ taught_by (bridge_in c.control.active) a.port a.bytes (table_of c.learned) → (log : Log) → IsAt s c →
+    Does (learns a (world_in c)) s (record c { learned = l }) log log
+came_learns s c l a taught log at =
     record {
-      world = learned_world s c p came.rest _ came.table;
+      world = learned_world c l _ taught;
       events = sym (append-nil log.events);
       passed = sym (append-nil log.passed);
       left = sym (append-nil (all_left log.left));
       outs = sym (append-nil log.outs.items);
       lines = refl;
       tracing = refl;
-      at = learned_at s c p came.rest at;
+      at = learned_at c l s at;
     }
 
--- ---- what is sent
-module _ (s : Site) (c : Whole) (p : Parts) (a : Arrival) (relayed : Bool) (out : Outbox) (at : IsAt s c) (came : HasCome a.port a.bytes relayed c.control p out) (tree : IsTree c.control.active.shape) where
-  pub came_sends : out.sends.items ≡ sends_for s.tree (world_in c) a
-  came_sends =
-      came.sends
+module _ (s : Site) (c : Whole) (a : Arrival) (sends : List SendTo) (at : IsAt s c) (came : sends ≡ sends_by c.control.active c.learned a.port a.bytes) where
+  pub came_sends : IsTree c.control.active.shape → sends ≡ sends_for s.tree (world_in c) a
+  came_sends tree =
+      came
       ∙ ap (λ (xs : List SendTo). if is_relayed (bridge_in c.control.active) a.port a.bytes then xs else [])
-      (sym (sends_as c.control.active.shape tree c.control.active.spaces (bridge_in c.control.active) (look_of c.control.learned) a.port a.bytes))
+      (sym (sends_as c.control.active.shape tree c.control.active.spaces (bridge_in c.control.active) (look_of c.learned) a.port a.bytes))
       ∙ ap (λ (t : Shape). sends_for t (world_in c) a) at.shape
 
-  pub came_can : IsNumbering (numbers_of c.control.active.spaces) → IsBytes a.bytes → All CanSend out.sends.items
+  pub came_can : IsNumbering (numbers_of c.control.active.spaces) → IsBytes a.bytes → All CanSend sends
   came_can numb bytes =
-      subst (All CanSend) (sym came.sends)
+      subst (All CanSend) (sym came)
       (by_relayed (is_relayed (bridge_in c.control.active) a.port a.bytes) _
-      (can_all c.control.active.shape (bridge_in c.control.active) (look_of c.control.learned) (numbers_of c.control.active.spaces) numb a.port a.bytes bytes))
+      (can_all c.control.active.shape (bridge_in c.control.active) (look_of c.learned) (numbers_of c.control.active.spaces) numb a.port a.bytes bytes))
     where
       by_relayed : (e : Bool) (xs : List SendTo) → All CanSend xs → All CanSend (if e then xs else [])
       by_relayed true xs all = all

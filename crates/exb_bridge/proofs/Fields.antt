@@ -1,13 +1,12 @@
 -- How the world changes when the control of a network makes a step.
-use Rattle.std.proofs.Common.{◌≡◌, ℕ, List, [], ◌∷◌, refl, ap, sym, ◌∙◌}
-use Rattle.exb_learn.specs.Calls.{Table, Forget, after_call}
-use Rattle.exb_learn.specs.Entries.{table_of}
+use Rattle.std.proofs.Common.{◌≡◌, ℕ, List, ap, sym, ◌∙◌}
+use Rattle.exb_learn.specs.Calls.{Table}
+use Rattle.exb_learn.specs.Entries.{Entries, table_of}
 use Rattle.exb_changing.specs.Machine.{State, Moved}
 use Rattle.exb_control.specs.declared.outbox.Outbox.{Outbox}
 use Rattle.exb_control.specs.Controls.{Parts}
-use Rattle.exb_control.specs.Controls.{forgotten_all as forgotten_in}
 use Rattle.exb_control.specs.Boxes.{IsMoved}
-use Rattle.exb_machine.specs.Worlds.{with_control, with_table}
+use Rattle.exb_machine.specs.Worlds.{World, with_control, with_table}
 use Rattle.exb_machine.specs.Controls.{forgotten_all}
 use Rattle.exb_bridge.specs.Worlds.{Whole}
 use Rattle.exb_boxes.specs.Devices.{Devices, far_of, has_extender}
@@ -28,13 +27,21 @@ at_moved s c d m out moved far at =
     }
 
 -- ---- the world
--- the two definitions of what is forgotten are one
-pub same_forgotten : (ps : List ℕ) (u : Table) → forgotten_in ps u ≡ forgotten_all ps u
-same_forgotten [] u = refl
-same_forgotten (p ∷ ps) u = same_forgotten ps (after_call (Forget p) u)
+pub moved_is : (m : Moved) (c : Whole) (p : Parts) (out : Outbox) → IsMoved m c.control p out → world_in (record c { control = p }) ≡ with_control m.state (world_in c)
+moved_is m c p out moved = ap (λ (s : State). record (world_in c) { control = s }) moved.state
 
-pub moved_is : (m : Moved) (c : Whole) (p : Parts) (out : Outbox) → IsMoved m c.control p out →
-    world_in (record c { control = p }) ≡ with_table (forgotten_all m.downs (world_in c).table) (with_control m.state (world_in c))
-moved_is m c p out moved =
-    ap (λ (s : State). record (world_in c) { control = s; table = table_of p.learned }) moved.state
-    ∙ ap (λ (u : Table). record (world_in c) { control = m.state; table = u }) (moved.table ∙ same_forgotten m.downs (table_of c.control.learned))
+-- ---- what is learned
+module _ (c : Whole) (l : Entries) where
+  pub learned_world : (u : Table) → table_of l ≡ u → world_in (record c { learned = l }) ≡ with_table u (world_in c)
+  learned_world u is = ap (λ (v : Table). record (world_in c) { table = v }) is
+
+  pub learned_at : (s : Site) → IsAt s c → IsAt s (record c { learned = l })
+  learned_at s at = record { shape = at.shape; limits = at.limits; awake = at.awake; there = at.there; only = at.only; ports = at.ports }
+
+  -- the ports that went down are forgotten
+  pub forgets : (m : Moved) (downs : List ℕ) (w : World) → table_of l ≡ forgotten_all downs (table_of c.learned) → world_in c ≡ with_control m.state w → downs ≡ m.downs →
+      world_in (record c { learned = l }) ≡ with_table (forgotten_all m.downs w.table) (with_control m.state w)
+  forgets m downs w forgotten is same =
+      learned_world (forgotten_all downs (table_of c.learned)) forgotten
+      ∙ ap (λ (v : World). record v { table = forgotten_all downs v.table }) is
+      ∙ ap (λ (ps : List ℕ). with_table (forgotten_all ps w.table) (with_control m.state w)) same

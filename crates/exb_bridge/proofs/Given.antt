@@ -5,32 +5,34 @@ use Rattle.exb_model.specs.declared.command.Command.{Command}
 use Rattle.exb_model.specs.declared.event.Event.TheVariants as event
 use Rattle.exb_model.specs.Setup.{Limits}
 use Rattle.exb_model.specs.Tree.{Shape}
+use Rattle.exb_learn.specs.Calls.{Tick, after_call}
+use Rattle.exb_learn.specs.Entries.{Entries, table_of}
 use Rattle.exb_control.specs.declared.outbox.Outbox.{Outbox}
 use Rattle.exb_changing.specs.Deciding.{decide}
 use Rattle.exb_changing.specs.Machine.{ordered}
-use Rattle.exb_control.specs.Boxes.{HasTicked, IsMoved}
+use Rattle.exb_control.specs.Boxes.{IsMoved}
 use Rattle.exb_control.specs.Controls.{Parts, decide_of, state_of}
 use Rattle.exb_machine.specs.Worlds.{Tick as Ticks}
 use Rattle.exb_machine.specs.Stepping.{done_by}
 use Rattle.exb_boxes.specs.declared.log.Log.{Log}
 use Rattle.exb_bridge.specs.Sites.{Site, limits_in}
 use Rattle.exb_bridge.specs.Worlds.{Whole, world_in, all_left, IsAt, Does, KeepsTrace}
-use Rattle.exb_bridge.proofs.Coming.{learned_world, learned_at}
+use Rattle.exb_bridge.proofs.Fields.{learned_world, learned_at}
 
 -- ---- seconds
-pub ticked : (s : Site) (l : Limits) (c : Whole) (p : Parts) (seconds : ℕ) (out : Outbox) (old new : Log) → HasTicked seconds c.control p out → IsAt s c →
+pub ticked : (s : Site) (l : Limits) (c : Whole) (learned : Entries) (seconds : ℕ) (old new : Log) → table_of learned ≡ after_call (Tick seconds) (table_of c.learned) → IsAt s c →
     new.events ≡ old.events ++ event.Tick seconds ∷ [] → new.passed ≡ old.passed → new.left ≡ old.left → KeepsTrace old new →
-    Does (done_by s.tree l (Ticks seconds) (world_in c)) s (record c { control = p }) old new
-ticked s l c p seconds out old new ticks is_at events passed left trace =
+    Does (done_by s.tree l (Ticks seconds) (world_in c)) s (record c { learned = learned }) old new
+ticked s l c learned seconds old new ticks is_at events passed left trace =
     record {
-      world = learned_world s c p ticks.rest _ ticks.table;
+      world = learned_world c learned _ ticks;
       events = events;
       passed = passed ∙ sym (append-nil old.passed);
       left = ap all_left left ∙ sym (append-nil (all_left old.left));
       outs = trace.outs ∙ sym (append-nil old.outs.items);
       lines = trace.lines;
       tracing = trace.tracing;
-      at = learned_at s c p ticks.rest is_at;
+      at = learned_at c learned s is_at;
     }
 
 -- ---- commands

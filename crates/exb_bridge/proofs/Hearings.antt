@@ -21,10 +21,10 @@ use Rattle.exb_control.specs.declared.outbox.Outbox.{Outbox}
 use Rattle.exb_control.specs.Boxes.{IsMoved}
 use Rattle.exb_control.specs.Controls.{Parts, state_of, decide_of}
 use Rattle.exb_control.specs.Controls.{announced as announced_in}
-use Rattle.exb_machine.specs.Controls.{announced, forgotten_all}
+use Rattle.exb_machine.specs.Controls.{announced}
 use Rattle.exb_machine.specs.Effects.{only}
 use Rattle.exb_machine.specs.Hearing.{bridge_acknowledgement, hears, hears_frame, hears_fresh, hears_message, hears_pdu, hears_request, stops, to_extender}
-use Rattle.exb_machine.specs.Worlds.{World, with_control, with_table}
+use Rattle.exb_machine.specs.Worlds.{World, with_control}
 use Rattle.exb_model.specs.Tables.{at}
 use Rattle.exb_machine.specs.Runs.Asks.{AsksGo, AsksWell, CanGo}
 use Rattle.exb_machine.specs.Runs.Sessions.{AreLow, Each}
@@ -69,9 +69,9 @@ stops_is taken.Stale n old new answer stale other w is = ap (λ (f : ℕ → Ecp
 stops_is taken.NotOurs n old new answer stale other w is = ap (λ (f : ℕ → Ecp). record w { near = f }) (is ∙ sym (other refl))
 
 pub stopped_is : (m : Moved) (c : Whole) (p : Parts) (out : Outbox) (ends : List Ecp) (w : World) → IsMoved m c.control p out → w ≡ record (world_in c) { near = near_of ends } →
-    world_in (record c { control = p; near = ends }) ≡ with_table (forgotten_all m.downs w.table) (with_control m.state w)
+    world_in (record c { control = p; near = ends }) ≡ with_control m.state w
 stopped_is m c p out ends w moved is =
-    subst (λ (v : World). world_in (record c { control = p; near = ends }) ≡ with_table (forgotten_all m.downs v.table) (with_control m.state v)) (sym is)
+    subst (λ (v : World). world_in (record c { control = p; near = ends }) ≡ with_control m.state v) (sym is)
     (ap (λ (v : World). record v { near = near_of ends }) (moved_is m c p out moved))
 
 -- ---- requests

@@ -1,5 +1,5 @@
 -- What the bridge sends for a frame.
-use Rattle.std.specs.Prelude.{◌≡◌, ℕ, ◌≤◌, ◌<◌, ◌++◌, Bool, true, false, List, [], ◌∷◌, IfSome}
+use Rattle.std.specs.Prelude.{◌≡◌, ℕ, ◌≤◌, ◌<◌, ◌++◌, Bool, true, false, if◌then◌else◌, List, [], ◌∷◌, Option, Some, None, IfSome}
 use Rattle.exb_model.specs.Configuration.{Bridge}
 use Rattle.exb_model.specs.ETags.{TagFits}
 use Rattle.exb_model.specs.EagerHistory.{is_relayed, arrival_event}
@@ -7,6 +7,12 @@ use Rattle.exb_model.specs.declared.arrival.Arrival.{Arrival}
 use Rattle.exb_model.specs.Learning.{passes}
 use Rattle.exb_model.specs.Tree.{Shape}
 use Rattle.exb_model.specs.Frames.{kind_of, priority_of}
+use Rattle.exb_learn.specs.Calls.{Table}
+use Rattle.exb_learn.specs.Entries.{Entries, look_of}
+use Rattle.exb_learn.specs.Histories.{relay_call, after_any}
+use Rattle.exb_relay.specs.Sends.{ingress_of, sends_of}
+use Rattle.exb_relay.specs.Spaces.{numbers_of}
+use Rattle.exb_control.specs.ActiveConfigs.{ActiveConfig, bridge_in}
 use Rattle.exb_frame.specs.declared.egress.VlanTag.{VlanTag}
 use Rattle.exb_frame.specs.Egress.{can_leave, priority}
 use Rattle.exb_frame.specs.TagValues.{tag_of}
@@ -31,6 +37,26 @@ pub record HasPassed (f : List ℕ) (tag : VlanTag) : Type 0 where
   pub kind : can_leave (kind_of f) ≡ true
   pub pcp : tag.pcp < 8
   pub own : priority tag.pcp tag.dei ≡ priority_of (kind_of f)
+
+-- ---- frames that come
+-- what became of a frame at its port
+abbrev pub ingress_for : Bridge → ℕ → List ℕ → Ingress
+ingress_for b p f = if is_relayed b p f then ingress_of b p f else ingress.Dropped
+
+-- the VLAN in which it passes
+abbrev pub vid_in : Ingress → Option ℕ
+vid_in ingress.Dropped = None
+vid_in (ingress.Passed v pcp dei) = Some v
+
+-- what is sent for it, with what is learned before it
+abbrev pub sends_by : ActiveConfig → Entries → ℕ → List ℕ → List SendTo
+sends_by v learned p f =
+    if is_relayed (bridge_in v) p f then sends_of v.shape (bridge_in v) (look_of learned) (numbers_of v.spaces) p f
+    else []
+
+-- what it teaches
+abbrev pub taught_by : Bridge → ℕ → List ℕ → Table → Table
+taught_by b p f u = if is_relayed b p f then after_any (relay_call p f (passes b p f)) u else u
 
 -- whether it passed at its port
 abbrev pub is_passed : Ingress → Bool

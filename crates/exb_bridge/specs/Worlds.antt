@@ -4,7 +4,7 @@ use Rattle.exb_model.specs.Traces.{TraceLine}
 use Rattle.exb_model.specs.Tree.{is_extender}
 use Rattle.exb_ecp.specs.Machine.{State as Ecp}
 use Rattle.exb_link.specs.declared.word.Word.{Word}
-use Rattle.exb_learn.specs.Entries.{table_of}
+use Rattle.exb_learn.specs.Entries.{Entries, table_of}
 use Rattle.exb_control.specs.Controls.{Parts, state_of}
 use Rattle.exb_machine.specs.Worlds.{World}
 use Rattle.exb_machine.specs.Worlds.{Left as Leaving}
@@ -33,6 +33,7 @@ pub record Rest : Type 0 where
 -- all parts: those of the bridge, and the rest
 pub record Whole : Type 0 where
   pub control : Parts
+  pub learned : Entries
   pub near : List Ecp
   pub down : List (List Word)
   pub far : Devices
@@ -41,14 +42,14 @@ pub record Whole : Type 0 where
   pub beats : ℕ
 
 abbrev pub whole : Rest → Bridge → Whole
-whole r b = record { control = b.control; near = b.near; down = b.down; far = r.far; up = r.up; next = r.next; beats = r.beats }
+whole r b = record { control = b.control; learned = b.learned; near = b.near; down = b.down; far = r.far; up = r.up; next = r.next; beats = r.beats }
 
 -- ---- the world
 abbrev pub world_in : Whole → World
 world_in c =
     record {
       control = state_of c.control;
-      table = table_of c.control.learned;
+      table = table_of c.learned;
       near = near_of c.near;
       far = far_of c.far;
       down = words_of c.down;

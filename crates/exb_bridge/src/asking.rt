@@ -3,12 +3,13 @@
 ghost use Rattle.std.specs.Prelude.{◌≡◌, ◌<◌, ◌≤◌, true, OnOk, length};
 ghost use Rattle.exb_model.specs.Tree.{is_extender, on, trunk};
 ghost use Rattle.exb_extender.specs.Machine.{control_pdu};
+ghost use Rattle.exb_learn.specs.Entries.{table_of};
 ghost use Rattle.exb_changing.specs.Machine.{Moved};
 ghost use Rattle.exb_machine.specs.Controls.{channel_at_trunk, forgotten_all};
 ghost use Rattle.exb_machine.specs.Effects.{each};
 ghost use Rattle.exb_machine.specs.Extending.{hung_on};
 ghost use Rattle.exb_machine.specs.Hearing.{asks, bridge_acknowledgement, bridge_request, moves, puts, puts_tagged, to_extender};
-ghost use Rattle.exb_machine.specs.Worlds.{World, with_control, with_table};
+ghost use Rattle.exb_machine.specs.Worlds.{World, with_control};
 ghost use Rattle.exb_machine.specs.Runs.Asks.{CanGo};
 ghost use Rattle.exb_machine.specs.Runs.Sessions.{AreLow, Each};
 ghost use Rattle.exb_boxes.specs.Numbers.{IsNumber};
@@ -23,6 +24,7 @@ use exb_boxes::log::{add_events, note_out};
 use exb_changing::Asked;
 use exb_ecp::Pdu;
 use exb_frame::etag::tag_into;
+use exb_learn::Learned;
 use exb_link::Word;
 use exb_model::address::Mac;
 use exb_model::buffers::ControlBuf;
@@ -195,15 +197,25 @@ fn ask_all(
     Ok(())
 }
 
-/// What the control told is told, and what it asked goes out: the rest of a step of the machine of changes, once the
-/// control has made it.
+/// What was learned at ports that went down is forgotten.
+fn forget_all(downs: &[PortId], learned: &mut Learned)
+    ensures { table_of learned.new ≡ forgotten_all downs.now (table_of learned.old) }
+{
+    for port in downs {
+        learned.forget(*port);
+    }
+}
+
+/// What was learned at the ports that went down is forgotten, what the control told is told, and what it asked goes out: the rest
+/// of a step of the machine of changes, once the control has made it.
 pub(crate) fn follow(site: &Site, room: &mut Room, bridge: &mut Bridge) -> Result<(), NoMemory>
     ghost rest: { Rest }
     requires at { IsAt site.now (whole rest bridge.old) }
     requires askable { AreLow (world_in (whole rest bridge.old)).control.askers → Each (CanGo site.now.tree) room.old.outbox.asks }
-    ensures { OnOk result ((m : Moved) (w : World) → world_in (whole rest bridge.old) ≡ with_table (forgotten_all m.downs w.table) (with_control m.state w)
-        → room.old.outbox.events ≡ m.events → room.old.outbox.asks ≡ m.asks → Does (moves site.now.tree m w) site.now (whole rest bridge.new) room.old.post.log room.new.post.log) }
+    ensures { OnOk result ((m : Moved) (w : World) → world_in (whole rest bridge.old) ≡ with_control m.state w
+        → room.old.outbox.events ≡ m.events → room.old.outbox.asks ≡ m.asks → room.old.outbox.downs ≡ m.downs → Does (moves site.now.tree m w) site.now (whole rest bridge.new) room.old.post.log room.new.post.log) }
 {
+    forget_all(room.outbox.downs.as_slice(), &mut bridge.learned);
     bridge.control.has_low_serials();
     add_events(
         room.post.alloc,

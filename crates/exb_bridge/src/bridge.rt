@@ -1,4 +1,5 @@
-//! The controlling bridge as a box: its control, its ends of the transport, and what is on its way down from it.
+//! The controlling bridge as a box: its control, what it has learned, its ends of the transport, and what is on its way down
+//! from it.
 ghost use Rattle.std.specs.Prelude.{◌≡◌, [], false, IfOk};
 ghost use Rattle.exb_model.specs.Setup.{IsValid, limits_of, shape_of};
 ghost use Rattle.exb_ecp.specs.Machine.{new_state};
@@ -10,6 +11,7 @@ ghost use Rattle.exb_boxes.specs.Ends.{near_of};
 
 use exb_boxes::{Direction, Ends};
 use exb_control::Control;
+use exb_learn::Learned;
 use exb_model::memory::NoMemory;
 use exb_model::setup::Setup;
 use std::alloc::Global;
@@ -19,6 +21,8 @@ use std::alloc::Global;
 pub struct Bridge {
     /// The configuration in force, what is queued, and the change at work.
     pub control: Control,
+    /// Where it saw which address last.
+    pub learned: Learned,
     /// The bridge's end of the transport with each extender.
     pub near: Ends,
     /// The words on their way down to each extender.
@@ -30,7 +34,7 @@ impl Bridge {
     pub fn new(alloc: Global, setup: &Setup) -> Result<Bridge, NoMemory>
         requires { IsValid setup.now }
         ensures state { IfOk result (λ made. state_of made.control ≡ first_of setup.now) }
-        ensures learned { IfOk result (λ made. table_of made.control.learned ≡ empty_table setup.now.ageing) }
+        ensures learned { IfOk result (λ made. table_of made.learned ≡ empty_table setup.now.ageing) }
         ensures shape { IfOk result (λ made. made.control.active.shape ≡ shape_of setup.now) }
         ensures limits { IfOk result (λ made. made.control.active.limits ≡ limits_of setup.now) }
         ensures awake { IfOk result (λ made. made.control.failed ≡ false) }
@@ -42,8 +46,17 @@ impl Bridge {
         let control = Control::new(alloc, setup)?;
         Ok(Bridge {
             control,
+            learned: Learned::new(alloc, setup.ageing),
             near,
             down,
         })
+    }
+
+    /// The seconds that have passed.
+    #[tactic(auto, unfolding(exb_learn::specs::Entries::table_of))]
+    pub fn clock(&self) -> u64
+        ensures { result ≡ (table_of self.now.learned).clock }
+    {
+        self.learned.clock()
     }
 }

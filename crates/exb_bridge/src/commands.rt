@@ -18,6 +18,7 @@ use exb_model::memory::NoMemory;
 /// The clock goes on.
 #[cold]
 #[inline(never)]
+#[tactic(auto, unfolding(exb_learn::specs::Entries::table_of))]
 pub fn tick(site: &Site, seconds: u32, room: &mut Room, bridge: &mut Bridge) -> Result<(), NoMemory>
     ghost rest: { Rest }
     requires at { IsAt site.now (whole rest bridge.old) }
@@ -26,10 +27,8 @@ pub fn tick(site: &Site, seconds: u32, room: &mut Room, bridge: &mut Bridge) -> 
 {
     let _ = site;
     room.post.log.events.push(Event::Tick { seconds })?;
-    match bridge.control.tick(seconds, &mut room.outbox) {
-        Ok(()) => Ok(()),
-        Err(_) => Err(NoMemory),
-    }
+    bridge.learned.tick(seconds);
+    Ok(())
 }
 
 /// A command is given.

@@ -1,6 +1,6 @@
 //! The controlling bridge as a box: it hears its extenders (announcements, acknowledgements, requests and answers), asks them what its
-//! control wants, and relays frames. It stands on the bridge's control (`exb_control`), and knows of the network no more than the tree and the links down: each
-//! call does what the machine of `exb_machine` does, whatever the rest of the network is.
+//! control wants, and relays frames and learns from them. It stands on the bridge's control (`exb_control`), on what relays (`exb_relay`) and on what is learned
+//! (`exb_learn`), and knows of the network no more than the tree and the links down: each call does what the machine of `exb_machine` does, whatever the rest of the network is.
 #![tactic(auto)]
 
 mod arrivals;
@@ -8,6 +8,7 @@ mod asking;
 mod beating;
 pub mod bridge;
 mod commands;
+mod frames;
 mod hearing;
 mod orders;
 mod relaying;
@@ -18,6 +19,7 @@ pub use arrivals::{ignore, stamp_of};
 pub use beating::{beat_control, beat_ends};
 pub use bridge::Bridge;
 pub use commands::{order, tick};
+pub use frames::Outgoing;
 pub use relaying::{come, take};
 pub use room::Room;
 pub use site::{Site, hung_on};

@@ -5,25 +5,24 @@ ghost use Rattle.exb_model.specs.EagerHistory.{is_relayed};
 ghost use Rattle.exb_model.specs.ETags.{read_etag, stripped};
 ghost use Rattle.exb_model.specs.Traces.{Out};
 ghost use Rattle.exb_model.specs.Tree.{HangsOn, is_cascade, is_external};
-ghost use Rattle.exb_control.specs.Boxes.{ingress_for};
 ghost use Rattle.exb_extender.specs.Forwarding.{has_etag_type};
 ghost use Rattle.exb_machine.specs.Effects.{each};
 ghost use Rattle.exb_machine.specs.Extending.{hung_on};
 ghost use Rattle.exb_machine.specs.Relaying.{arrival_by, bridge_takes, comes, comes_from, holder_by, puts_word, sends_for, sends_in, takes_control};
 ghost use Rattle.exb_machine.specs.Runs.Asks.{AsksWell};
 ghost use Rattle.exb_boxes.specs.declared.log.Log.{Log};
-ghost use Rattle.exb_bridge.specs.Sends.{CanSend, HasPassed, is_passed, learns, sent_for};
+ghost use Rattle.exb_bridge.specs.Sends.{CanSend, HasPassed, ingress_for, is_passed, learns, sent_for};
 ghost use Rattle.exb_bridge.specs.Sites.{limits_in};
 ghost use Rattle.exb_bridge.specs.Worlds.{Rest, whole, world_in, IsAt, Does, HasLeft, KeepsTrace};
 
 use crate::arrivals::{ignore, stamp_of};
 use crate::bridge::Bridge;
+use crate::frames::{Outgoing, relay_and_learn};
 use crate::hearing::hear;
 use crate::room::Room;
 use crate::site::{Site, hung_on};
 use exb_boxes::log::note_out;
 use exb_boxes::{Left, Log, Post, Row};
-use exb_control::{Ingress, Outbox, SendTo};
 use exb_frame::egress::{VlanTag, egress_into, tagged_egress_into};
 use exb_frame::etag::{E_TAG_TYPE, ETag, strip_in_place, strip_into};
 use exb_link::{Stamp, Word};
@@ -33,6 +32,7 @@ use exb_model::event::Event;
 use exb_model::memory::NoMemory;
 use exb_model::port::PortId;
 use exb_relay::laws::spaces_number;
+use exb_relay::{Ingress, SendTo};
 
 /// A frame leaves at a port of the bridge.
 #[inline(always)]
@@ -153,13 +153,12 @@ fn has_passed(ingress: &Ingress) -> bool
     matches!(ingress, Ingress::Passed { .. })
 }
 
-/// A frame comes to the bridge's control; the answer is whether it is relayed, and then it is learned from. What is sent for it is
-/// in the outbox.
+/// A frame comes to the bridge; the answer is whether it is relayed, and then it is learned from. What is sent for it is noted.
 #[inline(always)]
 fn relay(
     site: &Site,
     arrival: &Arrival,
-    outbox: &mut Outbox,
+    outgoing: &mut Outgoing,
     bridge: &mut Bridge,
 ) -> Result<bool, NoMemory>
     ghost rest: { Rest }
@@ -167,19 +166,17 @@ fn relay(
     requires external { is_external site.now.tree arrival.now.port ≡ true }
     ensures relayed { IfOk result (λ relayed. relayed ≡ is_relayed (world_in (whole rest bridge.old)).control.bridge arrival.now.port arrival.now.bytes) }
     ensures does { OnOk result ((log : Log) → Does (learns arrival.now (world_in (whole rest bridge.old))) site.now (whole rest bridge.new) log log) }
-    ensures sends { OnOk result (outbox.new.sends.items ≡ sends_for site.now.tree (world_in (whole rest bridge.old)) arrival.now) }
-    ensures can { OnOk result (All CanSend outbox.new.sends.items) }
-    ensures ingress { OnOk result (outbox.new.ingress ≡ ingress_for (world_in (whole rest bridge.old)).control.bridge arrival.now.port arrival.now.bytes) }
+    ensures sends { OnOk result (outgoing.new.sends.items ≡ sends_for site.now.tree (world_in (whole rest bridge.old)) arrival.now) }
+    ensures can { OnOk result (All CanSend outgoing.new.sends.items) }
+    ensures ingress { OnOk result (outgoing.new.ingress ≡ ingress_for (world_in (whole rest bridge.old)).control.bridge arrival.now.port arrival.now.bytes) }
 {
-    bridge.control.is_active_config();
+    let active = bridge.control.active();
+    active.is_active_config();
     spaces_number();
     let _ = site;
     let frame = arrival.bytes.as_slice();
     are_bytes(frame);
-    match bridge.control.frame(arrival.port, frame, outbox) {
-        Ok(relayed) => Ok(relayed),
-        Err(_) => Err(NoMemory),
-    }
+    relay_and_learn(active, &mut bridge.learned, arrival.port, frame, outgoing)
 }
 
 /// A frame comes to the bridge; the answer is whether it is relayed. It is learned from, and all that is sent for it goes out.
@@ -195,11 +192,11 @@ fn relay_on(
     requires external { is_external site.now.tree arrival.now.port ≡ true }
     ensures relayed { IfOk result (λ relayed. relayed ≡ is_relayed (world_in (whole rest bridge.old)).control.bridge arrival.now.port arrival.now.bytes) }
     ensures does { OnOk result (Does (sent_for site.now.tree arrival.now (world_in (whole rest bridge.old))) site.now (whole rest bridge.new) room.old.post.log room.new.post.log) }
-    ensures ingress { OnOk result (room.new.outbox.ingress ≡ ingress_for (world_in (whole rest bridge.old)).control.bridge arrival.now.port arrival.now.bytes) }
+    ensures ingress { OnOk result (room.new.outgoing.ingress ≡ ingress_for (world_in (whole rest bridge.old)).control.bridge arrival.now.port arrival.now.bytes) }
 {
     are_bytes(arrival.bytes.as_slice());
-    let relayed = relay(site, arrival, &mut room.outbox, bridge)?;
-    match &room.outbox.ingress {
+    let relayed = relay(site, arrival, &mut room.outgoing, bridge)?;
+    match &room.outgoing.ingress {
         Ingress::Dropped => Ok(relayed),
         Ingress::Passed { vid, pcp, dei } => {
             let tag = VlanTag {
@@ -207,7 +204,7 @@ fn relay_on(
                 dei: *dei,
                 vid: *vid,
             };
-            let sends = room.outbox.sends.as_slice();
+            let sends = room.outgoing.sends.as_slice();
             send_all(site, arrival, &tag, sends, bridge, &mut room.post)?;
             Ok(relayed)
         }
@@ -253,7 +250,7 @@ pub fn come(
     if !relayed {
         return ignore(arrival, &mut room.post.log);
     }
-    let passed = has_passed(&room.outbox.ingress);
+    let passed = has_passed(&room.outgoing.ingress);
     let bytes = room
         .post
         .store
@@ -291,7 +288,7 @@ fn come_in(
     if !relayed {
         return ignore(&arrival, &mut room.post.log);
     }
-    let passed = has_passed(&room.outbox.ingress);
+    let passed = has_passed(&room.outgoing.ingress);
     tell(arrival, passed, &mut room.post.log)
 }
 

@@ -1,6 +1,7 @@
 //! What is lent to every step of a network.
 ghost use Rattle.std.specs.Prelude.{◌≡◌, []};
 
+use crate::frames::Outgoing;
 use exb_boxes::{Log, Post, Store};
 use exb_control::Outbox;
 use exb_extender::Sends;
@@ -23,6 +24,8 @@ pub struct Buffers {
 pub struct Room {
     /// What a call of the control gives.
     pub outbox: Outbox,
+    /// What the bridge makes of a frame.
+    pub outgoing: Outgoing,
     /// What an extender sends.
     pub sends: Sends,
     pub buffers: Buffers,
@@ -41,6 +44,7 @@ impl Room {
     {
         Room {
             outbox: Outbox::new(alloc),
+            outgoing: Outgoing::new(),
             sends: Sends::new(),
             buffers: Buffers {
                 message: ControlBuf::new(),

@@ -25,7 +25,6 @@ use Rattle.exb_control.specs.Controls.{work_from, work_at}
 use Rattle.exb_control.specs.Steps.{Reached, reached, reached_by, put, is_at_rest, asks_in, asks_after, advances}
 use Rattle.exb_control.specs.Soundness.{AreKnown, HasRoom, MayAsk, IsSteady, later}
 use Rattle.exb_model.specs.declared.event.Event.{Event}
-use Rattle.exb_learn.specs.Calls.{Table}
 use Rattle.exb_changing.specs.declared.asked.Asked.{Asked}
 use Rattle.exb_control.proofs.Steps.{joined}
 
@@ -184,15 +183,15 @@ answered_on decide (InForce j x) place s t r work is busy within =
     on_with decide j x Cleaning place x.cleanup (drop place x.cleanup) s refl work (some_left x.cleanup place within) ∙ ap (λ (u : Taken). answered_where decide u s) (sym is)
 
 -- a step and then the queue, as one step
-pub then_wakes : (decide decide' : Decide) (m : Moved) (s : State) (events events' : List Event) (asks asks' : List Asked) (t t' : Table) → decide' ≡ decide →
+pub then_wakes : (decide decide' : Decide) (m : Moved) (s : State) (events events' : List Event) (asks asks' : List Asked) (t t' : List ℕ) → decide' ≡ decide →
     reached s events' asks' t' ≡ reached_by m events asks t →
     reached_by (wakes decide' s) events' asks' t' ≡ reached_by (followed_by m (wakes decide m.state)) events asks t
 then_wakes decide decide' m s events events' asks asks' t t' same e =
     ap (λ (d : Decide). reached_by (wakes d s) events' asks' t') same
-    ∙ ap (λ (r : Reached). reached_by (wakes decide r.state) r.events r.asks r.table) e
+    ∙ ap (λ (r : Reached). reached_by (wakes decide r.state) r.events r.asks r.downs) e
     ∙ joined m (wakes decide m.state) events asks t
 
 -- any other message changes the session alone
-pub stayed : (decide : Decide) (t : Taken) (s s' : State) (events : List Event) (asks : List Asked) (table : Table) → ((r : Response) → t ≡ taken.Answer r → ⊥) → s' ≡ s →
-    reached s' events asks table ≡ reached_by (answered_where decide t s) events asks table
-stayed decide t s s' events asks table never same = rw (same, not_answered decide t s never, append-nil events, append-nil asks) refl
+pub stayed : (decide : Decide) (t : Taken) (s s' : State) (events : List Event) (asks : List Asked) (downs : List ℕ) → ((r : Response) → t ≡ taken.Answer r → ⊥) → s' ≡ s →
+    reached s' events asks downs ≡ reached_by (answered_where decide t s) events asks downs
+stayed decide t s s' events asks downs never same = rw (same, not_answered decide t s never, append-nil events, append-nil asks, append-nil downs) refl

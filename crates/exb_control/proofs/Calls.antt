@@ -8,8 +8,6 @@ use Rattle.std.specs.declared.result.Result.TheVariants.{Ok, Err}
 use Rattle.exb_model.specs.declared.event.Event.{Event}
 use Rattle.exb_csp.specs.declared.message.Request.{Request}
 use Rattle.exb_csp.specs.Sessions.Asking.{AskerState, beaten, beaten_while}
-use Rattle.exb_learn.specs.Calls.{Table}
-use Rattle.exb_learn.specs.Entries.{table_of}
 use Rattle.exb_csp.specs.declared.ask_at.AskAt.{AskAt}
 use Rattle.exb_changing.specs.declared.planning.change.Change.{Change}
 use Rattle.exb_changing.specs.declared.asked.Asked.{Asked}
@@ -26,7 +24,7 @@ use Rattle.exb_lldp.specs.declared.announce.Announce.{Announce}
 use Rattle.exb_changing.specs.Deciding.{Decide}
 use Rattle.exb_control.specs.Queues.{first_in}
 use Rattle.exb_control.specs.Controls.{Parts, state_of, work_from, work_at, announced, is_announced, is_of}
-use Rattle.exb_control.specs.Boxes.{IsQuiet, IsMoved}
+use Rattle.exb_control.specs.Boxes.{IsMoved}
 use Rattle.exb_control.specs.Steps.{Heard, askers_of, Reached, reached, reached_by, put, noted, ask_at, after_beat, messages_at_beat}
 use Rattle.exb_control.specs.Soundness.{IsSteady, to_come}
 use Rattle.exb_control.specs.Spelled.{Repeats, Spells}
@@ -39,23 +37,21 @@ when_ok (Ok x) fine p = p
 when_ok (Err e) fine p = absurd (cc)
 
 -- ---- a step of the machine
-pub moved : (m : Moved) (old : Parts) (core : Core) (queue : List Job) (heard : Heard) (given : ℕ) (failed : Bool) (events : List Event) (asks : List Asked) (out : Outbox) →
-    events ≡ [] → asks ≡ [] →
-    reached (state_of (parts_of core queue heard given failed)) out.events out.asks (table_of core.learned) ≡ reached_by m events asks (table_of old.learned) →
-    core.active.shape ≡ old.active.shape → core.active.limits ≡ old.active.limits → failed ≡ old.failed → IsQuiet out →
+pub moved : (m : Moved) (old : Parts) (core : Core) (queue : List Job) (heard : Heard) (given : ℕ) (failed : Bool) (events : List Event) (asks : List Asked) (downs : List ℕ) (out : Outbox) →
+    events ≡ [] → asks ≡ [] → downs ≡ [] →
+    reached (state_of (parts_of core queue heard given failed)) out.events out.asks out.downs ≡ reached_by m events asks downs →
+    core.active.shape ≡ old.active.shape → core.active.limits ≡ old.active.limits → failed ≡ old.failed →
     IsMoved m old (parts_of core queue heard given failed) out
-moved m old core queue heard given failed events asks out none no_ask e shape limits same quiet =
-    let r : reached (state_of (parts_of core queue heard given failed)) out.events out.asks (table_of core.learned) ≡ reached_by m [] [] (table_of old.learned) =
-    e ∙ ap (λ (es : List Event). reached_by m es asks (table_of old.learned)) none ∙ ap (λ (qs : List Asked). reached_by m [] qs (table_of old.learned)) no_ask in
+moved m old core queue heard given failed events asks downs out none no_ask no_down e shape limits same =
+    let r : reached (state_of (parts_of core queue heard given failed)) out.events out.asks out.downs ≡ reached_by m [] [] [] = e ∙ rw (none, no_ask, no_down) refl in
     record {
       state = ap (λ (x : Reached). x.state) r;
       events = ap (λ (x : Reached). x.events) r;
       asks = ap (λ (x : Reached). x.asks) r;
-      table = ap (λ (x : Reached). x.table) r;
+      downs = ap (λ (x : Reached). x.downs) r;
       shape = shape;
       limits = limits;
       failed = same;
-      quiet = quiet;
     }
 
 -- the same number, written another way
@@ -90,12 +86,12 @@ steady_beat k (Some w) q askers waits =
       later = waits.later;
     }
 
-beats_from : (j : Job) (x : Change) (phase : Phase) (xs : List AskAt) (s : State) (events : List Event) (asks : List Asked) (t : Table) →
+beats_from : (j : Job) (x : Change) (phase : Phase) (xs : List AskAt) (s : State) (events : List Event) (asks : List Asked) (t : List ℕ) →
     reached (record s { askers = after_beat (first_in xs) s.askers }) (events) (asks ++ messages_at_beat (first_in xs) s.askers) t ≡ reached_by (beats_in (work_from j x phase xs) s) events asks t
-beats_from j x phase [] s events asks t = rw (append-nil events) refl
-beats_from j x phase (a ∷ rest) s events asks t = rw (append-nil events) refl
+beats_from j x phase [] s events asks t = rw (append-nil events, append-nil t) refl
+beats_from j x phase (a ∷ rest) s events asks t = rw (append-nil events, append-nil t) refl
 
-pub beats_as : (stage : Stage) (place : ℕ) (s : State) (askers : ℕ → AskerState) (events : List Event) (asks asks' : List Asked) (t : Table) → s.work ≡ work_at stage place →
+pub beats_as : (stage : Stage) (place : ℕ) (s : State) (askers : ℕ → AskerState) (events : List Event) (asks asks' : List Asked) (t : List ℕ) → s.work ≡ work_at stage place →
     askers ≡ after_beat (ask_at stage place) s.askers → asks' ≡ asks ++ messages_at_beat (ask_at stage place) s.askers →
     reached (record s { askers = askers }) events asks' t ≡ reached_by (beats s) events asks t
 beats_as stage place s askers events asks asks' t work is told =
@@ -103,7 +99,7 @@ beats_as stage place s askers events asks asks' t work is told =
   where
     by_stage : (st : Stage) → reached (record s { askers = after_beat (ask_at st place) s.askers }) events (asks ++ messages_at_beat (ask_at st place) s.askers) t
         ≡ reached_by (beats_in (work_at st place) s) events asks t
-    by_stage AtRest = rw (drop-nil {X = AskAt} place, append-nil events) refl
+    by_stage AtRest = rw (drop-nil {X = AskAt} place, append-nil events, append-nil t) refl
     by_stage (Prepared j x) = beats_from j x Preparing (drop place x.prepare) s events asks t
     by_stage (InForce j x) = beats_from j x Cleaning (drop place x.cleanup) s events asks t
 
@@ -130,29 +126,29 @@ kept_beat core core' queue heard given failed rest askers kept =
           };
     })
 
-pub beat_moves : (core core' : Core) (queue : List Job) (heard : Heard) (given : ℕ) (failed : Bool) (events : List Event) (asks asks' : List Asked) →
+pub beat_moves : (core core' : Core) (queue : List Job) (heard : Heard) (given : ℕ) (failed : Bool) (events : List Event) (asks asks' : List Asked) (downs : List ℕ) →
     core' ≡ record core { sessions = core'.sessions } →
     askers_of core'.sessions ≡ after_beat (ask_at core.active.stage core.place) (askers_of core.sessions) →
     asks' ≡ asks ++ messages_at_beat (ask_at core.active.stage core.place) (askers_of core.sessions) →
-    reached (state_of (parts_of core' queue heard given failed)) events asks' (table_of core'.learned)
-    ≡ reached_by (beats (state_of (parts_of core queue heard given failed))) events asks (table_of core.learned)
-beat_moves core core' queue heard given failed events asks asks' rest askers told =
-    ap (λ (x : Core). reached (state_of (parts_of x queue heard given failed)) events asks' (table_of x.learned)) rest
-    ∙ beats_as core.active.stage core.place (state_of (parts_of core queue heard given failed)) (askers_of core'.sessions) events asks asks' (table_of core.learned) refl askers told
+    reached (state_of (parts_of core' queue heard given failed)) events asks' downs
+    ≡ reached_by (beats (state_of (parts_of core queue heard given failed))) events asks downs
+beat_moves core core' queue heard given failed events asks asks' downs rest askers told =
+    ap (λ (x : Core). reached (state_of (parts_of x queue heard given failed)) events asks' downs) rest
+    ∙ beats_as core.active.stage core.place (state_of (parts_of core queue heard given failed)) (askers_of core'.sessions) events asks asks' downs refl askers told
 
 -- ---- announcements
-pub heard_it : (decide : Decide) (t : Shape) (ports : List ℕ) (n : ℕ) (a : Announce) (s : State) (heard' : ℕ → Bool) (events : List Event) (asks : List Asked) (table : Table) →
+pub heard_it : (decide : Decide) (t : Shape) (ports : List ℕ) (n : ℕ) (a : Announce) (s : State) (heard' : ℕ → Bool) (events : List Event) (asks : List Asked) (downs : List ℕ) →
     ports ≡ t.ports → is_announced ports n a ≡ true → heard' ≡ noted n s.heard →
-    reached_by (wakes decide (record s { heard = heard' })) events asks table ≡ reached_by (announced decide t n a s) events asks table
-heard_it decide t ports n a s heard' events asks table same its heard_is =
+    reached_by (wakes decide (record s { heard = heard' })) events asks downs ≡ reached_by (announced decide t n a s) events asks downs
+heard_it decide t ports n a s heard' events asks downs same its heard_is =
     let here : is_of t n a ≡ true = ap (λ (ps : List ℕ). is_announced ps n a) (sym same) ∙ its in
     rw (here, heard_is) refl
 
 pub ignored : (decide : Decide) (t : Shape) (ports : List ℕ) (n : ℕ) (a : Announce) (v : Parts) (out : Outbox) →
-    ports ≡ t.ports → is_announced ports n a ≡ false → out.events ≡ [] → out.asks ≡ [] → IsQuiet out → IsMoved (announced decide t n a (state_of v)) v v out
-ignored decide t ports n a v out same other none no_ask quiet =
+    ports ≡ t.ports → is_announced ports n a ≡ false → out.events ≡ [] → out.asks ≡ [] → out.downs ≡ [] → IsMoved (announced decide t n a (state_of v)) v v out
+ignored decide t ports n a v out same other none no_ask no_down =
     let here : is_of t n a ≡ false = ap (λ (ps : List ℕ). is_announced ps n a) (sym same) ∙ other in
-    rw here (record { state = refl; events = none; asks = no_ask; table = refl; shape = refl; limits = refl; failed = refl; quiet = quiet })
+    rw here (record { state = refl; events = none; asks = no_ask; downs = no_down; shape = refl; limits = refl; failed = refl })
 
 -- ---- numbers
 pub room_of : (k : ℕ) (o : Option Work) (askers : ℕ → AskerState) → IsSteady k o askers → k < 2 ^ 40

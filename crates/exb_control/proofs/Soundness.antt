@@ -6,7 +6,6 @@ use Rattle.exb_csp.specs.declared.ask_at.AskAt.{AskAt}
 use Rattle.exb_control.specs.Queues.{first_in}
 use Rattle.exb_model.specs.declared.event.Event.{Event}
 use Rattle.exb_csp.specs.Sessions.Asking.{asked}
-use Rattle.exb_learn.specs.Calls.{Table}
 use Rattle.exb_changing.specs.declared.planning.change.Change.{Change}
 use Rattle.exb_changing.specs.declared.asked.Asked.{Asked}
 use Rattle.exb_changing.specs.declared.job.Job.{Job}
@@ -90,6 +89,6 @@ advances_steady AtRest xs s k busy known after may = absurd (cc)
 advances_steady (Prepared j x) xs s k busy known after may = prepares_steady j x xs s k known after may
 advances_steady (InForce j x) xs s k busy known after may = ends_steady j x xs s k known (may_ask (length xs + 0 + k) _ s.askers (omega arith) may)
 
-pub steady_by : (k : ℕ) (s : State) (m : Moved) (events events' : List Event) (asks asks' : List Asked) (t t' : Table) →
+pub steady_by : (k : ℕ) (s : State) (m : Moved) (events events' : List Event) (asks asks' : List Asked) (t t' : List ℕ) →
     reached s events asks t ≡ reached_by m events' asks' t' → IsSteady k m.state.work m.state.askers → IsSteady k s.work s.askers
 steady_by k s m events events' asks asks' t t' e steady = subst (λ (r : Reached). IsSteady k r.state.work r.state.askers) (sym e) steady

@@ -4,7 +4,6 @@ use Rattle.exb_model.specs.declared.event.Event.{Event}
 use Rattle.exb_model.specs.declared.event.Cause.{Cause}
 use Rattle.exb_model.specs.Tree.{Shape}
 use Rattle.exb_model.specs.Configuration.{Bridge}
-use Rattle.exb_learn.specs.Calls.{Table}
 use Rattle.exb_csp.specs.declared.ask_at.AskAt.{AskAt}
 use Rattle.exb_changing.specs.declared.planning.change.Change.{Change}
 use Rattle.exb_changing.specs.Plans.Held.{Held}
@@ -33,7 +32,7 @@ next_prepares j x [] s = refl
 next_prepares j x (a ∷ rest) s = refl
 
 -- its prepare begins
-pub begins : (s : State) (j : Job) (o : Outcome) (x : Change) (h : Held) (stage : Stage) (b' : Bridge) (h' : Held) (events : List Event) (asks : List Asked) (t : Table) →
+pub begins : (s : State) (j : Job) (o : Outcome) (x : Change) (h : Held) (stage : Stage) (b' : Bridge) (h' : Held) (events : List Event) (asks : List Asked) (t : List ℕ) →
     o ≡ Ready x h → stage ≡ stage_of j o → b' ≡ s.bridge → h' ≡ held_after o s.held →
     reached_by (advances stage (asks_in stage) (record s { bridge = b'; held = h' })) events asks t ≡ reached_by (starts j o s) events asks t
 begins s j o x h stage b' h' events asks t is stage_is bridge held =

@@ -4,7 +4,6 @@ use Rattle.std.proofs.lemmas.List.{append-nil}
 use Rattle.std.specs.Option.{is_some}
 use Rattle.exb_model.specs.declared.event.Event.{Event}
 use Rattle.exb_csp.specs.Sessions.Asking.{AskerState}
-use Rattle.exb_learn.specs.Calls.{Table, Forget, after_call}
 use Rattle.exb_csp.specs.declared.ask_at.AskAt.{AskAt}
 use Rattle.exb_changing.specs.declared.planning.change.Change.{Change}
 use Rattle.exb_changing.specs.Plans.Held.{Held}
@@ -19,7 +18,7 @@ use Rattle.exb_changing.specs.Deciding.{bridge_after, release}
 use Rattle.exb_control.specs.ActiveConfigs.{IsPrepared, IsInForce}
 use Rattle.exb_changing.specs.Machine.{State, Moved, still, ends, cleans, commits, committed, downs_of, followed_by}
 use Rattle.exb_control.specs.Queues.{first_in}
-use Rattle.exb_control.specs.Controls.{work_from, work_at, forgotten_all}
+use Rattle.exb_control.specs.Controls.{work_from, work_at}
 use Rattle.exb_control.specs.Steps.{reached, reached_by, asks_in, ask_at, after_ask, messages_for, next_of, advances, commits_at}
 
 -- ---- lists
@@ -27,24 +26,20 @@ pub drop-nil : {X : Type 0} → (i : ℕ) → drop {A = X} i [] ≡ []
 drop-nil zero = refl
 drop-nil (suc i) = refl
 
-pub forgotten-append : (ps qs : List ℕ) (t : Table) → forgotten_all qs (forgotten_all ps t) ≡ forgotten_all (ps ++ qs) t
-forgotten-append [] qs t = refl
-forgotten-append (p ∷ ps) qs t = forgotten-append ps qs (after_call (Forget p) t)
-
 -- one step after another
-pub joined : (m n : Moved) (events : List Event) (asks : List Asked) (t : Table) →
-    reached_by n (events ++ m.events) (asks ++ m.asks) (forgotten_all m.downs t) ≡ reached_by (followed_by m n) events asks t
-joined m n events asks t = rw (append_assoc events m.events n.events, append_assoc asks m.asks n.asks, forgotten-append m.downs n.downs t) refl
+pub joined : (m n : Moved) (events : List Event) (asks : List Asked) (t : List ℕ) →
+    reached_by n (events ++ m.events) (asks ++ m.asks) (t ++ m.downs) ≡ reached_by (followed_by m n) events asks t
+joined m n events asks t = rw (append_assoc events m.events n.events, append_assoc asks m.asks n.asks, append_assoc t m.downs n.downs) refl
 
 -- ---- a request goes out
 goes_out : (s : State) (j : Job) (x : Change) (phase : Phase) (ending : State → Moved) (xs : List AskAt) (askers : ℕ → AskerState)
-    (events : List Event) (asks asks' : List Asked) (t : Table) → is_some (first_in xs) ≡ true → askers ≡ after_ask (first_in xs) s.askers →
+    (events : List Event) (asks asks' : List Asked) (t : List ℕ) → is_some (first_in xs) ≡ true → askers ≡ after_ask (first_in xs) s.askers →
     asks' ≡ asks ++ messages_for (first_in xs) s.askers →
     reached (record s { work = work_from j x phase xs; askers = askers }) events asks' t ≡ reached_by (next_of j x phase ending xs s) events asks t
 goes_out s j x phase ending [] askers events asks asks' t some is told = absurd (cc)
-goes_out s j x phase ending (a ∷ rest) askers events asks asks' t some is told = rw (is, told, append-nil events) refl
+goes_out s j x phase ending (a ∷ rest) askers events asks asks' t some is told = rw (is, told, append-nil events, append-nil t) refl
 
-pub asked_on : (s : State) (stage : Stage) (i : ℕ) (askers : ℕ → AskerState) (events : List Event) (asks asks' : List Asked) (t : Table) →
+pub asked_on : (s : State) (stage : Stage) (i : ℕ) (askers : ℕ → AskerState) (events : List Event) (asks asks' : List Asked) (t : List ℕ) →
     is_some (ask_at stage i) ≡ true → askers ≡ after_ask (ask_at stage i) s.askers → asks' ≡ asks ++ messages_for (ask_at stage i) s.askers →
     reached (record s { work = work_at stage i; askers = askers }) events asks' t ≡ reached_by (advances stage (drop i (asks_in stage)) s) events asks t
 asked_on s AtRest i askers events asks asks' t some is told = absurd (none (rw (drop-nil {X = AskAt} i) at some))
@@ -70,12 +65,12 @@ pub next_cleans : (j : Job) (x : Change) (xs : List AskAt) (s : State) → next_
 next_cleans j x [] s = refl
 next_cleans j x (a ∷ rest) s = refl
 
-pub takes_effect : (s : State) (j : Job) (x : Change) (b : Bridge) (h : Held) (events events' : List Event) (asks : List Asked) (t t' : Table) →
-    b ≡ bridge_after j s.bridge → h ≡ s.held → events' ≡ events ++ committed j → t' ≡ forgotten_all (downs_of j) t →
+pub takes_effect : (s : State) (j : Job) (x : Change) (b : Bridge) (h : Held) (events events' : List Event) (asks : List Asked) (t t' : List ℕ) →
+    b ≡ bridge_after j s.bridge → h ≡ s.held → events' ≡ events ++ committed j → t' ≡ t ++ downs_of j →
     reached_by (advances (InForce j x) x.cleanup (record s { bridge = b; held = h })) events' asks t' ≡ reached_by (commits j x s) events asks t
 takes_effect s j x b h events events' asks t t' bridge held told forgotten =
     rw (bridge, held, told, forgotten, next_cleans j x x.cleanup (record s { bridge = bridge_after j s.bridge }))
-    (ap (λ (a : List Asked). reached_by (cleans j x x.cleanup (record s { bridge = bridge_after j s.bridge })) (events ++ committed j) a (forgotten_all (downs_of j) t)) (sym (append-nil asks))
+    (ap (λ (a : List Asked). reached_by (cleans j x x.cleanup (record s { bridge = bridge_after j s.bridge })) (events ++ committed j) a (t ++ downs_of j)) (sym (append-nil asks))
     ∙ joined (record { state = s; events = committed j; asks = []; downs = downs_of j }) (cleans j x x.cleanup (record s { bridge = bridge_after j s.bridge })) events asks t)
 
 -- ---- stages
@@ -96,19 +91,19 @@ in_force_is (InForce j x) p = record { job = j; change = x; is = refl }
 
 -- the last request of a change in force is answered
 pub finished : (s : State) (j : Job) (x : Change) (stage after : Stage) (i : ℕ) (askers : ℕ → AskerState) (b : Bridge) (h : Held)
-    (events : List Event) (asks asks' : List Asked) (t : Table) →
+    (events : List Event) (asks asks' : List Asked) (t : List ℕ) →
     stage ≡ InForce j x → after ≡ AtRest → askers ≡ s.askers → asks' ≡ asks → b ≡ s.bridge → h ≡ release x s.held →
     reached (record s { work = work_at after i; askers = askers; bridge = b; held = h }) events asks' t ≡ reached_by (advances stage [] s) events asks t
 finished s j x stage after i askers b h events asks asks' t stage_is rest same told bridge held =
-    rw (stage_is, rest, same, told, bridge, held, append-nil events, append-nil asks) refl
+    rw (stage_is, rest, same, told, bridge, held, append-nil events, append-nil asks, append-nil t) refl
 
 -- a prepared change takes effect, and goes on with its cleanup
-pub effect_from : (s : State) (j : Job) (x : Change) (stage after : Stage) (b : Bridge) (h : Held) (events events' : List Event) (asks : List Asked) (t t' : Table) →
+pub effect_from : (s : State) (j : Job) (x : Change) (stage after : Stage) (b : Bridge) (h : Held) (events events' : List Event) (asks asks' : List Asked) (t t' : List ℕ) →
     stage ≡ Prepared j x → after ≡ InForce j x →
-    b ≡ bridge_after j s.bridge → h ≡ s.held → events' ≡ events ++ committed j → t' ≡ forgotten_all (downs_of j) t →
-    reached_by (advances after (asks_in after) (record s { bridge = b; held = h })) events' asks t' ≡ reached_by (commits_at stage s) events asks t
-effect_from s j x stage after b h events events' asks t t' ready force bridge held told forgotten =
-    rw (ready, force) (takes_effect s j x b h events events' asks t t' bridge held told forgotten)
+    b ≡ bridge_after j s.bridge → h ≡ s.held → events' ≡ events ++ committed j → asks' ≡ asks → t' ≡ t ++ downs_of j →
+    reached_by (advances after (asks_in after) (record s { bridge = b; held = h })) events' asks' t' ≡ reached_by (commits_at stage s) events asks t
+effect_from s j x stage after b h events events' asks asks' t t' ready force bridge held told same forgotten =
+    rw (ready, force, same) (takes_effect s j x b h events events' asks t t' bridge held told forgotten)
 
 pub prepared_ends : (stage : Stage) (s : State) → IsPrepared stage → commits_at stage s ≡ advances stage [] s
 prepared_ends AtRest s p = absurd p
@@ -116,7 +111,7 @@ prepared_ends (Prepared j x) s p = refl
 prepared_ends (InForce j x) s p = absurd p
 
 -- where no request is left, the phase ends
-pub on_from : (s : State) (stage : Stage) (xs : List AskAt) (askers : ℕ → AskerState) (asks asks' : List Asked) (events : List Event) (t : Table) →
+pub on_from : (s : State) (stage : Stage) (xs : List AskAt) (askers : ℕ → AskerState) (asks asks' : List Asked) (events : List Event) (t : List ℕ) →
     NoneAsked xs s.askers askers asks asks' →
     reached_by (advances stage [] (record s { askers = askers })) events asks' t ≡ reached_by (advances stage xs s) events asks t
 on_from s stage xs askers asks asks' events t n = rw (n.none, n.askers, n.told) refl

@@ -6,8 +6,6 @@ use Rattle.exb_model.specs.Tree.{Shape, device, trunk, is_extender}
 use Rattle.exb_model.specs.Setup.{shape_of, limits_of, start_of}
 use Rattle.exb_lldp.specs.declared.announce.Announce.{Announce}
 use Rattle.exb_csp.specs.Sessions.Asking.{AskerState, begun}
-use Rattle.exb_learn.specs.Calls.{Table, Forget, after_call}
-use Rattle.exb_learn.specs.Entries.{Entries}
 use Rattle.exb_csp.specs.declared.ask_at.AskAt.{AskAt}
 use Rattle.exb_changing.specs.declared.planning.change.Change.{Change}
 use Rattle.exb_changing.specs.Plans.Held.{Held, channel_in}
@@ -24,7 +22,7 @@ use Rattle.exb_control.specs.Queues.{is_empty}
 
 -- The configuration with its numbers and the change at work, the place of the outstanding request among those
 -- of its phase, the jobs that wait, which extenders were heard, the bridge's ends of the sessions by extender,
--- how many commands were given, what is learned, and whether memory ran out.
+-- how many commands were given, and whether memory ran out.
 pub record Parts : Type 0 where
   pub active : ActiveConfig
   pub place : ℕ
@@ -32,7 +30,6 @@ pub record Parts : Type 0 where
   pub heard : List Bool
   pub askers : List AskerState
   pub given : ℕ
-  pub learned : Entries
   pub failed : Bool
 
 -- ---- the state that it stands for
@@ -97,9 +94,3 @@ announced decide t n a s = if is_of t n a then heard decide n s else still s
 -- the channel that a port of an extender holds at its trunk
 abbrev pub channel_at_trunk : Shape → Held → ℕ → Option ℕ
 channel_at_trunk t h p = if is_extender t (device p) then channel_in h (trunk t (device p)) p else None
-
--- ---- what is learned
--- these ports are forgotten
-abbrev pub forgotten_all : List ℕ → Table → Table
-forgotten_all [] t = t
-forgotten_all (p ∷ ps) t = forgotten_all ps (after_call (Forget p) t)

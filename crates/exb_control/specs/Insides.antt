@@ -15,7 +15,6 @@ parts_of c queue heard given failed =
       heard = heard.heard;
       askers = c.sessions;
       given = given;
-      learned = c.learned;
       failed = failed;
     }
 

@@ -4,7 +4,6 @@ use Rattle.std.specs.List.{range_with_len}
 use Rattle.exb_model.specs.declared.event.Event.{Event}
 use Rattle.exb_csp.specs.declared.message.Message.{Message}
 use Rattle.exb_csp.specs.Sessions.Asking.{AskerState, asked, beaten, message_again}
-use Rattle.exb_learn.specs.Calls.{Table}
 use Rattle.exb_csp.specs.declared.ask_at.AskAt.{AskAt}
 use Rattle.exb_changing.specs.declared.planning.change.Change.{Change}
 use Rattle.exb_changing.specs.declared.asked.Asked.{Asked}
@@ -18,7 +17,7 @@ use Rattle.exb_control.specs.ActiveConfigs.{bridge_in, held_in}
 use Rattle.exb_changing.specs.Machine.{State, Moved, still, ends, works, commits, messages_due}
 use Rattle.exb_control.specs.declared.working.Core.{Core}
 use Rattle.exb_control.specs.Queues.{first_in}
-use Rattle.exb_control.specs.Controls.{is_heard, asker_at, work_at, forgotten_all}
+use Rattle.exb_control.specs.Controls.{is_heard, asker_at, work_at}
 
 -- ---- states
 abbrev pub heard_of : List Bool → ℕ → Bool
@@ -53,20 +52,20 @@ abbrev pub with_queue : List Job → Front → Front
 with_queue queue f = record f { queue = queue }
 
 -- ---- where steps lead
--- a state, and what was told and learned on the way to it
+-- a state, and what was told on the way to it
 pub record Reached : Type 0 where
   pub state : State
   pub events : List Event
   pub asks : List Asked
-  pub table : Table
+  pub downs : List ℕ
 
-abbrev pub reached : State → List Event → List Asked → Table → Reached
-reached s events asks table = record { state = s; events = events; asks = asks; table = table }
+abbrev pub reached : State → List Event → List Asked → List ℕ → Reached
+reached s events asks downs = record { state = s; events = events; asks = asks; downs = downs }
 
--- by a step, after what was told and learned before
-abbrev pub reached_by : Moved → List Event → List Asked → Table → Reached
-reached_by m events asks table =
-    reached m.state (events ++ m.events) (asks ++ m.asks) (forgotten_all m.downs table)
+-- by a step, after what was told before
+abbrev pub reached_by : Moved → List Event → List Asked → List ℕ → Reached
+reached_by m events asks downs =
+    reached m.state (events ++ m.events) (asks ++ m.asks) (downs ++ m.downs)
 
 -- ---- requests
 -- the requests of the phase

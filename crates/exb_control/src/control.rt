@@ -4,12 +4,9 @@ ghost use Rattle.std.specs.List.{All};
 ghost use Rattle.exb_model.specs.Setup.{IsValid, NamesExternal, shape_of, limits_of};
 ghost use Rattle.exb_model.specs.Tree.{is_extender, is_external, is_cascade};
 ghost use Rattle.exb_csp.specs.Sessions.Asking.{took};
-ghost use Rattle.exb_learn.specs.Calls.{empty_table};
-ghost use Rattle.exb_learn.specs.Entries.{table_of};
 
 use crate::active_config::ActiveConfig;
 use crate::announcements::Heard;
-use crate::frames::arrive;
 use crate::jobs::first_jobs;
 use crate::numbers::{channel_of, port_of};
 use crate::outbox::Outbox;
@@ -20,10 +17,8 @@ use crate::turns::{give, take, wake};
 use crate::working::{Core, beat, outstanding};
 use exb_changing::Job;
 use exb_csp::{Message, Taken};
-use exb_learn::Learned;
 use exb_lldp::Announce;
 use exb_model::command::Command;
-use exb_model::event::Event;
 use exb_model::memory::NoMemory;
 use exb_model::port::PortId;
 use exb_model::setup::Setup;
@@ -67,15 +62,14 @@ impl Control {
     ghost use Rattle.exb_changing.specs.Counting.{planned};
     ghost use Rattle.exb_control.specs.ActiveConfigs.{IsActiveConfig, held_in};
     ghost use Rattle.exb_changing.specs.Machine.{ordered, answered, beats};
-    ghost use Rattle.exb_control.specs.Boxes.{IsMoved, IsStill, HasCome, HasTicked};
+    ghost use Rattle.exb_control.specs.Boxes.{IsMoved, IsStill};
     ghost use Rattle.exb_control.specs.Spelled.{CanBeSpelled};
     ghost use Rattle.exb_control.specs.Controls.{state_of, decide_of, first_of, is_settled, announced, channel_at_trunk};
 
-    /// The control of a setup: nothing was heard, given or learned yet.
+    /// The control of a setup: nothing was heard or given yet.
     pub fn new(alloc: Global, setup: &Setup) -> Result<Control, NoMemory>
         requires { IsValid setup.now }
         ensures state { IfOk result (λ made. state_of made ≡ first_of setup.now) }
-        ensures learned { IfOk result (λ made. table_of made.learned ≡ empty_table setup.now.ageing) }
         ensures shape { IfOk result (λ made. made.active.shape ≡ shape_of setup.now) }
         ensures limits { IfOk result (λ made. made.active.limits ≡ limits_of setup.now) }
         ensures failed { IfOk result (λ made. made.failed ≡ false) }
@@ -93,7 +87,6 @@ impl Control {
             active,
             place: 0,
             sessions,
-            learned: Learned::new(alloc, setup.ageing),
         };
         Ok(Control {
             core,
@@ -127,8 +120,7 @@ impl Control {
             &self.heard,
             &mut self.queue,
             &mut self.core,
-            &mut out.events,
-            &mut out.asks,
+            out,
         );
         self.given = given;
         if done.is_err() {
@@ -163,13 +155,7 @@ impl Control {
             return Ok(());
         }
         self.heard.note(extender);
-        let done = wake(
-            &self.heard,
-            &mut self.queue,
-            &mut self.core,
-            &mut out.events,
-            &mut out.asks,
-        );
+        let done = wake(&self.heard, &mut self.queue, &mut self.core, out);
         if done.is_err() {
             self.failed = true;
             return Err(ControlFault::Memory);
@@ -205,8 +191,7 @@ impl Control {
             &self.heard,
             &mut self.queue,
             &mut self.core,
-            &mut out.events,
-            &mut out.asks,
+            out,
         );
         match done {
             Ok(taken) => Ok(taken),
@@ -215,59 +200,6 @@ impl Control {
                 Err(ControlFault::Memory)
             }
         }
-    }
-
-    /// A frame comes to an external port of the bridge. The answer is whether it is relayed, by what is learned before it, and then
-    /// learned from, or else ignored.
-    pub fn frame(
-        &mut self,
-        port: PortId,
-        frame: &[u8],
-        out: &mut Outbox,
-    ) -> Result<bool, ControlFault>
-        requires { is_external self.old.active.shape port ≡ true }
-        ensures ok { IfOk result (λ relayed. HasCome port frame.now relayed self.old self.new out.new) }
-        ensures failed { (result ≡ Err ControlFault.Failed) ↔ (self.old.failed ≡ true) }
-        ensures memory { OnErr result (self.new.failed ≡ true) }
-        ensures still { self.old.failed ≡ true → IsStill self.old self.new out.new }
-        ensures shape { self.new.active.shape ≡ self.old.active.shape }
-        ensures limits { self.new.active.limits ≡ self.old.active.limits }
-    {
-        out.empty();
-        if self.failed {
-            return Err(ControlFault::Failed);
-        }
-        let core = &mut self.core;
-        match arrive(&core.active, &mut core.learned, port, frame, out) {
-            Ok(relayed) => Ok(relayed),
-            Err(_) => {
-                self.failed = true;
-                Err(ControlFault::Memory)
-            }
-        }
-    }
-
-    /// The clock goes on.
-    #[tactic(auto, unfolding(exb_learn::specs::Entries::table_of))]
-    pub fn tick(&mut self, seconds: u32, out: &mut Outbox) -> Result<(), ControlFault>
-        requires { (table_of self.old.learned).clock + seconds < 2 ^ 63 }
-        ensures ok { OnOk result (HasTicked seconds self.old self.new out.new) }
-        ensures failed { (result ≡ Err ControlFault.Failed) ↔ (self.old.failed ≡ true) }
-        ensures memory { OnErr result (self.new.failed ≡ true) }
-        ensures still { self.old.failed ≡ true → IsStill self.old self.new out.new }
-        ensures shape { self.new.active.shape ≡ self.old.active.shape }
-        ensures limits { self.new.active.limits ≡ self.old.active.limits }
-    {
-        out.empty();
-        if self.failed {
-            return Err(ControlFault::Failed);
-        }
-        if out.events.push(Event::Tick { seconds }).is_err() {
-            self.failed = true;
-            return Err(ControlFault::Memory);
-        }
-        self.core.learned.tick(seconds);
-        Ok(())
     }
 
     /// A beat: the outstanding request goes out again at each sixteenth beat without its answer.
@@ -327,19 +259,19 @@ impl Control {
         planned(&self.core, &self.queue, &self.heard)
     }
 
+    /// The configuration in force.
+    #[inline(always)]
+    pub fn active(&self) -> &ActiveConfig
+        ensures { result.now ≡ self.now.active }
+    {
+        &self.core.active
+    }
+
     /// The tree of extenders.
     pub fn tree(&self) -> &Tree
         ensures { result.now ≡ self.now.active.shape }
     {
         self.core.active.tree()
-    }
-
-    /// The seconds that have passed.
-    #[tactic(auto, unfolding(exb_learn::specs::Entries::table_of))]
-    pub fn clock(&self) -> u64
-        ensures { result ≡ (table_of self.now.learned).clock }
-    {
-        self.core.learned.clock()
     }
 
     /// How many commands were given.

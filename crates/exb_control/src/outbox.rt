@@ -1,23 +1,19 @@
 //! What a call of the control gives.
 ghost use Rattle.std.specs.Prelude.{◌≡◌, []};
-ghost use Rattle.exb_control.specs.Boxes.{IsQuiet};
 
-use arrayvec::ArrayVec;
 use exb_changing::Asked;
 use exb_model::event::Event;
 use exb_model::list::List;
-use exb_relay::{Ingress, SendTo};
+use exb_model::port::PortId;
 use std::alloc::Global;
 
-/// What happened in a call, the messages that go out to extenders, and what is sent for a frame. Each call fills it
-/// anew. Of a frame nothing is told here: whoever calls has its bytes, and tells what the call answers.
+/// What happened in a call, the messages that go out to extenders, and the ports that commands made go down, of which what was
+/// learned at them is to be forgotten. Each call fills it anew.
 #[derive(Drop)]
 pub struct Outbox {
     pub events: List<Event>,
     pub asks: List<Asked>,
-    pub sends: ArrayVec<SendTo, 256>,
-    /// What became of the frame at its port.
-    pub ingress: Ingress,
+    pub downs: List<PortId>,
 }
 
 impl Outbox {
@@ -25,13 +21,12 @@ impl Outbox {
     pub fn new(alloc: Global) -> Outbox
         ensures events { result.events ≡ [] }
         ensures asks { result.asks ≡ [] }
-        ensures quiet { IsQuiet result }
+        ensures downs { result.downs ≡ [] }
     {
         Outbox {
             events: List::new(alloc),
             asks: List::new(alloc),
-            sends: ArrayVec::new(),
-            ingress: Ingress::Dropped,
+            downs: List::new(alloc),
         }
     }
 
@@ -39,11 +34,10 @@ impl Outbox {
     pub(crate) fn empty(&mut self)
         ensures events { self.new.events ≡ [] }
         ensures asks { self.new.asks ≡ [] }
-        ensures quiet { IsQuiet self.new }
+        ensures downs { self.new.downs ≡ [] }
     {
         self.events.clear();
         self.asks.clear();
-        self.sends.clear();
-        self.ingress = Ingress::Dropped;
+        self.downs.clear();
     }
 }

@@ -1,7 +1,6 @@
 //! Whose turn it is: jobs are started until a request is outstanding, an opening waits, or none is left.
 ghost use Rattle.std.specs.Prelude.{◌≡◌, ◌++◌, ◌∷◌, [], ◌+◌, ◌*◌, ◌<◌, ◌^◌, ℕ, OnOk, IfOk, true, false, length};
 ghost use Rattle.exb_model.specs.Setup.{NamesExternal};
-ghost use Rattle.exb_learn.specs.Entries.{table_of};
 ghost use Rattle.exb_csp.specs.Sessions.Asking.{took};
 ghost use Rattle.exb_changing.specs.Fitting.{AreFit};
 ghost use Rattle.exb_changing.specs.Machine.{goes_on, wakes, answered};
@@ -10,14 +9,13 @@ ghost use Rattle.exb_control.specs.Steps.{Front, askers_of, rest_of, state_in, r
 ghost use Rattle.exb_control.specs.Soundness.{MayAsk, IsSteady, AsksOrRests};
 
 use crate::announcements::Heard;
+use crate::outbox::Outbox;
 use crate::queue::Queue;
 use crate::stage::Stage;
 use crate::working::{Core, is_at_rest, proceed, start};
-use exb_changing::{Asked, Job};
+use exb_changing::Job;
 use exb_csp::{Message, Taken};
 use exb_model::command::Command;
-use exb_model::event::Event;
-use exb_model::list::List;
 use exb_model::memory::NoMemory;
 
 /// Starts the next job; false where the jobs that follow have to wait.
@@ -25,18 +23,17 @@ fn turn(
     heard: &Heard,
     queue: &mut Queue<Job>,
     core: &mut Core,
-    events: &mut List<Event>,
-    asks: &mut List<Asked>,
+    out: &mut Outbox,
 ) -> Result<bool, NoMemory>
     requires stage { core.old.active.stage ≡ Stage.AtRest }
     requires fit { AreFit core.old.active.shape queue.old }
     requires may { MayAsk (2 ^ 21 * length queue.old) (askers_of core.old.sessions) }
     ensures ends { IfOk result (λ goes. goes ≡ false → (f : Front) → f.heard ≡ heard.now.heard →
-        reached (state_in (with_queue queue.new f) core.new) events.new asks.new (table_of core.new.learned)
-        ≡ reached_by (goes_on (decide_of core.old.active) queue.old (rest_of f core.old)) events.old asks.old (table_of core.old.learned)) }
+        reached (state_in (with_queue queue.new f) core.new) out.new.events out.new.asks out.new.downs
+        ≡ reached_by (goes_on (decide_of core.old.active) queue.old (rest_of f core.old)) out.old.events out.old.asks out.old.downs) }
     ensures goes { IfOk result (λ goes. goes ≡ true → (f : Front) → f.heard ≡ heard.now.heard →
-        reached_by (goes_on (decide_of core.old.active) queue.new (rest_of f core.new)) events.new asks.new (table_of core.new.learned)
-        ≡ reached_by (goes_on (decide_of core.old.active) queue.old (rest_of f core.old)) events.old asks.old (table_of core.old.learned)) }
+        reached_by (goes_on (decide_of core.old.active) queue.new (rest_of f core.new)) out.new.events out.new.asks out.new.downs
+        ≡ reached_by (goes_on (decide_of core.old.active) queue.old (rest_of f core.old)) out.old.events out.old.asks out.old.downs) }
     ensures steady { OnOk result ((k : ℕ) → MayAsk (2 ^ 21 * length queue.old + k) (askers_of core.old.sessions) →
         IsSteady (2 ^ 21 * length queue.new + k) (work_at core.new.active.stage core.new.place) (askers_of core.new.sessions)) }
     ensures rests { OnOk result (AsksOrRests core.new) }
@@ -52,7 +49,7 @@ fn turn(
     if heard.waits(&job) {
         return Ok(false);
     }
-    start(core, &job, events, asks)?;
+    start(core, &job, out)?;
     queue.remove_first();
     Ok(is_at_rest(&core.active))
 }
@@ -62,15 +59,14 @@ pub(crate) fn go_on(
     heard: &Heard,
     queue: &mut Queue<Job>,
     core: &mut Core,
-    events: &mut List<Event>,
-    asks: &mut List<Asked>,
+    out: &mut Outbox,
 ) -> Result<(), NoMemory>
     requires stage { core.old.active.stage ≡ Stage.AtRest }
     requires fit { AreFit core.old.active.shape queue.old }
     requires may { MayAsk (2 ^ 21 * length queue.old) (askers_of core.old.sessions) }
     ensures reached { OnOk result ((f : Front) → f.heard ≡ heard.now.heard →
-        reached (state_in (with_queue queue.new f) core.new) events.new asks.new (table_of core.new.learned)
-        ≡ reached_by (goes_on (decide_of core.old.active) queue.old (rest_of f core.old)) events.old asks.old (table_of core.old.learned)) }
+        reached (state_in (with_queue queue.new f) core.new) out.new.events out.new.asks out.new.downs
+        ≡ reached_by (goes_on (decide_of core.old.active) queue.old (rest_of f core.old)) out.old.events out.old.asks out.old.downs) }
     ensures steady { OnOk result ((k : ℕ) → MayAsk (2 ^ 21 * length queue.old + k) (askers_of core.old.sessions) →
         IsSteady (2 ^ 21 * length queue.new + k) (work_at core.new.active.stage core.new.place) (askers_of core.new.sessions)) }
     ensures rests { OnOk result (AsksOrRests core.new) }
@@ -79,7 +75,7 @@ pub(crate) fn go_on(
     ensures limits { core.new.active.limits ≡ core.old.active.limits }
 {
     'turns: loop {
-        if !turn(heard, queue, core, events, asks)? {
+        if !turn(heard, queue, core, out)? {
             return Ok(());
         }
     }
@@ -90,15 +86,14 @@ pub(crate) fn wake(
     heard: &Heard,
     queue: &mut Queue<Job>,
     core: &mut Core,
-    events: &mut List<Event>,
-    asks: &mut List<Asked>,
+    out: &mut Outbox,
 ) -> Result<(), NoMemory>
     requires rests { AsksOrRests core.old }
     requires fit { AreFit core.old.active.shape queue.old }
     requires steady { IsSteady (2 ^ 21 * length queue.old) (work_at core.old.active.stage core.old.place) (askers_of core.old.sessions) }
     ensures reached { OnOk result ((f : Front) → f.heard ≡ heard.now.heard → f.queue ≡ queue.old →
-        reached (state_in (with_queue queue.new f) core.new) events.new asks.new (table_of core.new.learned)
-        ≡ reached_by (wakes (decide_of core.old.active) (state_in f core.old)) events.old asks.old (table_of core.old.learned)) }
+        reached (state_in (with_queue queue.new f) core.new) out.new.events out.new.asks out.new.downs
+        ≡ reached_by (wakes (decide_of core.old.active) (state_in f core.old)) out.old.events out.old.asks out.old.downs) }
     ensures steady { OnOk result ((k : ℕ) → IsSteady (2 ^ 21 * length queue.old + k) (work_at core.old.active.stage core.old.place) (askers_of core.old.sessions) →
         IsSteady (2 ^ 21 * length queue.new + k) (work_at core.new.active.stage core.new.place) (askers_of core.new.sessions)) }
     ensures rests { OnOk result (AsksOrRests core.new) }
@@ -107,7 +102,7 @@ pub(crate) fn wake(
     ensures limits { core.new.active.limits ≡ core.old.active.limits }
 {
     if is_at_rest(&core.active) {
-        go_on(heard, queue, core, events, asks)
+        go_on(heard, queue, core, out)
     } else {
         Ok(())
     }
@@ -120,16 +115,15 @@ pub(crate) fn give(
     heard: &Heard,
     queue: &mut Queue<Job>,
     core: &mut Core,
-    events: &mut List<Event>,
-    asks: &mut List<Asked>,
+    out: &mut Outbox,
 ) -> Result<(), NoMemory>
     requires rests { AsksOrRests core.old }
     requires names { NamesExternal core.old.active.shape command.now }
     requires fit { AreFit core.old.active.shape queue.old }
     requires steady { IsSteady (2 ^ 21 * (length queue.old + 1)) (work_at core.old.active.stage core.old.place) (askers_of core.old.sessions) }
     ensures reached { OnOk result ((f : Front) → f.heard ≡ heard.now.heard → f.queue ≡ queue.old ++ Job.Ordered number command.now ∷ [] →
-        reached (state_in (with_queue queue.new f) core.new) events.new asks.new (table_of core.new.learned)
-        ≡ reached_by (wakes (decide_of core.old.active) (state_in f core.old)) events.old asks.old (table_of core.old.learned)) }
+        reached (state_in (with_queue queue.new f) core.new) out.new.events out.new.asks out.new.downs
+        ≡ reached_by (wakes (decide_of core.old.active) (state_in f core.old)) out.old.events out.old.asks out.old.downs) }
     ensures steady { OnOk result ((k : ℕ) → IsSteady (2 ^ 21 * (length queue.old + 1) + k) (work_at core.old.active.stage core.old.place) (askers_of core.old.sessions) →
         IsSteady (2 ^ 21 * length queue.new + k) (work_at core.new.active.stage core.new.place) (askers_of core.new.sessions)) }
     ensures rests { OnOk result (AsksOrRests core.new) }
@@ -141,7 +135,7 @@ pub(crate) fn give(
         number,
         command: *command,
     })?;
-    wake(heard, queue, core, events, asks)
+    wake(heard, queue, core, out)
 }
 
 /// A message comes from an extender. If it is the answer that is waited for, the change at work goes on.
@@ -151,8 +145,7 @@ pub(crate) fn take(
     heard: &Heard,
     queue: &mut Queue<Job>,
     core: &mut Core,
-    events: &mut List<Event>,
-    asks: &mut List<Asked>,
+    out: &mut Outbox,
 ) -> Result<Taken, NoMemory>
     requires known { extender < 65 }
     requires rests { AsksOrRests core.old }
@@ -160,8 +153,8 @@ pub(crate) fn take(
     requires steady { IsSteady (2 ^ 21 * length queue.old) (work_at core.old.active.stage core.old.place) (askers_of core.old.sessions) }
     ensures taken { IfOk result (λ taken. taken ≡ (took (askers_of core.old.sessions extender) message.now).1) }
     ensures reached { OnOk result ((f : Front) → f.heard ≡ heard.now.heard → f.queue ≡ queue.old →
-        reached (state_in (with_queue queue.new f) core.new) events.new asks.new (table_of core.new.learned)
-        ≡ reached_by (answered (decide_of core.old.active) extender message.now (state_in f core.old)) events.old asks.old (table_of core.old.learned)) }
+        reached (state_in (with_queue queue.new f) core.new) out.new.events out.new.asks out.new.downs
+        ≡ reached_by (answered (decide_of core.old.active) extender message.now (state_in f core.old)) out.old.events out.old.asks out.old.downs) }
     ensures steady { OnOk result ((k : ℕ) → IsSteady (2 ^ 21 * length queue.old + k) (work_at core.old.active.stage core.old.place) (askers_of core.old.sessions) →
         IsSteady (2 ^ 21 * length queue.new + k) (work_at core.new.active.stage core.new.place) (askers_of core.new.sessions)) }
     ensures rests { OnOk result (AsksOrRests core.new) }
@@ -173,8 +166,8 @@ pub(crate) fn take(
     if let Taken::Answer(_) = taken {
         core.active.is_active_config();
         core.place += 1;
-        proceed(core, events, asks)?;
-        wake(heard, queue, core, events, asks)?;
+        proceed(core, out)?;
+        wake(heard, queue, core, out)?;
     }
     Ok(taken)
 }

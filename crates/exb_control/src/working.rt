@@ -1,33 +1,32 @@
 //! How changes are carried out: one request at a time.
 ghost use Rattle.std.specs.Prelude.{◌≡◌, ◌+◌, ◌<◌, ◌^◌, ◌++◌, [], true, false, ℕ, List, OnOk, IfOk, Some, drop, is_some, length};
 ghost use Rattle.std.specs.Option.{option_copied};
-ghost use Rattle.exb_learn.specs.Entries.{table_of};
 ghost use Rattle.exb_control.specs.ActiveConfigs.{IsPrepared, IsInForce, bridge_in, held_in};
 ghost use Rattle.exb_changing.specs.Fitting.{Fits};
 ghost use Rattle.exb_changing.specs.Machine.{commanded_down, committed, refused, downs_of, starts};
-ghost use Rattle.exb_control.specs.Controls.{work_at, forgotten_all, decide_of};
+ghost use Rattle.exb_control.specs.Controls.{work_at, decide_of};
 ghost use Rattle.exb_control.specs.Steps.{Front, is_at_rest, advances, after_beat, messages_at_beat, rest_of, state_in, askers_of, commits_at, left_at, reached, reached_by, asks_in, asks_after, ask_at, after_ask, messages_for};
 ghost use Rattle.exb_control.specs.Soundness.{AreKnown, MayAsk, CanAsk, IsSteady, AsksOrRests};
 
 use crate::active_config::ActiveConfig;
+use crate::outbox::Outbox;
 use crate::sessions::Sessions;
 use crate::stage::Stage;
 use exb_changing::{Asked, Change, Job};
 use exb_csp::AskAt;
-use exb_learn::Learned;
 use exb_model::command::Command;
 use exb_model::event::{Cause, Event};
 use exb_model::list::List;
 use exb_model::memory::NoMemory;
+use exb_model::port::PortId;
 
-/// The configuration with the change at work, the place of the outstanding request among those of its phase,
-/// the sessions, and what is learned.
+/// The configuration with the change at work, the place of the outstanding request among those of its phase, and
+/// the sessions.
 #[derive(Drop)]
 pub(crate) struct Core {
     pub(crate) active: ActiveConfig,
     pub(crate) place: usize,
     pub(crate) sessions: Sessions,
-    pub(crate) learned: Learned,
 }
 
 /// The requests of the phase.
@@ -98,26 +97,28 @@ fn ask_at(
     }
 }
 
-/// Forgets what was learned at a port that a command makes go down.
-fn forget_down(command: &Command, learned: &mut Learned)
-    ensures { table_of learned.new ≡ forgotten_all (commanded_down command.now) (table_of learned.old) }
+/// The port that a command makes go down is told.
+fn tell_down(command: &Command, downs: &mut List<PortId>) -> Result<(), NoMemory>
+    ensures { OnOk result (downs.new ≡ downs.old ++ commanded_down command.now) }
 {
-    if let Command::Down { port } = command {
-        learned.forget(*port);
+    match command {
+        Command::Down { port } => downs.push(*port),
+        _ => Ok(()),
     }
 }
 
-/// A job takes effect: its event, and what is forgotten.
-fn tell_commit(job: &Job, learned: &mut Learned, events: &mut List<Event>) -> Result<(), NoMemory>
-    ensures events { OnOk result (events.new ≡ events.old ++ committed job.now) }
-    ensures table { OnOk result (table_of learned.new ≡ forgotten_all (downs_of job.now) (table_of learned.old)) }
+/// A job takes effect: its event, and the port that it makes go down.
+fn tell_commit(job: &Job, out: &mut Outbox) -> Result<(), NoMemory>
+    ensures events { OnOk result (out.new.events ≡ out.old.events ++ committed job.now) }
+    ensures asks { out.new.asks ≡ out.old.asks }
+    ensures downs { OnOk result (out.new.downs ≡ out.old.downs ++ downs_of job.now) }
 {
     match job {
         Job::Opening { extender: _ } => Ok(()),
-        Job::AutomaticUp { port } => events.push(Event::Up { port: *port }),
+        Job::AutomaticUp { port } => out.events.push(Event::Up { port: *port }),
         Job::Ordered { number, command } => {
-            forget_down(command, learned);
-            events.push(Event::Commit { number: *number })
+            tell_down(command, &mut out.downs)?;
+            out.events.push(Event::Commit { number: *number })
         }
     }
 }
@@ -136,13 +137,14 @@ fn tell_refusal(job: &Job, cause: Cause, events: &mut List<Event>) -> Result<(),
     }
 }
 
-/// The change at work takes effect: its event, and what is forgotten.
-fn tell(stage: &Stage, learned: &mut Learned, events: &mut List<Event>) -> Result<(), NoMemory>
-    ensures events { OnOk result ((j : Job) (x : Change) → stage.now ≡ Stage.InForce j x → events.new ≡ events.old ++ committed j) }
-    ensures table { OnOk result ((j : Job) (x : Change) → stage.now ≡ Stage.InForce j x → table_of learned.new ≡ forgotten_all (downs_of j) (table_of learned.old)) }
+/// The change at work takes effect: its event, and the port that it makes go down.
+fn tell(stage: &Stage, out: &mut Outbox) -> Result<(), NoMemory>
+    ensures events { OnOk result ((j : Job) (x : Change) → stage.now ≡ Stage.InForce j x → out.new.events ≡ out.old.events ++ committed j) }
+    ensures asks { out.new.asks ≡ out.old.asks }
+    ensures downs { OnOk result ((j : Job) (x : Change) → stage.now ≡ Stage.InForce j x → out.new.downs ≡ out.old.downs ++ downs_of j) }
 {
     match stage {
-        Stage::InForce { job, change: _ } => tell_commit(job, learned, events),
+        Stage::InForce { job, change: _ } => tell_commit(job, out),
         _ => Ok(()),
     }
 }
@@ -152,9 +154,9 @@ fn clean(core: &mut Core, asks: &mut List<Asked>) -> Result<(), NoMemory>
     requires stage { IsInForce core.old.active.stage }
     requires known { AreKnown (asks_in core.old.active.stage) }
     requires may { MayAsk (length (asks_in core.old.active.stage)) (askers_of core.old.sessions) }
-    ensures reached { OnOk result ((f : Front) (events : List Event) →
-        reached (state_in f core.new) events asks.new (table_of core.new.learned)
-        ≡ reached_by (advances core.old.active.stage (asks_in core.old.active.stage) (rest_of f core.old)) events asks.old (table_of core.old.learned)) }
+    ensures reached { OnOk result ((f : Front) (events : List Event) (downs : List ℕ) →
+        reached (state_in f core.new) events asks.new downs
+        ≡ reached_by (advances core.old.active.stage (asks_in core.old.active.stage) (rest_of f core.old)) events asks.old downs) }
     ensures rests { OnOk result (AsksOrRests core.new) }
     ensures shape { core.new.active.shape ≡ core.old.active.shape }
     ensures limits { core.new.active.limits ≡ core.old.active.limits }
@@ -168,85 +170,72 @@ fn clean(core: &mut Core, asks: &mut List<Asked>) -> Result<(), NoMemory>
 }
 
 /// The prepared change takes effect, and its cleanup begins.
-fn commit(core: &mut Core, events: &mut List<Event>, asks: &mut List<Asked>) -> Result<(), NoMemory>
+fn commit(core: &mut Core, out: &mut Outbox) -> Result<(), NoMemory>
     requires stage { IsPrepared core.old.active.stage }
     requires known { AreKnown (asks_after core.old.active.stage) }
     requires may { MayAsk (length (asks_after core.old.active.stage)) (askers_of core.old.sessions) }
     ensures reached { OnOk result ((f : Front) →
-        reached (state_in f core.new) events.new asks.new (table_of core.new.learned)
-        ≡ reached_by (commits_at core.old.active.stage (rest_of f core.old)) events.old asks.old (table_of core.old.learned)) }
+        reached (state_in f core.new) out.new.events out.new.asks out.new.downs
+        ≡ reached_by (commits_at core.old.active.stage (rest_of f core.old)) out.old.events out.old.asks out.old.downs) }
     ensures rests { OnOk result (AsksOrRests core.new) }
     ensures shape { core.new.active.shape ≡ core.old.active.shape }
     ensures limits { core.new.active.limits ≡ core.old.active.limits }
 {
     core.active.commit()?;
-    tell(core.active.stage(), &mut core.learned, events)?;
-    clean(core, asks)
+    tell(core.active.stage(), out)?;
+    clean(core, &mut out.asks)
 }
 
 /// The phase ends: a prepared change takes effect, and one in force is done.
-fn end_phase(
-    core: &mut Core,
-    events: &mut List<Event>,
-    asks: &mut List<Asked>,
-) -> Result<(), NoMemory>
+fn end_phase(core: &mut Core, out: &mut Outbox) -> Result<(), NoMemory>
     requires busy { is_at_rest core.old.active.stage ≡ false }
     requires known { AreKnown (asks_after core.old.active.stage) }
     requires may { MayAsk (length (asks_after core.old.active.stage)) (askers_of core.old.sessions) }
     ensures reached { OnOk result ((f : Front) →
-        reached (state_in f core.new) events.new asks.new (table_of core.new.learned)
-        ≡ reached_by (advances core.old.active.stage [] (rest_of f core.old)) events.old asks.old (table_of core.old.learned)) }
+        reached (state_in f core.new) out.new.events out.new.asks out.new.downs
+        ≡ reached_by (advances core.old.active.stage [] (rest_of f core.old)) out.old.events out.old.asks out.old.downs) }
     ensures rests { OnOk result (AsksOrRests core.new) }
     ensures shape { core.new.active.shape ≡ core.old.active.shape }
     ensures limits { core.new.active.limits ≡ core.old.active.limits }
 {
     if is_prepared(&core.active) {
-        return commit(core, events, asks);
+        return commit(core, out);
     }
     core.active.finish();
     Ok(())
 }
 
 /// The request at the place goes out; where there is none, the phase ends.
-pub(crate) fn proceed(
-    core: &mut Core,
-    events: &mut List<Event>,
-    asks: &mut List<Asked>,
-) -> Result<(), NoMemory>
+pub(crate) fn proceed(core: &mut Core, out: &mut Outbox) -> Result<(), NoMemory>
     requires busy { is_at_rest core.old.active.stage ≡ false }
     requires known { AreKnown (drop core.old.place (asks_in core.old.active.stage)) }
     requires after { AreKnown (asks_after core.old.active.stage) }
     requires may { MayAsk (left_at core.old.active.stage core.old.place) (askers_of core.old.sessions) }
     ensures reached { OnOk result ((f : Front) →
-        reached (state_in f core.new) events.new asks.new (table_of core.new.learned)
+        reached (state_in f core.new) out.new.events out.new.asks out.new.downs
         ≡ reached_by (advances core.old.active.stage (drop core.old.place (asks_in core.old.active.stage)) (rest_of f core.old))
-        events.old asks.old (table_of core.old.learned)) }
+        out.old.events out.old.asks out.old.downs) }
     ensures steady { OnOk result ((k : ℕ) → MayAsk (left_at core.old.active.stage core.old.place + k) (askers_of core.old.sessions) →
         IsSteady k (work_at core.new.active.stage core.new.place) (askers_of core.new.sessions)) }
     ensures rests { OnOk result (AsksOrRests core.new) }
     ensures shape { core.new.active.shape ≡ core.old.active.shape }
     ensures limits { core.new.active.limits ≡ core.old.active.limits }
 {
-    if ask_at(&core.active, core.place, &mut core.sessions, asks)? {
+    if ask_at(&core.active, core.place, &mut core.sessions, &mut out.asks)? {
         return Ok(());
     }
-    end_phase(core, events, asks)
+    end_phase(core, out)
 }
 
 /// A job's turn has come: it is refused, or its change begins.
-pub(crate) fn start(
-    core: &mut Core,
-    job: &Job,
-    events: &mut List<Event>,
-    asks: &mut List<Asked>,
-) -> Result<(), NoMemory>
+pub(crate) fn start(core: &mut Core, job: &Job, out: &mut Outbox) -> Result<(), NoMemory>
     requires stage { core.old.active.stage ≡ Stage.AtRest }
     requires fits { Fits core.old.active.shape job.now }
     requires may { MayAsk (2 ^ 21) (askers_of core.old.sessions) }
     ensures reached { OnOk result ((f : Front) →
-        reached (state_in f core.new) events.new asks.new (table_of core.new.learned)
+        reached (state_in f core.new) out.new.events out.new.asks out.new.downs
         ≡ reached_by (starts job.now (decide_of core.old.active (bridge_in core.old.active) (held_in core.old.active) job.now) (rest_of f core.old))
-        events.old asks.old (table_of core.old.learned)) }
+        out.old.events out.old.asks out.old.downs) }
     ensures steady { OnOk result ((k : ℕ) → MayAsk (2 ^ 21 + k) (askers_of core.old.sessions) →
         IsSteady k (work_at core.new.active.stage core.new.place) (askers_of core.new.sessions)) }
     ensures rests { OnOk result (AsksOrRests core.new) }
@@ -254,11 +243,11 @@ pub(crate) fn start(
     ensures limits { core.new.active.limits ≡ core.old.active.limits }
 {
     match core.active.start(job)? {
-        Some(cause) => tell_refusal(job, cause, events),
+        Some(cause) => tell_refusal(job, cause, &mut out.events),
         None => {
             core.active.is_active_config();
             core.place = 0;
-            proceed(core, events, asks)
+            proceed(core, out)
         }
     }
 }

@@ -29,12 +29,12 @@ same_world : (s s' : State) (u u' : Table) (near near' : ℕ → Ecp) (far far' 
     s ≡ s' → u ≡ u' → near ≡ near' → far ≡ far' → down ≡ down' → up ≡ up' → next ≡ next' → world_from s u near far down up next ≡ world_from s' u' near' far' down' up' next'
 same_world s s' u u' near near' far far' down down' up up' next next' a b c d e f g = rw (a, b, c, d, e, f, g) refl
 
-pub begins : (x : Setup) (c : Whole) → c.beats ≡ 0 → state_of c.control ≡ first_of x → table_of c.control.learned ≡ empty_table x.ageing → near_of c.near ≡ alike new_state →
+pub begins : (x : Setup) (c : Whole) → c.beats ≡ 0 → state_of c.control ≡ first_of x → table_of c.learned ≡ empty_table x.ageing → near_of c.near ≡ alike new_state →
     far_of c.far ≡ first_far (shape_of x) → words_of c.down ≡ alike [] → words_of c.up ≡ alike [] → next_of c.next ≡ alike 1 →
     world_in c ≡ first_world (shape_of x) (limits_of x) (start_of x) x.ageing
 begins x c beats control table near far down up next =
     ap (λ (n : ℕ). record (world_in c) { beats = n }) beats
-    ∙ same_world (state_of c.control) (first_of x) (table_of c.control.learned) (empty_table x.ageing) (near_of c.near) (alike new_state) (far_of c.far) (first_far (shape_of x))
+    ∙ same_world (state_of c.control) (first_of x) (table_of c.learned) (empty_table x.ageing) (near_of c.near) (alike new_state) (far_of c.far) (first_far (shape_of x))
     (words_of c.down) (alike []) (words_of c.up) (alike []) (next_of c.next) (alike 1) control table near far down up next
 
 -- an extender at power-on has its ports

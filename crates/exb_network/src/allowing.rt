@@ -86,7 +86,7 @@ fn stays_low(clock: u64, seconds: u32) -> bool
 fn may_tick(core: &Core, seconds: u32) -> bool
     ensures { IsTrue result ↔ ((1 ≤ seconds) × ((world_in core.now).table.clock + seconds < 2 ^ 63)) }
 {
-    seconds >= 1 && stays_low(core.bridge.control.clock(), seconds)
+    seconds >= 1 && stays_low(core.bridge.clock(), seconds)
 }
 
 /// Whether a command may be given.

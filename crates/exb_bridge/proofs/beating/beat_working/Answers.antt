@@ -12,4 +12,4 @@ returns g c =
     let fine = sym c.is_err.ensures.value ∙ c.if-is_err.false in
     let moved = when_ok _ fine c.beat.ensures.ok in
     let m = beats (world_in core).control in
-    on_ok_weaker c.follow.result (λ done. done m (world_in core) (moved_is m core c.beat.new.self c.beat.new.out moved) moved.events moved.asks) c.follow.ensures
+    on_ok_weaker c.follow.result (λ done. done m (world_in core) (moved_is m core c.beat.new.self c.beat.new.out moved) moved.events moved.asks moved.downs) c.follow.ensures

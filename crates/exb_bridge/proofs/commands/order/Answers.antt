@@ -30,4 +30,4 @@ returns-in-Ok g c =
     let core = (whole g.rest c.args.bridge.now) in
     let m = ordered (decide s.tree (limits_in s)) c.args.command.now (world_in core).control in
     let moved = ordered_at s core c.args.command.now c.command.new.self c.command.new.out c.requires.0 c.in-Ok.ensures.ok in
-    on_ok_weaker c.follow.result (λ done. done m (world_in core) (moved_is m core c.command.new.self c.command.new.out moved) moved.events moved.asks) c.follow.ensures
+    on_ok_weaker c.follow.result (λ done. done m (world_in core) (moved_is m core c.command.new.self c.command.new.out moved) moved.events moved.asks moved.downs) c.follow.ensures

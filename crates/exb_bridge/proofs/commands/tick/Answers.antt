@@ -4,6 +4,6 @@ use Rattle.exb_bridge.specs.Worlds.{whole}
 use Rattle.exb_bridge.proofs.Given.{ticked}
 use Rattle.exb_bridge.proofs.commands.tick.Goals as goal
 
-pub returns-in-Ok : goal.returns-in-Ok
-returns-in-Ok g c =
-    ticked c.args.site.now (limits_in c.args.site.now) (whole g.rest c.args.bridge.now) c.tick.new.self c.args.seconds c.tick.new.out c.args.room.now.post.log _ c.in-Ok.ensures.ok c.requires.0 c.in_ok-push.ensures.ok refl refl (record { outs = refl; lines = refl; tracing = refl })
+pub returns : goal.returns
+returns g c =
+    ticked c.args.site.now (limits_in c.args.site.now) (whole g.rest c.args.bridge.now) c.tick.new.self c.args.seconds c.args.room.now.post.log _ c.tick.ensures.table c.requires.0 c.in_ok-push.ensures.ok refl refl (record { outs = refl; lines = refl; tracing = refl })

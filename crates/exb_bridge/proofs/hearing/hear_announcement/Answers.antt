@@ -27,4 +27,4 @@ returns g c =
     let fine = sym c.is_err.ensures.value ∙ c.if-is_err.false in
     let moved = announced_at s core c.args.number c.args.announce.now c.heard.new.self c.heard.new.out c.requires.0 (when_ok _ fine c.heard.ensures.ok) in
     let m = announced (decide s.tree (limits_in s)) s.tree c.args.number c.args.announce.now (world_in core).control in
-    on_ok_weaker c.follow.result (λ done f. done m (world_in core) (moved_is m core c.heard.new.self c.heard.new.out moved) moved.events moved.asks) c.follow.ensures
+    on_ok_weaker c.follow.result (λ done f. done m (world_in core) (moved_is m core c.heard.new.self c.heard.new.out moved) moved.events moved.asks moved.downs) c.follow.ensures

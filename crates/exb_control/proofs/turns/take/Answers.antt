@@ -1,5 +1,4 @@
 use Rattle.std.proofs.Common.{◌≡◌, ℕ, ◌+◌, ◌*◌, ◌^◌, None, length, drop, refl, sym, ap, ◌∙◌, arith}
-use Rattle.exb_learn.specs.Entries.{table_of}
 use Rattle.exb_csp.specs.Sessions.Asking.{AskerState, took}
 use Rattle.exb_changing.specs.Machine.{Moved, with_asker}
 use Rattle.exb_control.specs.Controls.{decide_of}
@@ -68,15 +67,15 @@ returns-in_ok-wake-clause-reached c f same is =
     let d = decide_of old.active in
     let s = with_asker e took_it.0 (state_in f old) in
     let m = advances old.active.stage (drop (old.place + 1) (asks_in old.active.stage)) (record s { work = None }) in
-    let first : reached (state_in f c.proceed.new.core) c.proceed.new.events c.proceed.new.asks (table_of c.proceed.new.core.learned)
-    ≡ reached_by m c.args.events.now c.args.asks.now (table_of old.learned) =
+    let first : reached (state_in f c.proceed.new.core) c.proceed.new.out.events c.proceed.new.out.asks c.proceed.new.out.downs
+    ≡ reached_by m c.args.out.now.events c.args.out.now.asks c.args.out.now.downs =
     c.in_ok-proceed.ensures.reached f
     ∙ ap (λ (a : ℕ → AskerState). reached_by (advances old.active.stage (drop (old.place + 1) (asks_in old.active.stage)) (record (rest_of f old) { askers = a }))
-    c.args.events.now c.args.asks.now (table_of old.learned)) c.take-taken.ensures.state in
+    c.args.out.now.events c.args.out.now.asks c.args.out.now.downs) c.take-taken.ensures.state in
     c.in_ok-wake.ensures.reached f same is
-    ∙ then_wakes d (decide_of c.proceed.new.core.active) m (state_in f c.proceed.new.core) c.args.events.now _ c.args.asks.now _ _ _
+    ∙ then_wakes d (decide_of c.proceed.new.core.active) m (state_in f c.proceed.new.core) c.args.out.now.events _ c.args.out.now.asks _ _ _
     (same_decide old.active c.proceed.new.core.active c.in_ok-proceed.ensures.shape c.in_ok-proceed.ensures.limits) first
-    ∙ ap (λ (n : Moved). reached_by n c.args.events.now c.args.asks.now (table_of old.learned))
+    ∙ ap (λ (n : Moved). reached_by n c.args.out.now.events c.args.out.now.asks c.args.out.now.downs)
     (answered_on d old.active.stage old.place s took_it.1 _ refl (sym c.take-taken.ensures.taken ∙ c.in-Answer.is) able.busy able.on.within)
 
 pub returns-in_default-clause-reached : goal.returns-in_default-clause-reached
@@ -84,7 +83,7 @@ returns-in_default-clause-reached c f same is =
     let old = c.args.core.now in
     let e = c.args.extender in
     let took_it = took (askers_of old.sessions e) c.args.message.now in
-    stayed (decide_of old.active) took_it.1 (with_asker e took_it.0 (state_in f old)) _ c.args.events.now c.args.asks.now (table_of old.learned)
+    stayed (decide_of old.active) took_it.1 (with_asker e took_it.0 (state_in f old)) _ c.args.out.now.events c.args.out.now.asks c.args.out.now.downs
     (λ r is_one. c.in_default.not-Answer r (c.take-taken.ensures.taken ∙ is_one))
     (rw (c.take-taken.ensures.state, is) refl)
 

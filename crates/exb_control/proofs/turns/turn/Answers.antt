@@ -3,7 +3,6 @@ use Rattle.exb_changing.specs.declared.job.Job.{Job}
 use Rattle.exb_control.specs.Queues.{after_first}
 use Rattle.exb_control.specs.Controls.{decide_of}
 use Rattle.exb_changing.specs.Machine.{goes_on}
-use Rattle.exb_learn.specs.Entries.{table_of}
 use Rattle.exb_control.specs.Steps.{rest_of, reached_by}
 use Rattle.exb_control.proofs.NextJobs.{none_waits, first_waits, starts_busy, starts_resting, first_is}
 use Rattle.exb_control.proofs.turns.turn.Goals as goal
@@ -23,9 +22,9 @@ returns-clause-ends c busy f same =
     let old = c.args.core.now in
     let first = first_is c.args.queue.now c.in-Some.job (sym c.first.ensures ∙ c.in-Some.is) in
     rw c.remove_first.ensures
-    (starts_busy (decide_of old.active) c.in-Some.job (after_first c.args.queue.now) f c.args.heard.now.heard old c.start.new.core _ _ _ _ same
+    (starts_busy (decide_of old.active) c.in-Some.job (after_first c.args.queue.now) f c.args.heard.now.heard old c.start.new.core _ _ _ _ _ _ same
     (sym c.waits.ensures ∙ c.if-waits.false) (made.reached f) made.rests (sym c.is_at_rest.ensures ∙ busy)
-    ∙ ap (λ (q : List Job). reached_by (goes_on (decide_of old.active) q (rest_of f old)) c.args.events.now c.args.asks.now (table_of old.learned)) (sym first))
+    ∙ ap (λ (q : List Job). reached_by (goes_on (decide_of old.active) q (rest_of f old)) c.args.out.now.events c.args.out.now.asks c.args.out.now.downs) (sym first))
 
 pub returns-clause-goes : goal.returns-clause-goes
 returns-clause-goes c rest f same =
@@ -33,6 +32,6 @@ returns-clause-goes c rest f same =
     let old = c.args.core.now in
     let first = first_is c.args.queue.now c.in-Some.job (sym c.first.ensures ∙ c.in-Some.is) in
     rw c.remove_first.ensures
-    (starts_resting (decide_of old.active) c.in-Some.job (after_first c.args.queue.now) f c.args.heard.now.heard old c.start.new.core _ _ _ _ same
+    (starts_resting (decide_of old.active) c.in-Some.job (after_first c.args.queue.now) f c.args.heard.now.heard old c.start.new.core _ _ _ _ _ _ same
     (sym c.waits.ensures ∙ c.if-waits.false) (made.reached f) (sym c.is_at_rest.ensures ∙ rest)
-    ∙ ap (λ (q : List Job). reached_by (goes_on (decide_of old.active) q (rest_of f old)) c.args.events.now c.args.asks.now (table_of old.learned)) (sym first))
+    ∙ ap (λ (q : List Job). reached_by (goes_on (decide_of old.active) q (rest_of f old)) c.args.out.now.events c.args.out.now.asks c.args.out.now.downs) (sym first))

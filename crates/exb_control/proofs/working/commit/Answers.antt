@@ -12,6 +12,6 @@ returns-clause-reached c =
     let told = c.in_ok-tell.ensures in
     let here = c.stage.ensures ∙ force in
     on_ok_weaker c.clean.result (λ reached f.
-    reached f c.tell.new.events
-    ∙ effect_from (rest_of f old) ready.job ready.change old.active.stage c.commit.new.self.stage _ _ _ _ c.args.asks.now _ _ ready.is force
-    (c.in_ok-commit.ensures.config ready.job ready.change ready.is) c.in_ok-commit.ensures.held (told.events ready.job ready.change here) (told.table ready.job ready.change here)) c.clean.ensures.reached
+    reached f c.tell.new.out.events c.tell.new.out.downs
+    ∙ effect_from (rest_of f old) ready.job ready.change old.active.stage c.commit.new.self.stage _ _ _ _ c.args.out.now.asks _ _ _ ready.is force
+    (c.in_ok-commit.ensures.config ready.job ready.change ready.is) c.in_ok-commit.ensures.held (told.events ready.job ready.change here) told.asks (told.downs ready.job ready.change here)) c.clean.ensures.reached

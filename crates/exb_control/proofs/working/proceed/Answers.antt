@@ -21,14 +21,14 @@ pub returns-then-branch-clause-reached : goal.returns-then-branch-clause-reached
 returns-then-branch-clause-reached c f =
     let told = c.in_ok-ask_at.ensures in
     let old = c.args.core.now in
-    asked_on (rest_of f old) old.active.stage old.place _ c.args.events.now _ _ _ (sym told.asked ∙ c.if-branch.true) told.sessions told.asks
+    asked_on (rest_of f old) old.active.stage old.place _ c.args.out.now.events _ _ _ (sym told.asked ∙ c.if-branch.true) told.sessions told.asks
 
 pub returns-clause-reached : goal.returns-clause-reached
 returns-clause-reached c =
     let told = c.in_ok-ask_at.ensures in
     let old = c.args.core.now in
     let none = none_asked (drop old.place (asks_in old.active.stage)) _ _ _ _ (sym told.asked ∙ c.if-branch.false) told.sessions told.asks in
-    on_ok_weaker c.end_phase.result (λ reached f. reached f ∙ on_from (rest_of f old) old.active.stage _ _ _ _ c.args.events.now _ none) c.end_phase.ensures.reached
+    on_ok_weaker c.end_phase.result (λ reached f. reached f ∙ on_from (rest_of f old) old.active.stage _ _ _ _ c.args.out.now.events _ none) c.end_phase.ensures.reached
 
 -- any front will do
 front : Front

@@ -1,7 +1,6 @@
 use Rattle.std.proofs.Common.{◌≡◌, ◌+◌, ◌^◌, refl, ap, ◌∙◌, arith}
 use Rattle.std.proofs.lemmas.Result.{on_ok_weaker}
 use Rattle.exb_config.specs.Tables.{bridge_of}
-use Rattle.exb_learn.specs.Entries.{table_of}
 use Rattle.exb_control.specs.declared.stage.Stage.TheVariants.{Prepared}
 use Rattle.exb_control.specs.ActiveConfigs.{bridge_in, held_in, stage_of}
 use Rattle.exb_control.specs.Controls.{decide_of}
@@ -57,7 +56,7 @@ returns-in-None-clause-reached c =
     let o = decide_of old.active (bridge_in old.active) (held_in old.active) c.args.job.now in
     let ready = is_ready o c.in_ok-cause.field-0 made.cause c.in-None.is in
     on_ok_weaker c.proceed.result (λ reached f.
-    reached f ∙ begins (rest_of f old) c.args.job.now o ready.change ready.claimed c.start.new.self.stage _ _ c.args.events.now c.args.asks.now (table_of old.learned) ready.is made.stage (ap bridge_of made.config) made.held)
+    reached f ∙ begins (rest_of f old) c.args.job.now o ready.change ready.claimed c.start.new.self.stage _ _ c.args.out.now.events c.args.out.now.asks c.args.out.now.downs ready.is made.stage (ap bridge_of made.config) made.held)
     c.proceed.ensures.reached
 
 pub returns-in-None-clause-steady : goal.returns-in-None-clause-steady

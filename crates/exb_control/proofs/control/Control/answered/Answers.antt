@@ -1,7 +1,6 @@
 use Rattle.std.proofs.Common.{◌≡◌, ◌+◌, ◌-◌, ◌*◌, ◌^◌, length, true, refl, sym, ap, subst, ◌∙◌, arith}
 use Rattle.exb_model.specs.Tree.{is_extender}
 use Rattle.exb_changing.specs.Machine.{answered}
-use Rattle.exb_control.specs.declared.outbox.Outbox.{Outbox}
 use Rattle.exb_control.specs.Boxes.{IsMoved}
 use Rattle.exb_control.specs.Controls.{Parts, state_of, decide_of}
 use Rattle.exb_changing.specs.Fitting.{AreFit}
@@ -45,13 +44,13 @@ pub returns-in-Ok-clause-ok : goal.returns-in-Ok-clause-ok
 returns-in-Ok-clause-ok c =
     let w = c.self.inside in
     let made = c.in-Ok.ensures in
-    let out : Outbox = record { events = c.take-done.new.events; asks = c.take-done.new.asks; sends = c.empty.new.self.sends; ingress = c.empty.new.self.ingress } in
+    let out = c.take-done.new.out in
     let new = parts_of c.take-done.new.core c.take-done.new.queue w.heard w.given w.failed in
     subst (λ (p : Parts). IsMoved (answered (decide_of p.active) c.args.extender c.args.message.now (state_of p)) p new out) c.self.view_is
-    (moved _ (parts_of w.core w.queue w.heard w.given w.failed) c.take-done.new.core c.take-done.new.queue w.heard w.given w.failed c.empty.new.self.events c.empty.new.self.asks out
-    c.empty.ensures.events c.empty.ensures.asks
+    (moved _ (parts_of w.core w.queue w.heard w.given w.failed) c.take-done.new.core c.take-done.new.queue w.heard w.given w.failed c.empty.new.self.events c.empty.new.self.asks c.empty.new.self.downs out
+    c.empty.ensures.events c.empty.ensures.asks c.empty.ensures.downs
     (made.reached (record { queue = w.queue; heard = w.heard.heard; given = w.given }) refl refl)
-    made.shape made.limits refl (record { sends = c.empty.ensures.quiet.sends; ingress = c.empty.ensures.quiet.ingress }))
+    made.shape made.limits refl)
 
 pub returns-in-Ok-clause-spelled : goal.returns-in-Ok-clause-spelled
 returns-in-Ok-clause-spelled c =

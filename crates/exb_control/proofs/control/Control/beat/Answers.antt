@@ -19,14 +19,13 @@ returns-clause-ok c =
     let w = c.self.inside in
     let made = c.beat.ensures in
     let fine = sym c.is_err.ensures.value ∙ c.if-is_err.false in
-    let out : Outbox = record { events = c.empty.new.self.events; asks = c.beat.new.asks; sends = c.empty.new.self.sends; ingress = c.empty.new.self.ingress } in
+    let out : Outbox = record { events = c.empty.new.self.events; asks = c.beat.new.asks; downs = c.empty.new.self.downs } in
     let new = parts_of c.beat.new.core w.queue w.heard w.given w.failed in
     subst (λ (p : Parts). IsMoved (beats (state_of p)) p new out) c.self.view_is
-    (moved _ (parts_of w.core w.queue w.heard w.given w.failed) c.beat.new.core w.queue w.heard w.given w.failed c.empty.new.self.events c.empty.new.self.asks out
-    c.empty.ensures.events c.empty.ensures.asks
-    (beat_moves w.core c.beat.new.core w.queue w.heard w.given w.failed c.empty.new.self.events c.empty.new.self.asks c.beat.new.asks made.rest made.sessions (when_ok _ fine made.asks))
-    (ap (λ (x : Core). x.active.shape) made.rest) (ap (λ (x : Core). x.active.limits) made.rest) refl
-    (record { sends = c.empty.ensures.quiet.sends; ingress = c.empty.ensures.quiet.ingress }))
+    (moved _ (parts_of w.core w.queue w.heard w.given w.failed) c.beat.new.core w.queue w.heard w.given w.failed c.empty.new.self.events c.empty.new.self.asks c.empty.new.self.downs out
+    c.empty.ensures.events c.empty.ensures.asks c.empty.ensures.downs
+    (beat_moves w.core c.beat.new.core w.queue w.heard w.given w.failed c.empty.new.self.events c.empty.new.self.asks c.beat.new.asks c.empty.new.self.downs made.rest made.sessions (when_ok _ fine made.asks))
+    (ap (λ (x : Core). x.active.shape) made.rest) (ap (λ (x : Core). x.active.limits) made.rest) refl)
 
 pub returns-clause-spelled : goal.returns-clause-spelled
 returns-clause-spelled c =

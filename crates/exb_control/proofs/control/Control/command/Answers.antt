@@ -2,7 +2,6 @@ use Rattle.std.proofs.Common.{◌≡◌, ◌+◌, ◌-◌, ◌*◌, ◌^◌, ◌
 use Rattle.exb_changing.specs.declared.job.Job.TheVariants as job
 use Rattle.exb_changing.specs.Machine.{ordered}
 use Rattle.exb_model.specs.Setup.{NamesExternal}
-use Rattle.exb_control.specs.declared.outbox.Outbox.{Outbox}
 use Rattle.exb_control.specs.Boxes.{IsMoved}
 use Rattle.exb_control.specs.Controls.{Parts, state_of, decide_of}
 use Rattle.exb_changing.specs.Fitting.{AreFit}
@@ -45,13 +44,13 @@ returns-clause-ok c =
     let w = c.self.inside in
     let made = c.give-done.ensures in
     let fine = sym c.is_err.ensures.value ∙ c.if-is_err.false in
-    let out : Outbox = record { events = c.give-done.new.events; asks = c.give-done.new.asks; sends = c.empty.new.self.sends; ingress = c.empty.new.self.ingress } in
+    let out = c.give-done.new.out in
     let new = parts_of c.give-done.new.core c.give-done.new.queue w.heard (w.given + 1) w.failed in
     subst (λ (p : Parts). IsMoved (ordered (decide_of p.active) c.args.command.now (state_of p)) p new out) c.self.view_is
-    (moved _ (parts_of w.core w.queue w.heard w.given w.failed) c.give-done.new.core c.give-done.new.queue w.heard (w.given + 1) w.failed c.empty.new.self.events c.empty.new.self.asks out
-    c.empty.ensures.events c.empty.ensures.asks
+    (moved _ (parts_of w.core w.queue w.heard w.given w.failed) c.give-done.new.core c.give-done.new.queue w.heard (w.given + 1) w.failed c.empty.new.self.events c.empty.new.self.asks c.empty.new.self.downs out
+    c.empty.ensures.events c.empty.ensures.asks c.empty.ensures.downs
     (when_ok _ fine made.reached (record { queue = w.queue ++ job.Ordered (w.given + 1) c.args.command.now ∷ []; heard = w.heard.heard; given = w.given + 1 }) refl refl)
-    made.shape made.limits refl (record { sends = c.empty.ensures.quiet.sends; ingress = c.empty.ensures.quiet.ingress }))
+    made.shape made.limits refl)
 
 pub returns-clause-spelled : goal.returns-clause-spelled
 returns-clause-spelled c =

@@ -1,7 +1,5 @@
 use Rattle.std.proofs.Common.{◌≡◌, ◌+◌, ◌-◌, ◌*◌, ◌^◌, length, true, refl, sym, ap, subst, ◌∙◌, arith}
-use Rattle.exb_learn.specs.Entries.{table_of}
 use Rattle.exb_model.specs.Tree.{is_extender}
-use Rattle.exb_control.specs.declared.outbox.Outbox.{Outbox}
 use Rattle.exb_control.specs.Boxes.{IsMoved}
 use Rattle.exb_control.specs.Controls.{Parts, state_of, decide_of, announced}
 use Rattle.exb_changing.specs.Fitting.{AreFit}
@@ -36,7 +34,7 @@ invariant_of-self-else-is_err c =
     let s = state_of (parts_of w.core w.queue w.heard w.given w.failed) in
     let led =
     when_ok _ fine made.reached (record { queue = w.queue; heard = c.note.new.self.heard; given = w.given }) refl refl
-    ∙ heard_it (decide_of w.core.active) t w.heard.ports c.args.extender c.args.announce.now s _ c.empty.new.self.events c.empty.new.self.asks (table_of w.core.learned)
+    ∙ heard_it (decide_of w.core.active) t w.heard.ports c.args.extender c.args.announce.now s _ c.empty.new.self.events c.empty.new.self.asks c.empty.new.self.downs
     c.self.invariant.ports (sym c.is_of.ensures ∙ c.if-not-is_of.false) c.note.ensures.heard in
     record {
       ports = c.note.ensures.ports ∙ c.self.invariant.ports ∙ ap (λ t. t.ports) (sym made.shape);
@@ -55,17 +53,17 @@ returns-clause-ok c =
     let w = c.self.inside in
     let made = c.wake-done.ensures in
     let fine = sym c.is_err.ensures.value ∙ c.if-is_err.false in
-    let out : Outbox = record { events = c.wake-done.new.events; asks = c.wake-done.new.asks; sends = c.empty.new.self.sends; ingress = c.empty.new.self.ingress } in
+    let out = c.wake-done.new.out in
     let old = parts_of w.core w.queue w.heard w.given w.failed in
     let new = parts_of c.wake-done.new.core c.wake-done.new.queue c.note.new.self w.given w.failed in
     subst (λ (p : Parts). IsMoved (announced (decide_of p.active) p.active.shape c.args.extender c.args.announce.now (state_of p)) p new out) c.self.view_is
     (moved (announced (decide_of w.core.active) w.core.active.shape c.args.extender c.args.announce.now (state_of old))
-    old c.wake-done.new.core c.wake-done.new.queue c.note.new.self w.given w.failed c.empty.new.self.events c.empty.new.self.asks out
-    c.empty.ensures.events c.empty.ensures.asks
+    old c.wake-done.new.core c.wake-done.new.queue c.note.new.self w.given w.failed c.empty.new.self.events c.empty.new.self.asks c.empty.new.self.downs out
+    c.empty.ensures.events c.empty.ensures.asks c.empty.ensures.downs
     (when_ok _ fine made.reached (record { queue = w.queue; heard = c.note.new.self.heard; given = w.given }) refl refl
-    ∙ heard_it (decide_of w.core.active) w.core.active.shape w.heard.ports c.args.extender c.args.announce.now (state_of old) _ c.empty.new.self.events c.empty.new.self.asks (table_of w.core.learned)
+    ∙ heard_it (decide_of w.core.active) w.core.active.shape w.heard.ports c.args.extender c.args.announce.now (state_of old) _ c.empty.new.self.events c.empty.new.self.asks c.empty.new.self.downs
     c.self.invariant.ports (sym c.is_of.ensures ∙ c.if-not-is_of.false) c.note.ensures.heard)
-    made.shape made.limits refl (record { sends = c.empty.ensures.quiet.sends; ingress = c.empty.ensures.quiet.ingress }))
+    made.shape made.limits refl)
 
 pub returns-then-not-is_of-clause-ok : goal.returns-then-not-is_of-clause-ok
 returns-then-not-is_of-clause-ok c =
@@ -74,7 +72,7 @@ returns-then-not-is_of-clause-ok c =
     let old = parts_of w.core w.queue w.heard w.given w.failed in
     subst (λ (p : Parts). IsMoved (announced (decide_of p.active) p.active.shape c.args.extender c.args.announce.now (state_of p)) p p out) c.self.view_is
     (ignored (decide_of w.core.active) w.core.active.shape w.heard.ports c.args.extender c.args.announce.now old out c.self.invariant.ports (sym c.is_of.ensures ∙ c.if-not-is_of.true)
-    c.empty.ensures.events c.empty.ensures.asks c.empty.ensures.quiet)
+    c.empty.ensures.events c.empty.ensures.asks c.empty.ensures.downs)
 
 pub returns-clause-spelled : goal.returns-clause-spelled
 returns-clause-spelled c =

@@ -5,16 +5,45 @@ ghost use Rattle.exb_config.specs.Tables.{bridge_of};
 ghost use Rattle.exb_learn.specs.Entries.{table_of};
 ghost use Rattle.exb_learn.specs.Histories.{relay_call, after_any};
 ghost use Rattle.exb_control.specs.ActiveConfigs.{bridge_in};
-ghost use Rattle.exb_control.specs.Boxes.{taught, sends_for, ingress_for, vid_in};
+ghost use Rattle.exb_bridge.specs.Sends.{taught_by, sends_by, ingress_for, vid_in};
 
-use crate::active_config::ActiveConfig;
-use crate::outbox::Outbox;
+use arrayvec::ArrayVec;
 use exb_config::Config;
+use exb_control::ActiveConfig;
 use exb_frame::{is_relayed_kind, source};
 use exb_learn::Learned;
 use exb_model::memory::NoMemory;
 use exb_model::port::PortId;
-use exb_relay::{Ingress, relay};
+use exb_relay::{Ingress, SendTo, relay};
+
+/// What is made of a frame. Each one that comes fills it anew.
+#[derive(Drop)]
+pub struct Outgoing {
+    /// What became of the frame at its port.
+    pub ingress: Ingress,
+    /// What is sent for it.
+    pub sends: ArrayVec<SendTo, 256>,
+}
+
+impl Outgoing {
+    /// Of no frame.
+    pub(crate) fn new() -> Outgoing {
+        Outgoing {
+            ingress: Ingress::Dropped,
+            sends: ArrayVec::new(),
+        }
+    }
+
+    /// Takes out what was made of the frame before.
+    #[inline(always)]
+    fn empty(&mut self)
+        ensures ingress { self.new.ingress ≡ Ingress.Dropped }
+        ensures sends { self.new.sends.items ≡ [] }
+    {
+        self.ingress = Ingress::Dropped;
+        self.sends.clear();
+    }
+}
 
 /// Whether a frame that comes to a port is relayed: the port is present, and the frame isn't short, long or
 /// reserved.
@@ -40,23 +69,20 @@ fn learn(learned: &mut Learned, port: PortId, frame: &[u8], ingress: &Ingress)
     }
 }
 
-/// A frame comes, into an empty outbox; the answer is whether it is relayed. It is looked up before it is learned from.
-pub(crate) fn arrive(
+/// A frame comes; the answer is whether it is relayed. It is looked up before it is learned from.
+pub(crate) fn relay_and_learn(
     active: &ActiveConfig,
     learned: &mut Learned,
     port: PortId,
     frame: &[u8],
-    out: &mut Outbox,
+    out: &mut Outgoing,
 ) -> Result<bool, NoMemory>
-    requires sends { out.old.sends.items ≡ [] }
-    requires ingress { out.old.ingress ≡ Ingress.Dropped }
     ensures relayed { IfOk result (λ relayed. relayed ≡ is_relayed (bridge_in active.now) port frame.now) }
-    ensures events { out.new.events ≡ out.old.events }
-    ensures asks { out.new.asks ≡ out.old.asks }
-    ensures sends { OnOk result (out.new.sends.items ≡ sends_for active.now learned.old port frame.now) }
+    ensures sends { OnOk result (out.new.sends.items ≡ sends_by active.now learned.old port frame.now) }
     ensures ingress { OnOk result (out.new.ingress ≡ ingress_for (bridge_in active.now) port frame.now) }
-    ensures table { OnOk result (table_of learned.new ≡ taught (bridge_in active.now) port frame.now (table_of learned.old)) }
+    ensures table { OnOk result (table_of learned.new ≡ taught_by (bridge_in active.now) port frame.now (table_of learned.old)) }
 {
+    out.empty();
     if !is_relayed(active.config(), port, frame) {
         return Ok(false);
     }

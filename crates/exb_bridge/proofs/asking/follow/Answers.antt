@@ -1,0 +1,1 @@
+use Rattle.exb_bridge.proofs.asking.follow.Goals as goal

@@ -1,0 +1,1 @@
+use Rattle.exb_bridge.proofs.asking.forget_all.Goals as goal
