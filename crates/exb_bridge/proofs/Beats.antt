@@ -1,5 +1,5 @@
 -- A beat at the bridge's ends and its control, one after another.
-use Rattle.std.proofs.Common.{◌≡◌, ℕ, ◌+◌, ◌-◌, ◌<◌, ◌≤◌, Bool, true, false, drop, None, refl, arith, sym, ap, subst, ◌∙◌}
+use Rattle.std.proofs.Common.{◌≡◌, ℕ, ◌+◌, ◌-◌, ◌<◌, ◌≤◌, Bool, true, false, drop, None, refl, arith, sym, ap, subst}
 use Rattle.std.specs.Prelude.{if◌then◌else◌, is_none, Option, Some}
 use Rattle.std.proofs.lemmas.Bool.{and_parts, false≢true}
 use Rattle.exb_model.specs.Tree.{Shape, is_extender}

@@ -1,12 +1,11 @@
 use Rattle.std.specs.List.{All}
-use Rattle.std.proofs.Common.{List, sym, subst, ◌∙◌}
+use Rattle.std.proofs.Common.{sym, subst, ◌∙◌}
 use Rattle.exb_model.specs.Learning.{passes}
-use Rattle.exb_relay.specs.declared.send.SendTo.{SendTo}
-use Rattle.exb_machine.specs.Effects.{each, only}
-use Rattle.exb_machine.specs.Relaying.{sends_all, sends_for, sends_in}
+use Rattle.exb_machine.specs.Effects.{only}
+use Rattle.exb_machine.specs.Relaying.{sends_all, sends_for}
 use Rattle.exb_bridge.specs.Sends.{CanSend, learns}
-use Rattle.exb_bridge.specs.Worlds.{whole, world_in, Does}
-use Rattle.exb_bridge.proofs.Coming.{has_passed, sends_none, sends_some}
+use Rattle.exb_bridge.specs.Worlds.{whole, world_in}
+use Rattle.exb_bridge.proofs.Coming.{has_passed, sends_none}
 use Rattle.exb_bridge.proofs.Doing.{does_then}
 use Rattle.exb_bridge.proofs.Cores.{does_nothing}
 use Rattle.exb_bridge.proofs.Relayed.{does_as}

@@ -15,8 +15,7 @@ returns g c =
     let bytes = c.args.word.bytes in
     let some = sym c.in-Some.is ∙ c.holder.ensures ∙ ap (λ (f : List ℕ). holder_by w k (read_etag f)) c.as_slice.ensures in
     let external = ap (λ (t : Shape). is_external t c.in-Some.port) (sym c.tree.ensures) ∙ sym c.is_external.ensures ∙ c.if-not-is_external.false in
-    let same = c.from_vec.ensures ∙ c.strip_in_place.ensures ∙ ap (λ (f : List ℕ). stripped f) c.into_vec-buffer.ensures in
     on_ok_weaker c.come_in.result (λ done.
-    from_port s (whole g.rest c.args.bridge.now) (whole g.rest c.come_in.new.bridge) (holder_by w k (read_etag bytes)) c.in-Some.port c.args.word.stamp c.in-Some-stamp.stamp (stripped bytes) c.from_vec.result c.args.room.now.post.log c.come_in.new.room.post.log some
-    c.in-Some-stamp.is external same done)
+    from_port s (whole g.rest c.args.bridge.now) (whole g.rest c.come_in.new.bridge) (holder_by w k (read_etag bytes)) c.in-Some.port c.args.word.stamp c.in-Some-stamp.stamp (stripped bytes) c.strip_in_place.new.bytes c.args.room.now.post.log c.come_in.new.room.post.log some
+    c.in-Some-stamp.is external c.strip_in_place.ensures done)
     c.come_in.ensures

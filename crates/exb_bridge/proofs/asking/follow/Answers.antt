@@ -1,1 +1,0 @@
-use Rattle.exb_bridge.proofs.asking.follow.Goals as goal

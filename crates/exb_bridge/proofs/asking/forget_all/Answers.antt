@@ -1,1 +1,0 @@
-use Rattle.exb_bridge.proofs.asking.forget_all.Goals as goal
