@@ -5,7 +5,6 @@ use Rattle.std.specs.Prelude.{if◌then◌else◌, Option, Some, slice_get, slic
 use Rattle.std.proofs.lemmas.Bool.{and_parts, cases_Bool, false_from_ne_true, false≢true}
 use mathlib.Core.Path.{fun_ext}
 use Rattle.exb_model.specs.Tree.{Shape, IsTree, is_extender}
-use Rattle.exb_changing.specs.Machine.{still}
 use Rattle.exb_extender.specs.Fields.{Fields}
 use Rattle.exb_extender.specs.Machine.{ExtenderState, Beats}
 use Rattle.exb_extender.specs.Resting.{rests}

@@ -7,7 +7,7 @@ use Rattle.exb_machine.specs.Worlds.{Up}
 use Rattle.exb_bridge.specs.Sites.{limits_in}
 use Rattle.exb_bridge.specs.Worlds.{world_in}
 use Rattle.exb_network.specs.Worlds.{whole_of}
-use Rattle.exb_network.proofs.Stepped.{asks_on, at_up, no_data, somebody}
+use Rattle.exb_network.proofs.Stepped.{at_up, no_data, somebody}
 use Rattle.exb_network.proofs.stepping.carry_up.Goals as goal
 
 pub returns-in-None : goal.returns-in-None
