@@ -7,7 +7,7 @@ ghost use Rattle.exb_boxes.specs.Directions.{words_of, IsNextBusy};
 ghost use Rattle.exb_boxes.specs.Numbers.{number_in, IsNumber};
 
 use crate::numbers::{first_in, has, meet, with_bit};
-use exb_link::{Link, Word};
+use exb_link::{BoxedWord, Link};
 use exb_model::memory::NoMemory;
 use exb_model::port::DEVICES;
 use std::alloc::Global;
@@ -47,7 +47,7 @@ impl Direction {
 
     /// Puts a word behind all others on the link of an extender.
     #[inline(always)]
-    pub fn push(&mut self, extender: u8, word: Word) -> Result<(), NoMemory>
+    pub fn push(&mut self, extender: u8, word: BoxedWord) -> Result<(), NoMemory>
         requires { IsNumber extender }
         ensures { OnOk result (words_of self.new ≡ at extender (words_of self.old extender ++ word ∷ []) (words_of self.old)) }
     {
@@ -63,7 +63,7 @@ impl Direction {
 
     /// Takes the first data word out.
     #[inline(always)]
-    pub fn take_data(&mut self, extender: u8) -> Option<Word>
+    pub fn take_data(&mut self, extender: u8) -> Option<BoxedWord>
         requires { IsNumber extender }
         ensures word { result ≡ slice_get (filter is_data (words_of self.old extender)) 0 }
         ensures rest { words_of self.new ≡ at extender (without_data (words_of self.old extender)) (words_of self.old) }
@@ -77,7 +77,7 @@ impl Direction {
 
     /// Takes the control word at a position out.
     #[inline(always)]
-    pub fn take_control(&mut self, extender: u8, place: u64) -> Option<Word>
+    pub fn take_control(&mut self, extender: u8, place: u64) -> Option<BoxedWord>
         requires { IsNumber extender }
         ensures word { result ≡ slice_get (filter is_control (words_of self.old extender)) place }
         ensures rest { words_of self.new ≡ at extender (without_control (words_of self.old extender) place) (words_of self.old) }
@@ -90,7 +90,7 @@ impl Direction {
     }
 
     /// The control word at a position.
-    pub fn control_at(&self, extender: u8, place: u64) -> Option<&Word>
+    pub fn control_at(&self, extender: u8, place: u64) -> Option<&BoxedWord>
         requires { IsNumber extender }
         ensures { option_copied result ≡ slice_get (filter is_control (words_of self.now extender)) place }
     {

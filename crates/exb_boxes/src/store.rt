@@ -1,17 +1,19 @@
-//! Buffers that are kept, so that a word on a link and a frame that leaves ask for no memory where one that is gone had some.
+//! Buffers and boxes that are kept, so that a word on a link and a frame that leaves ask for no memory where one that is gone had some.
 ghost use Rattle.std.specs.Prelude.{◌≡◌, IfOk};
 
+use exb_link::{BoxedWord, Word};
 use exb_model::bytes::Bytes;
 use exb_model::memory::NoMemory;
 use std::alloc::Global;
 
-/// The most buffers that are kept. Each is of a word, so it has room for some ten thousand bytes at most.
+/// The most buffers, and the most boxes, that are kept. Each is of a word, so it has room for some ten thousand bytes at most.
 const MOST: usize = 1024;
 
-/// Buffers of words that are gone. What they hold has no meaning.
+/// Buffers and boxes of words that are gone. What they hold has no meaning.
 #[derive(Drop)]
 pub struct Store {
     kept: Vec<Vec<u8>>,
+    boxes: Vec<BoxedWord>,
 }
 
 impl Store {
@@ -19,6 +21,7 @@ impl Store {
     pub fn new(alloc: Global) -> Store {
         Store {
             kept: Vec::new(alloc),
+            boxes: Vec::new(alloc),
         }
     }
 
@@ -51,5 +54,44 @@ impl Store {
                 Err(_) => {}
             }
         }
+    }
+
+    /// Puts a word into a box: one that was kept, or else a new one.
+    #[inline(always)]
+    pub fn boxed(&mut self, alloc: Global, word: Word) -> Result<BoxedWord, NoMemory>
+        ensures { IfOk result (λ boxed. boxed ≡ word) }
+    {
+        match self.boxes.pop() {
+            Some(mut boxed) => {
+                drop(boxed.replace(word));
+                Ok(boxed)
+            }
+            None => BoxedWord::new(alloc, word),
+        }
+    }
+
+    /// Takes a word out of its box, which is kept unless enough are kept or there is no memory to note it.
+    #[inline(always)]
+    pub fn unboxed(&mut self, alloc: Global, mut boxed: BoxedWord) -> Word
+        ensures { result ≡ boxed }
+    {
+        let word = boxed.replace(Word {
+            bytes: Bytes::from_vec(Vec::new(alloc)),
+            stamp: None,
+        });
+        if self.boxes.len() < MOST {
+            match self.boxes.reserve(1) {
+                Ok(()) => self.boxes.push_reserved(boxed),
+                Err(_) => {}
+            }
+        }
+        word
+    }
+
+    /// Keeps the box and the buffer of a word that nobody needs.
+    #[inline(always)]
+    pub fn keep_word(&mut self, alloc: Global, boxed: BoxedWord) {
+        let Word { bytes, .. } = self.unboxed(alloc, boxed);
+        self.keep(bytes);
     }
 }

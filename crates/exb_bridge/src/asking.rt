@@ -92,6 +92,7 @@ fn put(
         bytes: frame,
         stamp: None,
     };
+    let word = post.store.boxed(post.alloc, word)?;
     bridge.down.push(below, word)
 }
 

@@ -25,7 +25,7 @@ use exb_boxes::log::note_out;
 use exb_boxes::{Left, Log, Post, Row};
 use exb_frame::egress::{VlanTag, egress_into, tagged_egress_into};
 use exb_frame::etag::{E_TAG_TYPE, ETag, strip_in_place, strip_into};
-use exb_link::{Stamp, Word};
+use exb_link::{BoxedWord, Stamp, Word};
 use exb_model::arrival::Arrival;
 use exb_model::bytes::{Bytes, are_bytes, number_at};
 use exb_model::event::Event;
@@ -89,6 +89,7 @@ fn put_word(
         bytes: frame,
         stamp: Some(stamp),
     };
+    let word = post.store.boxed(post.alloc, word)?;
     bridge.down.push(below, word)
 }
 
@@ -360,7 +361,7 @@ fn take_control(
 fn take_data(
     site: &Site,
     bridge_port: u8,
-    word: Word,
+    word: BoxedWord,
     room: &mut Room,
     bridge: &mut Bridge,
 ) -> Result<(), NoMemory>
@@ -371,7 +372,7 @@ fn take_data(
     requires cascade { is_cascade site.now.tree (bridge_port - 1) ≡ true }
     ensures { OnOk result (Does (comes_from site.now.tree (holder_by (world_in (whole rest bridge.old)) (bridge_port - 1) (read_etag word.bytes)) word.stamp (stripped word.bytes) (world_in (whole rest bridge.old))) site.now (whole rest bridge.new) room.old.post.log room.new.post.log) }
 {
-    let Word { mut bytes, stamp } = word;
+    let Word { mut bytes, stamp } = room.post.store.unboxed(room.post.alloc, word);
     let Some(port) = holder(site, bridge, bridge_port, bytes.as_slice()) else {
         return Ok(());
     };
@@ -392,7 +393,7 @@ pub fn take(
     site: &Site,
     bridge_port: u8,
     below: u8,
-    word: Word,
+    word: BoxedWord,
     room: &mut Room,
     bridge: &mut Bridge,
 ) -> Result<(), NoMemory>
@@ -406,9 +407,9 @@ pub fn take(
 {
     site.tree().is_tree();
     if word.is_control() {
-        let frame = word.bytes.as_slice();
+        let frame = word.bytes();
         take_control(site, bridge_port, below, frame, room, bridge)?;
-        room.post.store.keep(word.bytes);
+        room.post.store.keep_word(room.post.alloc, word);
         Ok(())
     } else {
         take_data(site, bridge_port, word, room, bridge)

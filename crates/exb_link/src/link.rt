@@ -5,7 +5,7 @@ ghost use Rattle.std.specs.Option.{option_copied};
 ghost use Rattle.exb_link.specs.Words.{is_control, is_data, leading, without_data, without_control};
 ghost use Rattle.exb_link.specs.Queues.{all_behind, more_ahead, more_behind, less_behind, place_from};
 
-use crate::word::Word;
+use crate::word::BoxedWord;
 use std::alloc::Global;
 use std::collections::VecDeque;
 use std::marker::Model;
@@ -13,7 +13,7 @@ use std::marker::Model;
 /// A word that found no memory on its link, handed back.
 #[derive(Drop)]
 pub struct PushBack {
-    pub word: Word,
+    pub word: BoxedWord,
 }
 
 /// How many data words and control words a link has.
@@ -26,7 +26,7 @@ pub struct Counts {
 /// A data word, and how many control words were sent after it and before the next data word.
 #[derive(Drop)]
 pub struct Sent {
-    word: Word,
+    word: BoxedWord,
     behind: u64,
 }
 
@@ -35,7 +35,7 @@ pub struct Sent {
 #[derive(Drop)]
 pub struct Link {
     frames: VecDeque<Sent>,
-    control: VecDeque<Word>,
+    control: VecDeque<BoxedWord>,
     /// How many control words stand before the first data word.
     ahead: u64,
 }
@@ -53,7 +53,7 @@ impl Model for Link {
 }
 
 #[inline(always)]
-fn push_frame(frames: &mut VecDeque<Sent>, word: Word) -> Result<(), PushBack>
+fn push_frame(frames: &mut VecDeque<Sent>, word: BoxedWord) -> Result<(), PushBack>
     ensures ok { OnOk result (frames.new.items ≡ frames.old.items ++ record { word = word; behind = 0 } ∷ []) }
     ensures err { OnErr result (frames.new.items ≡ frames.old.items) }
     ensures back { IfErr result (λ e. e.word ≡ word) }
@@ -68,7 +68,7 @@ fn push_frame(frames: &mut VecDeque<Sent>, word: Word) -> Result<(), PushBack>
 }
 
 #[inline(always)]
-fn push_control(control: &mut VecDeque<Word>, word: Word) -> Result<(), PushBack>
+fn push_control(control: &mut VecDeque<BoxedWord>, word: BoxedWord) -> Result<(), PushBack>
     ensures ok { OnOk result (control.new.items ≡ control.old.items ++ word ∷ []) }
     ensures room { OnOk result (length control.old.items + 1 < 2 ^ 64) }
     ensures err { OnErr result (control.new.items ≡ control.old.items) }
@@ -85,7 +85,7 @@ fn push_control(control: &mut VecDeque<Word>, word: Word) -> Result<(), PushBack
 
 // Takes out the word at a place among those of a queue.
 #[inline(always)]
-fn remove_at(words: &mut VecDeque<Word>, place: usize) -> Option<Word>
+fn remove_at(words: &mut VecDeque<BoxedWord>, place: usize) -> Option<BoxedWord>
     ensures word { result ≡ slice_get words.old.items place }
     ensures rest { words.new.items ≡ remove words.old.items place }
 {
@@ -96,13 +96,13 @@ fn remove_at(words: &mut VecDeque<Word>, place: usize) -> Option<Word>
     words.remove(place)
 }
 
-fn word_at(words: &VecDeque<Word>, place: usize) -> Option<&Word>
+fn word_at(words: &VecDeque<BoxedWord>, place: usize) -> Option<&BoxedWord>
     ensures { option_copied result ≡ slice_get words.now.items place }
 {
     words.get(place)
 }
 
-fn first_of(frames: &VecDeque<Sent>) -> Option<&Word>
+fn first_of(frames: &VecDeque<Sent>) -> Option<&BoxedWord>
     ensures { option_copied result ≡ slice_get (map (λ s. s.word) frames.now.items) 0 }
 {
     match frames.front() {
@@ -169,7 +169,7 @@ impl Link {
 
     /// Puts a word behind all others. The word comes back where there is no memory for it.
     #[inline(always)]
-    pub fn push(&mut self, word: Word) -> Result<(), PushBack>
+    pub fn push(&mut self, word: BoxedWord) -> Result<(), PushBack>
         ensures ok { OnOk result (self.new ≡ self.old ++ word ∷ []) }
         ensures err { OnErr result (self.new ≡ self.old) }
         ensures back { IfErr result (λ e. e.word ≡ word) }
@@ -184,14 +184,14 @@ impl Link {
     }
 
     /// The first data word; None exactly where there is none.
-    pub fn first_data(&self) -> Option<&Word>
+    pub fn first_data(&self) -> Option<&BoxedWord>
         ensures { option_copied result ≡ slice_get (filter is_data self.now) 0 }
     {
         first_of(&self.frames)
     }
 
     /// The control word at a position; None exactly where there is none.
-    pub fn control_at(&self, at: u64) -> Option<&Word>
+    pub fn control_at(&self, at: u64) -> Option<&BoxedWord>
         ensures { option_copied result ≡ slice_get (filter is_control self.now) at }
     {
         word_at(&self.control, at as usize)
@@ -206,7 +206,7 @@ impl Link {
 
     /// Takes out the first data word; None exactly where there is none. Every other word stays.
     #[inline(always)]
-    pub fn take_data(&mut self) -> Option<Word>
+    pub fn take_data(&mut self) -> Option<BoxedWord>
         ensures word { result ≡ slice_get (filter is_data self.old) 0 }
         ensures rest { self.new ≡ without_data self.old }
     {
@@ -221,7 +221,7 @@ impl Link {
 
     /// Takes out the control word at a position; None exactly where there is none. Every other word stays.
     #[inline(always)]
-    pub fn take_control(&mut self, at: u64) -> Option<Word>
+    pub fn take_control(&mut self, at: u64) -> Option<BoxedWord>
         ensures word { result ≡ slice_get (filter is_control self.old) at }
         ensures rest { self.new ≡ without_control self.old at }
     {

@@ -1,9 +1,13 @@
 //! What a link carries.
-ghost use Rattle.std.specs.Prelude.{◌≡◌};
+ghost use Rattle.std.specs.Prelude.{◌≡◌, ◌+◌, ◌≤◌, ◌++◌, length, take, drop, IfOk};
 
 use exb_model::address::is_control_frame;
 use exb_model::bytes::Bytes;
+use exb_model::memory::NoMemory;
 use exb_model::port::PortId;
+use std::alloc::Global;
+use std::marker::Model;
+use std::mem;
 
 /// The record by which a data word came in: its port, its index there, numbered from 1, and its time in
 /// nanoseconds. No rule reads it.
@@ -21,14 +25,72 @@ pub struct Word {
     pub stamp: Option<Stamp>,
 }
 
-impl Word {
+/// A word in a box of its own, so that eight bytes go from queue to queue. It is seen as the word.
+#[derive(Drop)]
+pub struct BoxedWord {
+    word: Box<Word>,
+}
+
+impl Model for BoxedWord {
+    ghost use Rattle.exb_link.specs.declared.word.Word.{Word};
+
+    ghost Value = { Word };
+
+    ghost view = { λ b. b.word.value };
+}
+
+impl BoxedWord {
     ghost use Rattle.exb_link.specs.Words.{is_control};
+
+    /// Puts a word into a new box.
+    pub fn new(alloc: Global, word: Word) -> Result<BoxedWord, NoMemory>
+        ensures { IfOk result (λ made. made ≡ word) }
+    {
+        Ok(BoxedWord {
+            word: Box::new(alloc, word)?,
+        })
+    }
+
+    /// The bytes of its frame.
+    #[inline(always)]
+    pub fn bytes(&self) -> &[u8]
+        ensures { result.now ≡ self.now.bytes }
+    {
+        self.word.bytes.as_slice()
+    }
+
+    /// The stamp of its record; None of a control word.
+    #[inline(always)]
+    pub fn stamp(&self) -> Option<Stamp>
+        ensures { result ≡ self.now.stamp }
+    {
+        self.word.stamp
+    }
 
     /// Whether it is a control word: its destination is 01-80-C2-00-00-0E. Every other word is a data word.
     #[inline(always)]
     pub fn is_control(&self) -> bool
         ensures { result ≡ is_control self.now }
     {
-        is_control_frame(self.bytes.as_slice())
+        is_control_frame(self.bytes())
+    }
+
+    /// Takes `count` bytes of its frame out at place `at`: those before it move up, and nothing behind it is touched.
+    #[inline(always)]
+    pub fn take_out(&mut self, at: usize, count: usize)
+        requires inside { at + count ≤ length self.old.bytes }
+        ensures bytes { self.new.bytes ≡ take at self.old.bytes ++ drop (at + count) self.old.bytes }
+        ensures stamp { self.new.stamp ≡ self.old.stamp }
+    {
+        self.word.bytes.take_out(at, count);
+    }
+
+    /// Puts another word into the box, and answers the one that was in it.
+    #[inline(always)]
+    pub fn replace(&mut self, word: Word) -> Word
+        ensures new { self.new ≡ word }
+        ensures old { result ≡ self.old }
+    {
+        mem::replace(&mut *self.word, word)
     }
 }

@@ -14,7 +14,7 @@ ghost use Rattle.exb_network.specs.Worlds.{rest_of, world_in, IsAt, Does};
 
 use crate::site::Core;
 use exb_bridge::{Room, Site};
-use exb_link::Word;
+use exb_link::BoxedWord;
 use exb_model::arrival::Arrival;
 use exb_model::command::Command;
 use exb_model::memory::NoMemory;
@@ -42,7 +42,7 @@ pub(crate) fn take(
     site: &Site,
     bridge_port: u8,
     below: u8,
-    word: Word,
+    word: BoxedWord,
     room: &mut Room,
     core: &mut Core,
 ) -> Result<(), NoMemory>

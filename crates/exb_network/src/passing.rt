@@ -13,8 +13,7 @@ use crate::site::Core;
 use exb_boxes::Post;
 use exb_bridge::Site;
 use exb_extender::{Form, Out, Side};
-use exb_frame::etag::strip_in_place;
-use exb_link::Word;
+use exb_link::BoxedWord;
 use exb_model::memory::NoMemory;
 
 /// A word goes on to a side in another form than that in which it came; its buffer is kept.
@@ -22,7 +21,7 @@ use exb_model::memory::NoMemory;
 fn change(
     site: &Site,
     number: u8,
-    word: Word,
+    word: BoxedWord,
     out: &Out,
     core: &mut Core,
     post: &mut Post,
@@ -33,20 +32,20 @@ fn change(
     ensures { OnOk result (Does (sends site.now.tree number word.stamp (out_sent word.bytes out.now) (world_in core.old)) site.now core.new post.old.log post.new.log) }
 {
     let came = Came {
-        frame: word.bytes.as_slice(),
-        stamp: word.stamp,
+        frame: word.bytes(),
+        stamp: word.stamp(),
     };
     send_frame(site, number, &came, out, core, post)?;
-    post.store.keep(word.bytes);
+    post.store.keep_word(post.alloc, word);
     Ok(())
 }
 
-/// A word goes on to a side without its E-TAG, which is taken out where it stands.
+/// A word goes on to a side without its E-TAG: the eight bytes at byte 12 are taken out where they stand.
 #[inline(always)]
 fn strip(
     site: &Site,
     number: u8,
-    word: Word,
+    mut word: BoxedWord,
     to: Side,
     core: &mut Core,
     post: &mut Post,
@@ -57,9 +56,8 @@ fn strip(
     requires long { 20 ≤ length word.bytes }
     ensures { OnOk result (Does (sent_to site.now.tree number word.stamp to (stripped word.bytes) (world_in core.old)) site.now core.new post.old.log post.new.log) }
 {
-    let Word { mut bytes, stamp } = word;
-    strip_in_place(&mut bytes);
-    send_to(site, number, to, Word { bytes, stamp }, core, post)
+    word.take_out(12, 8);
+    send_to(site, number, to, word, core, post)
 }
 
 /// A word goes on to a side, in a form; as it is, or without its E-TAG, it isn't copied.
@@ -67,7 +65,7 @@ fn strip(
 pub(crate) fn pass_on(
     site: &Site,
     number: u8,
-    word: Word,
+    word: BoxedWord,
     out: &Out,
     core: &mut Core,
     post: &mut Post,

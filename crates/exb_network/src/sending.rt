@@ -20,7 +20,7 @@ use exb_boxes::{Left, Post, Row};
 use exb_bridge::{Site, hung_on};
 use exb_extender::{Form, Out, Sends, Side};
 use exb_frame::etag::strip_into;
-use exb_link::{Stamp, Word};
+use exb_link::{BoxedWord, Stamp, Word};
 use exb_model::bytes::Bytes;
 use exb_model::memory::NoMemory;
 use exb_model::port::PortId;
@@ -42,7 +42,7 @@ fn send_at(
     site: &Site,
     number: u8,
     port: u8,
-    word: Word,
+    word: BoxedWord,
     core: &mut Core,
     post: &mut Post,
 ) -> Result<(), NoMemory>
@@ -56,7 +56,7 @@ fn send_at(
         post.log.tracing,
         number,
         port,
-        word.bytes.as_slice(),
+        word.bytes(),
         &mut post.log.outs,
     )?;
     let place = PortId::at(number, port - 1);
@@ -65,11 +65,11 @@ fn send_at(
     match hung_on(tree, place) {
         Some(below) => core.bridge.down.push(below, word),
         None => {
-            let moment = moment_of(&word.stamp);
+            let Word { bytes, stamp } = post.store.unboxed(post.alloc, word);
             post.log.left.push(Left {
                 row: Row::of(place),
-                moment,
-                bytes: word.bytes,
+                moment: moment_of(&stamp),
+                bytes,
             })
         }
     }
@@ -80,7 +80,7 @@ fn send_at(
 fn send_up(
     site: &Site,
     number: u8,
-    word: Word,
+    word: BoxedWord,
     core: &mut Core,
     post: &mut Post,
 ) -> Result<(), NoMemory>
@@ -94,7 +94,7 @@ fn send_up(
         post.log.tracing,
         number,
         0,
-        word.bytes.as_slice(),
+        word.bytes(),
         &mut post.log.outs,
     )?;
     core.up.push(number, word)
@@ -106,7 +106,7 @@ pub(crate) fn send_to(
     site: &Site,
     number: u8,
     side: Side,
-    word: Word,
+    word: BoxedWord,
     core: &mut Core,
     post: &mut Post,
 ) -> Result<(), NoMemory>
@@ -142,6 +142,7 @@ pub(crate) fn send_frame(
         bytes: Bytes::from_vec(buffer),
         stamp: came.stamp,
     };
+    let word = post.store.boxed(post.alloc, word)?;
     send_to(site, number, out.to, word, core, post)
 }
 
@@ -283,6 +284,7 @@ fn send_own(
         bytes: post.store.copy(post.alloc, frame)?,
         stamp,
     };
+    let word = post.store.boxed(post.alloc, word)?;
     send_to(site, number, Side::Up, word, core, post)
 }
 

@@ -18,7 +18,7 @@ use crate::step::Way;
 use crate::taking::{arrive_at, take_from_above, take_from_below};
 use exb_boxes::{Direction, Log};
 use exb_bridge::{Room, Site};
-use exb_link::Word;
+use exb_link::{BoxedWord, Word};
 use exb_model::arrival::Arrival;
 use exb_model::bytes::Bytes;
 use exb_model::event::Event;
@@ -30,7 +30,7 @@ use std::alloc::Global;
 fn take_up(
     site: &Site,
     number: u8,
-    word: Word,
+    word: BoxedWord,
     room: &mut Room,
     core: &mut Core,
 ) -> Result<(), NoMemory>
@@ -55,7 +55,7 @@ fn take(
     site: &Site,
     number: u8,
     way: Way,
-    word: Word,
+    word: BoxedWord,
     room: &mut Room,
     core: &mut Core,
 ) -> Result<(), NoMemory>
@@ -73,7 +73,7 @@ fn take(
 /// The control word at a position is taken off its link.
 #[cold]
 #[inline(never)]
-fn pull_control(site: &Site, number: u8, way: Way, place: u64, core: &mut Core) -> Option<Word>
+fn pull_control(site: &Site, number: u8, way: Way, place: u64, core: &mut Core) -> Option<BoxedWord>
     requires at { IsAt site.now core.old }
     requires known { IsNumber number }
     ensures word { result ≡ control_at (words_on number (way_of way) (world_in core.old)) place }
@@ -93,16 +93,19 @@ fn copied(
     direction: &Direction,
     number: u8,
     place: u64,
-) -> Result<Option<Word>, NoMemory>
+) -> Result<Option<BoxedWord>, NoMemory>
     requires { IsNumber number }
     ensures { IfOk result (λ word. word ≡ slice_get (filter is_control (words_of direction.now number)) place) }
 {
     match direction.control_at(number, place) {
         None => Ok(None),
-        Some(word) => Ok(Some(Word {
-            bytes: Bytes::from_slice(alloc, word.bytes.as_slice())?,
-            stamp: word.stamp,
-        })),
+        Some(word) => {
+            let copy = Word {
+                bytes: Bytes::from_slice(alloc, word.bytes())?,
+                stamp: word.stamp(),
+            };
+            Ok(Some(BoxedWord::new(alloc, copy)?))
+        }
     }
 }
 
@@ -113,7 +116,7 @@ fn copy_control(
     way: Way,
     place: u64,
     core: &Core,
-) -> Result<Option<Word>, NoMemory>
+) -> Result<Option<BoxedWord>, NoMemory>
     requires { IsNumber number }
     ensures { IfOk result (λ word. word ≡ control_at (words_on number (way_of way) (world_in core.now)) place) }
 {

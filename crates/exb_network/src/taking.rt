@@ -13,7 +13,7 @@ use crate::sending::{send_all, send_frame};
 use crate::site::Core;
 use exb_bridge::{Room, Site, ignore, stamp_of};
 use exb_extender::{Out, Side};
-use exb_link::Word;
+use exb_link::BoxedWord;
 use exb_model::arrival::Arrival;
 use exb_model::memory::NoMemory;
 use exb_model::port::PortId;
@@ -24,7 +24,7 @@ fn take_whole(
     site: &Site,
     number: u8,
     from: Side,
-    word: Word,
+    word: BoxedWord,
     room: &mut Room,
     core: &mut Core,
 ) -> Result<(), NoMemory>
@@ -34,15 +34,15 @@ fn take_whole(
     ensures { OnOk result (Does (reacts site.now.tree number word.stamp (Arrives from word.bytes) (world_in core.old)) site.now core.new room.old.post.log room.new.post.log) }
 {
     site.has_low_number(number);
-    let frame = word.bytes.as_slice();
+    let frame = word.bytes();
     core.far.take(number, from, frame, &mut room.sends);
     let came = Came {
         frame,
-        stamp: word.stamp,
+        stamp: word.stamp(),
     };
     let sends = &room.sends;
     send_all(site, number, &came, sends, core, &mut room.post)?;
-    room.post.store.keep(word.bytes);
+    room.post.store.keep_word(room.post.alloc, word);
     Ok(())
 }
 
@@ -52,7 +52,7 @@ fn take(
     site: &Site,
     number: u8,
     from: Side,
-    word: Word,
+    word: BoxedWord,
     room: &mut Room,
     core: &mut Core,
 ) -> Result<(), NoMemory>
@@ -62,7 +62,7 @@ fn take(
     ensures { OnOk result (Does (reacts site.now.tree number word.stamp (Arrives from word.bytes) (world_in core.old)) site.now core.new room.old.post.log room.new.post.log) }
 {
     site.has_low_number(number);
-    match core.far.only_out(number, from, word.bytes.as_slice()) {
+    match core.far.only_out(number, from, word.bytes()) {
         Some(out) => pass_on(site, number, word, &out, core, &mut room.post),
         None => take_whole(site, number, from, word, room, core),
     }
@@ -73,7 +73,7 @@ fn take(
 pub(crate) fn take_from_above(
     site: &Site,
     number: u8,
-    word: Word,
+    word: BoxedWord,
     room: &mut Room,
     core: &mut Core,
 ) -> Result<(), NoMemory>
@@ -89,7 +89,7 @@ pub(crate) fn take_from_above(
 pub(crate) fn take_from_below(
     site: &Site,
     port: PortId,
-    word: Word,
+    word: BoxedWord,
     room: &mut Room,
     core: &mut Core,
 ) -> Result<(), NoMemory>

@@ -15,7 +15,7 @@ use crate::site::Core;
 use crate::step::{Step, Way};
 use crate::world::link_of;
 use exb_bridge::Site;
-use exb_link::Word;
+use exb_link::BoxedWord;
 use exb_model::bytes::Bytes;
 use exb_model::event::Event;
 use exb_model::list::List;
@@ -88,7 +88,7 @@ fn put_any(
     site: &Site,
     number: u8,
     way: Way,
-    word: Option<&Word>,
+    word: Option<&BoxedWord>,
     to: &mut List<TraceLine>,
 ) -> Result<(), NoMemory>
     requires { is_extender site.now.tree number ≡ true }
@@ -96,7 +96,7 @@ fn put_any(
 {
     match word {
         None => Ok(()),
-        Some(word) => put_word(alloc, site, number, way, word.bytes.as_slice(), to),
+        Some(word) => put_word(alloc, site, number, way, word.bytes(), to),
     }
 }
 
