@@ -66,9 +66,10 @@ fn send_at(
         Some(below) => core.bridge.down.push(below, word),
         None => {
             let Word { bytes, stamp } = post.store.unboxed(post.alloc, word);
+            let moment = moment_of(&stamp);
             post.log.left.push(Left {
                 row: Row::of(place),
-                moment: moment_of(&stamp),
+                moment,
                 bytes,
             })
         }

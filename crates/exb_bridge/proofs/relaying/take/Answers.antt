@@ -14,5 +14,5 @@ take_data-requires g c = (
 
 pub returns-in_ok-take_control : goal.returns-in_ok-take_control
 returns-in_ok-take_control g c =
-    bridge_control c.args.site.now (limits_in c.args.site.now) (whole g.rest c.args.bridge.now) (whole g.rest c.take_control.new.bridge) (c.args.bridge_port - 1) c.args.below c.args.word c.as_slice-frame.result.now c.args.room.now.post.log c.take_control.new.room.post.log
-    (sym c.is_control.ensures ∙ c.if-is_control.true) c.as_slice-frame.ensures c.in_ok-take_control.ensures
+    bridge_control c.args.site.now (limits_in c.args.site.now) (whole g.rest c.args.bridge.now) (whole g.rest c.take_control.new.bridge) (c.args.bridge_port - 1) c.args.below c.args.word c.bytes-frame.result.now c.args.room.now.post.log c.take_control.new.room.post.log
+    (sym c.is_control.ensures ∙ c.if-is_control.true) c.bytes-frame.ensures c.in_ok-take_control.ensures

@@ -10,4 +10,4 @@ returns c =
     let n = c.args.number in
     let word = c.args.word in
     reacted s.tree s core (whole_of c.send_all.new.core) c.take.new.self n word.stamp (Arrives c.args.from word.bytes) word.bytes c.take.new.sends c.args.room.now.post.log c.send_all.new.post.log
-    (rw c.as_slice-frame.ensures at c.take.ensures.state) (rw c.as_slice-frame.ensures at c.take.ensures.sends) (rw c.as_slice-frame.ensures at c.in_ok-send_all.ensures)
+    (rw c.bytes-frame.ensures at c.take.ensures.state) (rw c.bytes-frame.ensures at c.take.ensures.sends) (rw (c.bytes-frame.ensures, c.stamp.ensures) at c.in_ok-send_all.ensures)
