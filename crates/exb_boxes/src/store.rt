@@ -1,7 +1,7 @@
 //! Buffers and boxes that are kept, so that a word on a link and a frame that leaves ask for no memory where one that is gone had some.
 ghost use Rattle.std.specs.Prelude.{◌≡◌, IfOk};
 
-use exb_link::{BoxedWord, Word};
+use exb_link::{BoxedWord, Stamp, Word};
 use exb_model::bytes::Bytes;
 use exb_model::memory::NoMemory;
 use std::alloc::Global;
@@ -56,42 +56,44 @@ impl Store {
         }
     }
 
-    /// Puts a word into a box: one that was kept, or else a new one.
+    /// A word in a box: one that was kept, or else a new one.
     #[inline(always)]
-    pub fn boxed(&mut self, alloc: Global, word: Word) -> Result<BoxedWord, NoMemory>
-        ensures { IfOk result (λ boxed. boxed ≡ word) }
+    pub fn boxed(
+        &mut self,
+        alloc: Global,
+        bytes: Bytes,
+        stamp: Option<Stamp>,
+    ) -> Result<BoxedWord, NoMemory>
+        ensures { IfOk result (λ boxed. boxed ≡ record { bytes = bytes; stamp = stamp }) }
     {
         match self.boxes.pop() {
             Some(mut boxed) => {
-                drop(boxed.replace(word));
+                boxed.fill(bytes, stamp);
                 Ok(boxed)
             }
-            None => BoxedWord::new(alloc, word),
+            None => BoxedWord::new(alloc, Word { bytes, stamp }),
         }
     }
 
-    /// Takes a word out of its box, which is kept unless enough are kept or there is no memory to note it.
+    /// Takes the bytes of a word out of its box, which is kept unless enough are kept or there is no memory to note it.
     #[inline(always)]
-    pub fn unboxed(&mut self, alloc: Global, mut boxed: BoxedWord) -> Word
-        ensures { result ≡ boxed }
+    pub fn unboxed(&mut self, alloc: Global, mut boxed: BoxedWord) -> Bytes
+        ensures { result ≡ boxed.bytes }
     {
-        let word = boxed.replace(Word {
-            bytes: Bytes::from_vec(Vec::new(alloc)),
-            stamp: None,
-        });
+        let bytes = boxed.take_bytes(alloc);
         if self.boxes.len() < MOST {
             match self.boxes.reserve(1) {
                 Ok(()) => self.boxes.push_reserved(boxed),
                 Err(_) => {}
             }
         }
-        word
+        bytes
     }
 
     /// Keeps the box and the buffer of a word that nobody needs.
     #[inline(always)]
     pub fn keep_word(&mut self, alloc: Global, boxed: BoxedWord) {
-        let Word { bytes, .. } = self.unboxed(alloc, boxed);
+        let bytes = self.unboxed(alloc, boxed);
         self.keep(bytes);
     }
 }

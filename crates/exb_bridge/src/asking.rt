@@ -25,7 +25,6 @@ use exb_changing::Asked;
 use exb_ecp::Pdu;
 use exb_frame::etag::tag_into;
 use exb_learn::Learned;
-use exb_link::Word;
 use exb_model::address::Mac;
 use exb_model::buffers::ControlBuf;
 use exb_model::bytes::Bytes;
@@ -88,11 +87,7 @@ fn put(
         frame.as_slice(),
         &mut post.log.outs,
     )?;
-    let word = Word {
-        bytes: frame,
-        stamp: None,
-    };
-    let word = post.store.boxed(post.alloc, word)?;
+    let word = post.store.boxed(post.alloc, frame, None)?;
     bridge.down.push(below, word)
 }
 

@@ -25,7 +25,7 @@ use exb_boxes::log::note_out;
 use exb_boxes::{Left, Log, Post, Row};
 use exb_frame::egress::{VlanTag, egress_into, tagged_egress_into};
 use exb_frame::etag::{E_TAG_TYPE, ETag, strip_in_place, strip_into};
-use exb_link::{BoxedWord, Stamp, Word};
+use exb_link::{BoxedWord, Stamp};
 use exb_model::arrival::Arrival;
 use exb_model::bytes::{Bytes, are_bytes, number_at};
 use exb_model::event::Event;
@@ -85,11 +85,7 @@ fn put_word(
         frame.as_slice(),
         &mut post.log.outs,
     )?;
-    let word = Word {
-        bytes: frame,
-        stamp: Some(stamp),
-    };
-    let word = post.store.boxed(post.alloc, word)?;
+    let word = post.store.boxed(post.alloc, frame, Some(stamp))?;
     bridge.down.push(below, word)
 }
 
@@ -372,16 +368,16 @@ fn take_data(
     requires cascade { is_cascade site.now.tree (bridge_port - 1) ≡ true }
     ensures { OnOk result (Does (comes_from site.now.tree (holder_by (world_in (whole rest bridge.old)) (bridge_port - 1) (read_etag word.bytes)) word.stamp (stripped word.bytes) (world_in (whole rest bridge.old))) site.now (whole rest bridge.new) room.old.post.log room.new.post.log) }
 {
-    let Word { mut bytes, stamp } = room.post.store.unboxed(room.post.alloc, word);
-    let Some(port) = holder(site, bridge, bridge_port, bytes.as_slice()) else {
+    let Some(port) = holder(site, bridge, bridge_port, word.bytes()) else {
         return Ok(());
     };
-    let Some(stamp) = stamp else {
+    let Some(stamp) = word.stamp() else {
         return Ok(());
     };
     if !site.tree().is_external(port) {
         return Ok(());
     }
+    let mut bytes = room.post.store.unboxed(room.post.alloc, word);
     strip_in_place(&mut bytes);
     let stamp = Stamp { port, ..stamp };
     come_in(site, &stamp, bytes, room, bridge)

@@ -85,12 +85,21 @@ impl BoxedWord {
         self.word.bytes.take_out(at, count);
     }
 
-    /// Puts another word into the box, and answers the one that was in it.
+    /// Puts another word into the box.
     #[inline(always)]
-    pub fn replace(&mut self, word: Word) -> Word
-        ensures new { self.new ≡ word }
-        ensures old { result ≡ self.old }
+    pub fn fill(&mut self, bytes: Bytes, stamp: Option<Stamp>)
+        ensures bytes { self.new.bytes ≡ bytes }
+        ensures stamp { self.new.stamp ≡ stamp }
     {
-        mem::replace(&mut *self.word, word)
+        self.word.bytes = bytes;
+        self.word.stamp = stamp;
+    }
+
+    /// Takes the bytes of its frame out; none are left in the box.
+    #[inline(always)]
+    pub fn take_bytes(&mut self, alloc: Global) -> Bytes
+        ensures { result ≡ self.old.bytes }
+    {
+        mem::replace(&mut self.word.bytes, Bytes::from_vec(Vec::new(alloc)))
     }
 }

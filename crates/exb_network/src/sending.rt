@@ -20,7 +20,7 @@ use exb_boxes::{Left, Post, Row};
 use exb_bridge::{Site, hung_on};
 use exb_extender::{Form, Out, Sends, Side};
 use exb_frame::etag::strip_into;
-use exb_link::{BoxedWord, Stamp, Word};
+use exb_link::{BoxedWord, Stamp};
 use exb_model::bytes::Bytes;
 use exb_model::memory::NoMemory;
 use exb_model::port::PortId;
@@ -65,8 +65,8 @@ fn send_at(
     match hung_on(tree, place) {
         Some(below) => core.bridge.down.push(below, word),
         None => {
-            let Word { bytes, stamp } = post.store.unboxed(post.alloc, word);
-            let moment = moment_of(&stamp);
+            let moment = moment_of(&word.stamp());
+            let bytes = post.store.unboxed(post.alloc, word);
             post.log.left.push(Left {
                 row: Row::of(place),
                 moment,
@@ -139,11 +139,8 @@ pub(crate) fn send_frame(
 {
     let mut buffer = post.store.buffer(post.alloc);
     put_form(came.frame, &out.form, &mut buffer)?;
-    let word = Word {
-        bytes: Bytes::from_vec(buffer),
-        stamp: came.stamp,
-    };
-    let word = post.store.boxed(post.alloc, word)?;
+    let bytes = Bytes::from_vec(buffer);
+    let word = post.store.boxed(post.alloc, bytes, came.stamp)?;
     send_to(site, number, out.to, word, core, post)
 }
 
@@ -281,11 +278,8 @@ fn send_own(
     if frame.is_empty() {
         return Ok(());
     }
-    let word = Word {
-        bytes: post.store.copy(post.alloc, frame)?,
-        stamp,
-    };
-    let word = post.store.boxed(post.alloc, word)?;
+    let bytes = post.store.copy(post.alloc, frame)?;
+    let word = post.store.boxed(post.alloc, bytes, stamp)?;
     send_to(site, number, Side::Up, word, core, post)
 }
 

@@ -7,7 +7,6 @@ use Rattle.exb_machine.specs.Extending.{hung_on, sent_at}
 use Rattle.exb_machine.specs.Worlds.{Out, moment_of}
 use Rattle.exb_model.specs.Traces.{Out as OutText}
 use Rattle.exb_model.specs.Tree.{Shape}
-use Rattle.exb_link.specs.declared.word.Word.{Word}
 use Rattle.exb_boxes.specs.declared.log.Left.{Left}
 use Rattle.exb_boxes.specs.declared.log.Log.{Log}
 use Rattle.exb_boxes.specs.Logs.{if_tracing}
@@ -32,8 +31,7 @@ returns-in-None c =
     let new : Log = record log { left = c.push-in-None.new.self; outs = c.note_out.new.outs } in
     let none : hung_on s.tree (port_of n k) ≡ None =
     ap (λ (t : Shape). hung_on t (port_of n k)) (sym c.tree-tree.ensures) ∙ ap (hung_on c.tree-tree.result.now) (sym c.at-place.ensures) ∙ sym c.hung_on.ensures ∙ c.in-None.is in
-    let push : Word → List Left = λ (x : Word). log.left ++ record { row = c.of.result; moment = moment_of x.stamp; bytes = x.bytes } ∷ [] in
-    let at : ℕ → List Left = λ (moment : ℕ). log.left ++ record { row = c.of.result; moment = moment; bytes = c.unboxed-bytes.result.bytes } ∷ [] in
+    let at : ℕ → List ℕ → List Left = λ (moment : ℕ) (f : List ℕ). log.left ++ record { row = c.of.result; moment = moment; bytes = f } ∷ [] in
     let outs = c.in_ok-note_out.ensures ∙ ap (λ (bytes : List ℕ). log.outs.items ++ if_tracing log.tracing (OutText n k bytes ∷ [])) c.bytes.ensures in
     on_ok_weaker c.push-in-None.result
     (λ pushed.
@@ -41,5 +39,5 @@ returns-in-None c =
     (leaves s core log new (Out n (Port k) frame) c.of.result (moment_of stamp) frame (port_of n k) c.requires.at
     (record { outs = outs; events = refl; passed = refl; lines = refl; tracing = refl })
     (c.of.ensures ∙ ap (λ (q : ℕ). q ∷ []) c.at-place.ensures)
-    (pushed ∙ ap at c.moment_of-moment.ensures ∙ ap push c.unboxed-bytes.ensures)))
+    (pushed ∙ ap (λ (m : ℕ). at m c.unboxed-bytes.result) (c.moment_of-moment.ensures ∙ ap moment_of c.stamp.ensures) ∙ ap (at (moment_of stamp)) c.unboxed-bytes.ensures)))
     c.push-in-None.ensures.ok
