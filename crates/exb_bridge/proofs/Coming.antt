@@ -37,7 +37,7 @@ use Rattle.exb_machine.specs.Extending.{hung_on, stamp_of}
 use Rattle.exb_machine.specs.Relaying.{comes, passed_by, puts_word, sent_by, sends_all, sends_for, sends_in}
 use Rattle.exb_boxes.specs.declared.log.Log.{Log}
 use Rattle.exb_bridge.specs.Worlds.{Whole}
-use Rattle.exb_bridge.specs.Sends.{CanSend, HasPassed, HasTold, ingress_for, is_passed, learns, sends_by, sent_for, taught_by}
+use Rattle.exb_bridge.specs.Sends.{CanSend, HasPassed, HasTold, ingress_for, is_passed, learns, sends_by, sent_for}
 use Rattle.exb_bridge.specs.Sites.{Site}
 use Rattle.exb_bridge.specs.Worlds.{world_in, all_left, IsAt, Does, KeepsTrace}
 use Rattle.exb_bridge.proofs.BridgeSends.{can_all, sends_as}

@@ -1,5 +1,5 @@
 -- What the bridge hears makes a step of the machine of changes.
-use Rattle.std.proofs.Common.{◌≡◌, ℕ, Bool, true, false, not, ◌-◌, List, length, take, drop, Option, Some, None, Ok, Result, refl, sym, ap, subst, ◌∙◌, inl, inr, arith, eq-eqb}
+use Rattle.std.proofs.Common.{◌≡◌, ℕ, Bool, true, false, cond, not, ◌-◌, List, length, take, drop, Option, Some, None, Ok, Result, refl, sym, ap, subst, ◌∙◌, inl, inr, arith, eq-eqb}
 use Rattle.std.proofs.lemmas.Bool.{cases_eq, ne_eqb, eqb-true, false≢true}
 use Rattle.std.proofs.lemmas.List.{take_all, length-drop}
 use mathlib.Core.Path.{fun_ext}
@@ -12,18 +12,17 @@ use Rattle.exb_ecp.specs.declared.pdu.Pdu.{Pdu}
 use Rattle.exb_ecp.specs.declared.pdu.EcpFault.{EcpFault}
 use Rattle.exb_csp.specs.declared.message.Message.{Message}
 use Rattle.exb_csp.specs.Reading.{read_message}
-use Rattle.exb_ecp.specs.Machine.{State as Ecp, heard, is_last, is_fresh, stopped}
+use Rattle.exb_ecp.specs.Machine.{State as Ecp, heard as heard_request, is_last, is_fresh, stopped}
 use Rattle.exb_csp.specs.declared.session.asker.Taken.{Taken}
 use Rattle.exb_csp.specs.declared.session.asker.Taken.TheVariants as taken
 use Rattle.exb_changing.specs.Deciding.{decide}
-use Rattle.exb_changing.specs.Machine.{State, Moved, answered}
+use Rattle.exb_changing.specs.Machine.{State, Moved, answered, heard, still}
 use Rattle.exb_control.specs.declared.outbox.Outbox.{Outbox}
 use Rattle.exb_control.specs.Boxes.{IsMoved}
 use Rattle.exb_control.specs.Controls.{Parts, state_of, decide_of}
-use Rattle.exb_control.specs.Controls.{announced as announced_in}
-use Rattle.exb_machine.specs.Controls.{announced}
+use Rattle.exb_machine.specs.Controls.{announced, is_of}
 use Rattle.exb_machine.specs.Effects.{only}
-use Rattle.exb_machine.specs.Hearing.{bridge_acknowledgement, hears, hears_frame, hears_fresh, hears_message, hears_pdu, hears_request, stops, to_extender}
+use Rattle.exb_machine.specs.Hearing.{bridge_acknowledgement, hears, hears_frame, hears_fresh, hears_message, hears_pdu, hears_request, moves, stops, to_extender}
 use Rattle.exb_machine.specs.Worlds.{World, with_control}
 use Rattle.exb_model.specs.Tables.{at}
 use Rattle.exb_machine.specs.Runs.Asks.{AsksGo, AsksWell, CanGo}
@@ -39,11 +38,19 @@ use Rattle.exb_bridge.proofs.Cores.{near_in, near_at, tells_nothing}
 use Rattle.exb_bridge.proofs.Fields.{moved_is}
 
 -- ---- the control has made a step, which is the machine's at this site
-pub announced_at : (s : Site) (c : Whole) (n : ℕ) (a : Announce) (p : Parts) (out : Outbox) → IsAt s c →
-    IsMoved (announced_in (decide_of c.control.active) c.control.active.shape n a (state_of c.control)) c.control p out → IsMoved (announced (decide s.tree (limits_in s)) s.tree n a (world_in c).control) c.control p out
-announced_at s c n a p out at moved =
-    subst (λ (l : Limits). IsMoved (announced (decide s.tree l) s.tree n a (state_of c.control)) c.control p out) at.limits
-    (subst (λ (t : Shape). IsMoved (announced (decide t c.control.active.limits) t n a (state_of c.control)) c.control p out) at.shape moved)
+pub announced_at : (s : Site) (c : Whole) (n : ℕ) (a : Announce) (p : Parts) (out : Outbox) → IsAt s c → is_of s.tree n a ≡ true →
+    IsMoved (heard (decide_of c.control.active) n (state_of c.control)) c.control p out → IsMoved (announced (decide s.tree (limits_in s)) s.tree n a (world_in c).control) c.control p out
+announced_at s c n a p out at own moved =
+    subst (λ (b : Bool). IsMoved (cond b (heard (decide s.tree (limits_in s)) n (state_of c.control)) (still (state_of c.control))) c.control p out) (sym own)
+    (subst (λ (l : Limits). IsMoved (heard (decide s.tree l) n (state_of c.control)) c.control p out) at.limits
+    (subst (λ (t : Shape). IsMoved (heard (decide t c.control.active.limits) n (state_of c.control)) c.control p out) at.shape moved))
+
+-- another announcement is ignored
+pub ignored : (s : Site) (c : Whole) (n : ℕ) (a : Announce) (f : List ℕ) (log : Log) → IsAt s c → is_of s.tree n a ≡ false → Does (hears_frame s.tree (limits_in s) n (Ok a) f (world_in c)) s c log log
+ignored s c n a f log at other =
+    let v : State = (world_in c).control in
+    subst (λ (b : Bool). Does (moves s.tree (cond b (heard (decide s.tree (limits_in s)) n v) (still v)) (world_in c)) s c log log) (sym other)
+    (tells_nothing (moves s.tree (still v) (world_in c)) s c log refl refl refl refl refl at)
 
 pub answered_at : (s : Site) (c : Whole) (n : ℕ) (m : Message) (p : Parts) (out : Outbox) → IsAt s c →
     IsMoved (answered (decide_of c.control.active) n m (state_of c.control)) c.control p out → IsMoved (answered (decide s.tree (limits_in s)) n m (world_in c).control) c.control p out
@@ -87,7 +94,7 @@ at_own n f = fun_ext (λ m. by_place m)
         ]
 
 -- a request that came before is the last one
-stale : (sequence : ℕ) (e : Ecp) → is_fresh sequence e ≡ false → heard sequence e ≡ e
+stale : (sequence : ℕ) (e : Ecp) → is_fresh sequence e ≡ false → heard_request sequence e ≡ e
 stale sequence e old = ap (λ (o : Option ℕ). record e { received = o }) (by_received e.received old)
   where
     by_received : (o : Option ℕ) → not (is_last o sequence) ≡ false → Some sequence ≡ o
@@ -99,7 +106,7 @@ stale sequence e old = ap (λ (o : Option ℕ). record e { received = o }) (by_r
         by_test false y = absurd (false≢true (sym y))
 
 pub stale_on : (t : Shape) (l : Limits) (n sequence : ℕ) (payload frame : List ℕ) (s : Site) (c mid : Whole) (ends : List Ecp) (old new : Log) → frame ≡ bridge_acknowledgement sequence →
-    Does (to_extender t n frame (world_in c)) s mid old new → near_of ends ≡ at n (heard sequence (near_of mid.near n)) (near_of mid.near) → is_fresh sequence (near_of mid.near n) ≡ false →
+    Does (to_extender t n frame (world_in c)) s mid old new → near_of ends ≡ at n (heard_request sequence (near_of mid.near n)) (near_of mid.near) → is_fresh sequence (near_of mid.near n) ≡ false →
     Does (hears_request t l n sequence payload (world_in c)) s (record mid { near = ends }) old new
 stale_on t l n sequence payload frame s c mid ends old new spelled sent near last =
     let d : Whole = record mid { near = ends } in
@@ -111,7 +118,7 @@ stale_on t l n sequence payload frame s c mid ends old new spelled sent near las
     (rw last rest)
 
 pub fresh_on : (t : Shape) (l : Limits) (n sequence : ℕ) (payload frame : List ℕ) (s : Site) (c mid d : Whole) (ends : List Ecp) (old told new : Log) → frame ≡ bridge_acknowledgement sequence →
-    Does (to_extender t n frame (world_in c)) s mid old told → near_of ends ≡ at n (heard sequence (near_of mid.near n)) (near_of mid.near) → is_fresh sequence (near_of mid.near n) ≡ true →
+    Does (to_extender t n frame (world_in c)) s mid old told → near_of ends ≡ at n (heard_request sequence (near_of mid.near n)) (near_of mid.near) → is_fresh sequence (near_of mid.near n) ≡ true →
     Does (hears_message t l n (read_message payload) (world_in (record mid { near = ends }))) s d told new → Does (hears_request t l n sequence payload (world_in c)) s d old new
 fresh_on t l n sequence payload frame s c mid d ends old told new spelled sent near fresh done =
     let first : Does (to_extender t n (bridge_acknowledgement sequence) (world_in c)) s mid old told = subst (λ (f : List ℕ). Does (to_extender t n f (world_in c)) s mid old told) spelled sent in

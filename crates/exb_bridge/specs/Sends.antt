@@ -54,10 +54,6 @@ sends_by v learned p f =
     if is_relayed (bridge_in v) p f then sends_of v.shape (bridge_in v) (look_of learned) (numbers_of v.spaces) p f
     else []
 
--- what it teaches
-abbrev pub taught_by : Bridge → ℕ → List ℕ → Table → Table
-taught_by b p f u = if is_relayed b p f then after_any (relay_call p f (passes b p f)) u else u
-
 -- whether it passed at its port
 abbrev pub is_passed : Ingress → Bool
 is_passed (ingress.Passed v pcp dei) = true

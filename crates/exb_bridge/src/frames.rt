@@ -5,7 +5,8 @@ ghost use Rattle.exb_config.specs.Tables.{bridge_of};
 ghost use Rattle.exb_learn.specs.Entries.{table_of};
 ghost use Rattle.exb_learn.specs.Histories.{relay_call, after_any};
 ghost use Rattle.exb_control.specs.ActiveConfigs.{bridge_in};
-ghost use Rattle.exb_bridge.specs.Sends.{taught_by, sends_by, ingress_for, vid_in};
+ghost use Rattle.exb_machine.specs.Controls.{taught_by};
+ghost use Rattle.exb_bridge.specs.Sends.{sends_by, ingress_for, vid_in};
 
 use arrayvec::ArrayVec;
 use exb_config::Config;

@@ -3,6 +3,7 @@
 ghost use Rattle.std.specs.Prelude.{◌≡◌, ℕ, List, true, OnOk, Ok};
 ghost use Rattle.exb_ecp.specs.Frames.{pdu_in};
 ghost use Rattle.exb_model.specs.Tree.{is_extender};
+ghost use Rattle.exb_machine.specs.Controls.{address_of, is_of};
 ghost use Rattle.exb_machine.specs.Hearing.{hears, hears_frame, hears_message, hears_pdu, hears_request, stops};
 ghost use Rattle.exb_machine.specs.Worlds.{World};
 ghost use Rattle.exb_machine.specs.Runs.Asks.{AsksWell};
@@ -19,9 +20,25 @@ use exb_boxes::Ends;
 use exb_control::Taken;
 use exb_csp::Message;
 use exb_lldp::Announce;
+use exb_model::address::Mac;
 use exb_model::memory::NoMemory;
 
-/// An announcement of an extender.
+/// The address by which an extender is known: 02-45-42-01-00 and its number.
+fn address_of(extender: u8) -> Mac
+    ensures { result.0 ≡ address_of extender }
+{
+    Mac([0x02, 0x45, 0x42, 0x01, 0x00, extender])
+}
+
+/// Whether an announcement has the address and the port count of an extender.
+fn is_of(site: &Site, extender: u8, announce: &Announce) -> bool
+    requires { is_extender site.now.tree extender ≡ true }
+    ensures { result ≡ is_of site.now.tree extender announce.now }
+{
+    announce.chassis == address_of(extender) && announce.ports == site.ports(extender)
+}
+
+/// An announcement of an extender. It is heard where it has the extender's address and port count.
 fn hear_announcement(
     site: &Site,
     number: u8,
@@ -35,11 +52,10 @@ fn hear_announcement(
     requires asks { AsksWell site.now.tree (limits_in site.now) (world_in (whole rest bridge.old)).control }
     ensures { OnOk result ((f : List ℕ) → Does (hears_frame site.now.tree (limits_in site.now) number (Ok announce.now) f (world_in (whole rest bridge.old))) site.now (whole rest bridge.new) room.old.post.log room.new.post.log) }
 {
-    if bridge
-        .control
-        .heard(number, announce, &mut room.outbox)
-        .is_err()
-    {
+    if !is_of(site, number, announce) {
+        return Ok(());
+    }
+    if bridge.control.heard(number, &mut room.outbox).is_err() {
         return Err(NoMemory);
     }
     follow(site, room, bridge)

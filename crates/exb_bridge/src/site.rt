@@ -1,5 +1,5 @@
 //! What never changes in a network: its tree, and what is looked up beside it.
-ghost use Rattle.std.specs.Prelude.{◌≡◌, true, IfOk};
+ghost use Rattle.std.specs.Prelude.{◌≡◌, true, IfOk, slice_index};
 ghost use Rattle.exb_model.specs.Setup.{IsPlace, IsValid, port_at, shape_of, limits_of};
 ghost use Rattle.exb_model.specs.Tree.{by_depth, is_extender, on};
 ghost use Rattle.exb_machine.specs.Extending.{hung_on};
@@ -22,6 +22,8 @@ pub struct Site {
     tree: Tree,
     channels: u16,
     groups: u16,
+    /// How many ports each device has.
+    ports: [u8; DEVICES as usize],
     /// The port on which each extender hangs.
     on: [PortId; DEVICES as usize],
     /// The extenders from the deepest, at one depth by number.
@@ -40,7 +42,7 @@ impl Model for Site {
 
     ghost view = { λ s. record { tree = s.tree; channels = s.channels; groups = s.groups } };
 
-    ghost invariant = { λ s. HasTables s.tree s.on s.upwards.items s.extenders s.upward_places s.downward_places };
+    ghost invariant = { λ s. HasTables s.tree s.ports s.on s.upwards.items s.extenders s.upward_places s.downward_places };
 }
 
 /// The port at a place of a setup.
@@ -52,6 +54,19 @@ fn port_at(place: &Place) -> PortId
         Place::Bridge { port } => PortId::at(0, *port - 1),
         Place::Extender { number, port } => PortId::at(*number, *port - 1),
     }
+}
+
+/// How many ports each device of a setup has.
+fn port_counts(setup: &Setup) -> [u8; DEVICES as usize]
+    requires { IsValid setup.now }
+    ensures { result ≡ (shape_of setup.now).ports }
+{
+    let mut ports = [0u8; DEVICES as usize];
+    ports[0] = setup.ports;
+    for extender in setup.extenders.as_slice() {
+        ports[extender.number as usize] = extender.ports;
+    }
+    ports
 }
 
 /// The port on which each extender of a setup hangs.
@@ -75,6 +90,7 @@ impl Site {
         ensures limits { IfOk result (λ made. limits_in made ≡ limits_of setup.now) }
     {
         let tree = Tree::new(alloc, setup)?;
+        let ports = port_counts(setup);
         let on = places(setup);
         let upwards = deepest_first(alloc, &tree, &on)?;
         let extenders = all_extenders(&tree);
@@ -84,6 +100,7 @@ impl Site {
             tree,
             channels: setup.channels,
             groups: setup.groups,
+            ports,
             on,
             upwards,
             extenders,
@@ -105,6 +122,16 @@ impl Site {
         ensures { IsNumber extender }
     {
         self.tree.is_tree();
+    }
+
+    /// How many ports an extender has.
+    pub fn ports(&self, extender: u8) -> u8
+        requires { is_extender self.now.tree extender ≡ true }
+        ensures { result ≡ slice_index self.now.tree.ports extender }
+    {
+        self.tree.is_tree();
+        let ports = &self.ports;
+        ports[extender as usize]
     }
 
     /// The port on which an extender hangs.

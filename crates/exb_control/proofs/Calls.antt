@@ -1,5 +1,5 @@
 -- The calls of the control, from what its parts do.
-use Rattle.std.proofs.Common.{◌≡◌, ℕ, ◌^◌, ◌<◌, ◌==◌, Bool, true, false, List, [], ◌∷◌, Option, Some, None, ◌++◌, drop, refl, ap, sym, subst, ◌∙◌, arith, inl, inr, eq-eqb}
+use Rattle.std.proofs.Common.{◌≡◌, ℕ, ◌^◌, ◌<◌, ◌==◌, Bool, false, List, [], ◌∷◌, Option, Some, None, ◌++◌, drop, refl, ap, sym, subst, ◌∙◌, arith, inl, inr, eq-eqb}
 use Rattle.std.proofs.lemmas.Bool.{cases_eq, cases_Bool, ne_eqb}
 use Rattle.std.proofs.lemmas.List.{append-nil}
 use Rattle.std.specs.Result.{OnOk, is_err}
@@ -16,16 +16,15 @@ use Rattle.exb_changing.specs.declared.job.Phase.{Phase}
 use Rattle.exb_changing.specs.declared.job.Phase.TheVariants.{Preparing, Cleaning}
 use Rattle.exb_control.specs.declared.stage.Stage.{Stage}
 use Rattle.exb_control.specs.declared.stage.Stage.TheVariants.{AtRest, Prepared, InForce}
-use Rattle.exb_changing.specs.Machine.{Work, State, Moved, beats, beats_in, wakes}
+use Rattle.exb_changing.specs.Machine.{Work, State, Moved, beats, beats_in, heard, wakes}
 use Rattle.exb_control.specs.declared.working.Core.{Core}
 use Rattle.exb_control.specs.declared.outbox.Outbox.{Outbox}
 use Rattle.exb_model.specs.Tree.{Shape}
-use Rattle.exb_lldp.specs.declared.announce.Announce.{Announce}
 use Rattle.exb_changing.specs.Deciding.{Decide}
 use Rattle.exb_control.specs.Queues.{first_in}
-use Rattle.exb_control.specs.Controls.{Parts, state_of, work_from, work_at, announced, is_announced, is_of}
+use Rattle.exb_control.specs.Controls.{Parts, state_of, work_from, work_at}
 use Rattle.exb_control.specs.Boxes.{IsMoved}
-use Rattle.exb_control.specs.Steps.{Heard, askers_of, Reached, reached, reached_by, put, noted, ask_at, after_beat, messages_at_beat}
+use Rattle.exb_control.specs.Steps.{askers_of, Reached, reached, reached_by, put, noted, ask_at, after_beat, messages_at_beat}
 use Rattle.exb_control.specs.Soundness.{IsSteady, to_come}
 use Rattle.exb_control.specs.Spelled.{Repeats, Spells}
 use Rattle.exb_control.specs.Insides.{parts_of, IsKept}
@@ -37,7 +36,7 @@ when_ok (Ok x) fine p = p
 when_ok (Err e) fine p = absurd (cc)
 
 -- ---- a step of the machine
-pub moved : (m : Moved) (old : Parts) (core : Core) (queue : List Job) (heard : Heard) (given : ℕ) (failed : Bool) (events : List Event) (asks : List Asked) (downs : List ℕ) (out : Outbox) →
+pub moved : (m : Moved) (old : Parts) (core : Core) (queue : List Job) (heard : List Bool) (given : ℕ) (failed : Bool) (events : List Event) (asks : List Asked) (downs : List ℕ) (out : Outbox) →
     events ≡ [] → asks ≡ [] → downs ≡ [] →
     reached (state_of (parts_of core queue heard given failed)) out.events out.asks out.downs ≡ reached_by m events asks downs →
     core.active.shape ≡ old.active.shape → core.active.limits ≡ old.active.limits → failed ≡ old.failed →
@@ -110,12 +109,11 @@ repeats_beat (Some a) askers all n = repeats_put a.extender (beaten (askers a.ex
 spells_beat : (t : Shape) (o : Option Work) (q : Option AskAt) (askers : ℕ → AskerState) → Spells t o askers → Spells t o (after_beat q askers)
 spells_beat t o q askers k = record { known = k.known; work = k.work; askers = repeats_beat q askers k.askers }
 
-pub kept_beat : (core core' : Core) (queue : List Job) (heard : Heard) (given : ℕ) (failed : Bool) → core' ≡ record core { sessions = core'.sessions } →
-    askers_of core'.sessions ≡ after_beat (ask_at core.active.stage core.place) (askers_of core.sessions) → IsKept core queue heard given failed → IsKept core' queue heard given failed
-kept_beat core core' queue heard given failed rest askers kept =
-    subst (λ (x : Core). IsKept x queue heard given failed) (sym rest)
+pub kept_beat : (core core' : Core) (queue : List Job) (given : ℕ) (failed : Bool) → core' ≡ record core { sessions = core'.sessions } →
+    askers_of core'.sessions ≡ after_beat (ask_at core.active.stage core.place) (askers_of core.sessions) → IsKept core queue given failed → IsKept core' queue given failed
+kept_beat core core' queue given failed rest askers kept =
+    subst (λ (x : Core). IsKept x queue given failed) (sym rest)
     (record {
-      ports = kept.ports;
       sound = λ fine.
           let sound = kept.sound fine in
           record {
@@ -126,7 +124,7 @@ kept_beat core core' queue heard given failed rest askers kept =
           };
     })
 
-pub beat_moves : (core core' : Core) (queue : List Job) (heard : Heard) (given : ℕ) (failed : Bool) (events : List Event) (asks asks' : List Asked) (downs : List ℕ) →
+pub beat_moves : (core core' : Core) (queue : List Job) (heard : List Bool) (given : ℕ) (failed : Bool) (events : List Event) (asks asks' : List Asked) (downs : List ℕ) →
     core' ≡ record core { sessions = core'.sessions } →
     askers_of core'.sessions ≡ after_beat (ask_at core.active.stage core.place) (askers_of core.sessions) →
     asks' ≡ asks ++ messages_at_beat (ask_at core.active.stage core.place) (askers_of core.sessions) →
@@ -136,19 +134,10 @@ beat_moves core core' queue heard given failed events asks asks' downs rest aske
     ap (λ (x : Core). reached (state_of (parts_of x queue heard given failed)) events asks' downs) rest
     ∙ beats_as core.active.stage core.place (state_of (parts_of core queue heard given failed)) (askers_of core'.sessions) events asks asks' downs refl askers told
 
--- ---- announcements
-pub heard_it : (decide : Decide) (t : Shape) (ports : List ℕ) (n : ℕ) (a : Announce) (s : State) (heard' : ℕ → Bool) (events : List Event) (asks : List Asked) (downs : List ℕ) →
-    ports ≡ t.ports → is_announced ports n a ≡ true → heard' ≡ noted n s.heard →
-    reached_by (wakes decide (record s { heard = heard' })) events asks downs ≡ reached_by (announced decide t n a s) events asks downs
-heard_it decide t ports n a s heard' events asks downs same its heard_is =
-    let here : is_of t n a ≡ true = ap (λ (ps : List ℕ). is_announced ps n a) (sym same) ∙ its in
-    rw (here, heard_is) refl
-
-pub ignored : (decide : Decide) (t : Shape) (ports : List ℕ) (n : ℕ) (a : Announce) (v : Parts) (out : Outbox) →
-    ports ≡ t.ports → is_announced ports n a ≡ false → out.events ≡ [] → out.asks ≡ [] → out.downs ≡ [] → IsMoved (announced decide t n a (state_of v)) v v out
-ignored decide t ports n a v out same other none no_ask no_down =
-    let here : is_of t n a ≡ false = ap (λ (ps : List ℕ). is_announced ps n a) (sym same) ∙ other in
-    rw here (record { state = refl; events = none; asks = no_ask; downs = no_down; shape = refl; limits = refl; failed = refl })
+-- ---- who was heard
+pub heard_it : (decide : Decide) (n : ℕ) (s : State) (heard' : ℕ → Bool) (events : List Event) (asks : List Asked) (downs : List ℕ) → heard' ≡ noted n s.heard →
+    reached_by (wakes decide (record s { heard = heard' })) events asks downs ≡ reached_by (heard decide n s) events asks downs
+heard_it decide n s heard' events asks downs is = rw is refl
 
 -- ---- numbers
 pub room_of : (k : ℕ) (o : Option Work) (askers : ℕ → AskerState) → IsSteady k o askers → k < 2 ^ 40

@@ -1,9 +1,9 @@
 -- How many exchanges are still to come.
-use Rattle.std.proofs.Common.{◌≡◌, ℕ, zero, suc, ◌+◌, ◌*◌, ◌^◌, ◌≤◌, ◌&&◌, not, Bool, true, List, [], ◌∷◌, Option, Some, length, drop, refl, ap, sym, ◌∙◌, arith, add-one, add-zero, zero-add, add_assoc, nat_lt, slice_index}
+use Rattle.std.proofs.Common.{◌≡◌, ℕ, zero, suc, ◌+◌, ◌*◌, ◌^◌, ◌≤◌, ◌&&◌, not, Bool, true, List, [], ◌∷◌, Option, Some, length, drop, refl, ap, sym, ◌∙◌, arith, add-one, add-zero, zero-add, add_assoc}
 use Rattle.std.specs.Prelude.{slice_get, is_none, count_by}
 use Rattle.std.specs.List.{range_with_len}
 use Rattle.exb_control.proofs.Steps.{drop-nil}
-use Rattle.exb_model.specs.Tree.{Shape}
+use Rattle.exb_model.specs.Tree.{Shape, is_extender}
 use Rattle.exb_model.specs.Configuration.{Bridge}
 use Rattle.exb_csp.specs.declared.ask_at.AskAt.{AskAt}
 use Rattle.exb_changing.specs.declared.planning.change.Change.{Change}
@@ -20,7 +20,7 @@ use Rattle.exb_changing.specs.Counting.{requests_of, requests_in, requests_by, b
 use Rattle.exb_control.specs.declared.working.Core.{Core}
 use Rattle.exb_control.specs.Queues.{is_empty}
 use Rattle.exb_control.specs.Controls.{decide_of, work_from, work_at}
-use Rattle.exb_control.specs.Steps.{Front, Heard, heard_of, state_in, left_at, unheard_to}
+use Rattle.exb_control.specs.Steps.{Front, heard_of, state_in, left_at, unheard_to}
 use Rattle.exb_control.specs.Soundness.{AsksOrRests}
 
 pub drop_at : (js : List Job) (i : ℕ) (j : Job) → slice_get js i ≡ Some j → drop i js ≡ j ∷ drop (suc i) js
@@ -96,18 +96,16 @@ requests_with (InForce j x) place decide s work rests =
     ap (λ k. k + requests_in decide s.bridge (release x s.held) s.queue) (add-zero (length (drop place x.cleanup)))
     ∙ forced_with j x decide s (drop place x.cleanup) work rests
 
-missing_as : (t : Shape) (heard : Heard) (s : State) → heard.ports ≡ t.ports → s.heard ≡ heard_of heard.heard → unheard_to heard 64 ≡ unheard t s
+missing_as : (t : Shape) (heard : List Bool) (s : State) → s.heard ≡ heard_of heard → unheard_to t heard 64 ≡ unheard t s
 unfolding unheard_to
-missing_as t heard s ports same =
-    ap (λ (ps : List ℕ). count_by (λ n. nat_lt 0 n && nat_lt 0 (slice_index ps n) && not (heard_of heard.heard n)) (range_with_len 1 64)) ports
-    ∙ ap (λ (hs : ℕ → Bool). count_by (λ n. nat_lt 0 n && nat_lt 0 (slice_index t.ports n) && not (hs n)) (range_with_len 1 64)) (sym same)
+missing_as t heard s same = ap (λ (hs : ℕ → Bool). count_by (λ n. is_extender t n && not (hs n)) (range_with_len 1 64)) (sym same)
 
-pub all_planned : (t : Shape) (decide : Decide) (f : Front) (c : Core) (heard : Heard) (b : Bridge) (h : Held) (q : List Job) (asked waiting missing : ℕ) →
-    AsksOrRests c → heard.ports ≡ t.ports → f.heard ≡ heard.heard → f.queue ≡ q → b ≡ bridge_at_end c.active.stage (bridge_in c.active) → h ≡ held_at_end c.active.stage (held_in c.active) →
-    asked ≡ left_at c.active.stage c.place → waiting ≡ requests_in decide b h q → missing ≡ unheard_to heard 64 →
+pub all_planned : (t : Shape) (decide : Decide) (f : Front) (c : Core) (heard : List Bool) (b : Bridge) (h : Held) (q : List Job) (asked waiting missing : ℕ) →
+    AsksOrRests c → f.heard ≡ heard → f.queue ≡ q → b ≡ bridge_at_end c.active.stage (bridge_in c.active) → h ≡ held_at_end c.active.stage (held_in c.active) →
+    asked ≡ left_at c.active.stage c.place → waiting ≡ requests_in decide b h q → missing ≡ unheard_to t heard 64 →
     asked + waiting + missing ≡ planned t decide (state_in f c)
 unfolding planned
-all_planned t decide f c heard b h q asked waiting missing rests ports same is bridge held left requests none =
+all_planned t decide f c heard b h q asked waiting missing rests same is bridge held left requests none =
     let s = state_in f c in
     let end : requests_in decide b h q ≡ requests_in decide (bridge_at_end c.active.stage s.bridge) (held_at_end c.active.stage s.held) s.queue =
     ap (λ (x : Bridge). requests_in decide x h q) bridge
@@ -116,4 +114,4 @@ all_planned t decide f c heard b h q asked waiting missing rests ports same is b
     ap (λ k. k + waiting + missing) left
     ∙ ap (λ k. left_at c.active.stage c.place + k + missing) (requests ∙ end)
     ∙ ap (λ k. k + missing) (requests_with c.active.stage c.place decide s refl rests)
-    ∙ ap (λ k. requests_by decide s.work s + k) (none ∙ missing_as t heard s ports (ap heard_of same))
+    ∙ ap (λ k. requests_by decide s.work s + k) (none ∙ missing_as t heard s (ap heard_of same))

@@ -1,5 +1,5 @@
 -- The control as it begins.
-use Rattle.std.proofs.Common.{◌≡◌, ◌≤◌, false, None, List, length, refl, ap, sym, ◌∙◌, arith}
+use Rattle.std.proofs.Common.{◌≡◌, ◌≤◌, Bool, false, None, List, length, refl, arith}
 use Rattle.exb_model.specs.declared.setup.Setup.{Setup}
 use Rattle.exb_model.specs.Setup.{shape_of, limits_of, start_of}
 use Rattle.exb_csp.specs.Sessions.Asking.{begun}
@@ -9,16 +9,16 @@ use Rattle.exb_changing.specs.Beginning.{first_jobs, first_held}
 use Rattle.exb_control.specs.ActiveConfigs.{bridge_in, held_in}
 use Rattle.exb_control.specs.declared.working.Core.{Core}
 use Rattle.exb_control.specs.Controls.{state_of, first_of}
-use Rattle.exb_control.specs.Steps.{Heard, heard_of, askers_of}
+use Rattle.exb_control.specs.Steps.{heard_of, askers_of}
 use Rattle.exb_control.specs.Soundness.{MayAsk, to_come}
 use Rattle.exb_control.specs.Spelled.{Spells}
 use Rattle.exb_control.specs.Insides.{parts_of, IsKept}
 use Rattle.exb_changing.proofs.FirstJobs.{few_first, fit_first}
 use Rattle.exb_csp.proofs.Sessions.AskerLaws.{stays_sound}
 
-module _ (s : Setup) (core : Core) (queue : List Job) (heard : Heard) (shape : core.active.shape ≡ shape_of s) (rest : core.active.stage ≡ AtRest)
+module _ (s : Setup) (core : Core) (queue : List Job) (heard : List Bool) (shape : core.active.shape ≡ shape_of s) (rest : core.active.stage ≡ AtRest)
     (jobs : queue ≡ first_jobs (shape_of s)) (askers : askers_of core.sessions ≡ λ n. begun) where
-  pub begins_as : bridge_in core.active ≡ start_of s → held_in core.active ≡ first_held (shape_of s) (limits_of s) → heard_of heard.heard ≡ (λ n. false) →
+  pub begins_as : bridge_in core.active ≡ start_of s → held_in core.active ≡ first_held (shape_of s) (limits_of s) → heard_of heard ≡ (λ n. false) →
       state_of (parts_of core queue heard 0 false) ≡ first_of s
   begins_as bridge held none = rw (jobs, rest, bridge, held, none, askers) refl
 
@@ -30,10 +30,9 @@ module _ (s : Setup) (core : Core) (queue : List Job) (heard : Heard) (shape : c
   spells_first : Spells core.active.shape None (askers_of core.sessions)
   spells_first = rw askers (record { known = tt; work = tt; askers = λ n. record { sound = stays_sound.begins; spelled = tt } })
 
-  pub begins_kept : heard.ports ≡ (shape_of s).ports → IsKept core queue heard 0 false
-  begins_kept ports =
+  pub begins_kept : IsKept core queue 0 false
+  begins_kept =
       record {
-        ports = ports ∙ ap (λ t. t.ports) (sym shape);
         sound = λ _. record {
           fit = rw (shape, jobs) (fit_first (shape_of s));
           asks = λ _. rest;

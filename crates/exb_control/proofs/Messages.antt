@@ -31,8 +31,6 @@ use Rattle.exb_changing.specs.Runs.Systems.{System, Step, Order, Hear, Stray, Be
 use Rattle.exb_changing.specs.Runs.Knowing.{AreAddressed, NamesPorts}
 use Rattle.exb_changing.proofs.Runs.Knowing.{steps_know}
 use Rattle.exb_changing.proofs.Runs.Taking.{beat_waits}
-use Rattle.exb_lldp.specs.declared.announce.Announce.{Announce}
-use Rattle.exb_control.specs.Controls.{announced, is_of}
 use Rattle.exb_control.specs.Spelled.{CanBeSpelled, AreSpelled, IsSpelledWork, SpellsWork, Repeats, Spells}
 use Rattle.exb_control.proofs.Requests.{IsSpelledChange, decided_spelled}
 
@@ -188,15 +186,8 @@ module _ (t : Shape) (l : Limits) (s : State) (fit : AreFit t s.queue) (spells :
       spelled_by (Order c) names
       (wakes_spoke t l s.work (record s { queue = s.queue ++ job.Ordered (s.given + 1) c ∷ []; given = s.given + 1 }) refl spells.work spells.askers)
 
-  heard_spelled : (n : ℕ) → Spelled t (heard (decide t l) n s)
+  pub heard_spelled : (n : ℕ) → Spelled t (heard (decide t l) n s)
   heard_spelled n = spelled_by (Hear n) tt (wakes_spoke t l s.work (record s { heard = λ m. m == n || s.heard m }) refl spells.work spells.askers)
-
-  pub announced_spelled : (n : ℕ) (a : Announce) → Spelled t (announced (decide t l) t n a s)
-  announced_spelled n a = by_test (is_of t n a)
-    where
-      by_test : (b : Bool) → Spelled t (cond b (heard (decide t l) n s) (still s))
-      by_test true = heard_spelled n
-      by_test false = record { kept = spells; asks = all_from (CanBeSpelled t) [] tt }
 
   pub answered_spelled : (n : ℕ) (m : Message) → Spelled t (answered (decide t l) n m s)
   answered_spelled n m =
@@ -212,6 +203,3 @@ spells_on t u m s shape same k = subst (λ (x : Shape). Spells x s.work s.askers
 
 pub asks_on : (t : Shape) (m : Moved) (asks : List Asked) → asks ≡ m.asks → Spelled t m → All (CanBeSpelled t) asks
 asks_on t m asks same k = subst (All (CanBeSpelled t)) (sym same) k.asks
-
-pub none_asked : (t : Shape) (asks : List Asked) → asks ≡ [] → All (CanBeSpelled t) asks
-none_asked t asks none = subst (All (CanBeSpelled t)) (sym none) (all_from (CanBeSpelled t) [] tt)

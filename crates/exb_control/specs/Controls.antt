@@ -1,10 +1,9 @@
 -- What the bridge's control is to its contracts: plain data, and the state of the machine of changes that it
 -- stands for.
-use Rattle.std.specs.Prelude.{ℕ, ◌==◌, ◌&&◌, Bool, false, if◌then◌else◌, List, [], ◌∷◌, Option, Some, None, is_none, bytes_eq, drop, slice_index, slice_index_or}
+use Rattle.std.specs.Prelude.{ℕ, ◌&&◌, Bool, false, if◌then◌else◌, List, [], ◌∷◌, Option, Some, None, is_none, drop, slice_index_or}
 use Rattle.exb_model.specs.declared.setup.Setup.{Setup}
 use Rattle.exb_model.specs.Tree.{Shape, device, trunk, is_extender}
 use Rattle.exb_model.specs.Setup.{shape_of, limits_of, start_of}
-use Rattle.exb_lldp.specs.declared.announce.Announce.{Announce}
 use Rattle.exb_csp.specs.Sessions.Asking.{AskerState, begun}
 use Rattle.exb_csp.specs.declared.ask_at.AskAt.{AskAt}
 use Rattle.exb_changing.specs.declared.planning.change.Change.{Change}
@@ -16,7 +15,7 @@ use Rattle.exb_control.specs.declared.stage.Stage.{Stage}
 use Rattle.exb_control.specs.declared.stage.Stage.TheVariants.{AtRest, Prepared, InForce}
 use Rattle.exb_changing.specs.Deciding.{Decide, decide}
 use Rattle.exb_control.specs.ActiveConfigs.{ActiveConfig, bridge_in, held_in}
-use Rattle.exb_changing.specs.Machine.{Work, State, Moved, still, heard}
+use Rattle.exb_changing.specs.Machine.{Work, State, heard}
 use Rattle.exb_changing.specs.Beginning.{first_state}
 use Rattle.exb_control.specs.Queues.{is_empty}
 
@@ -73,22 +72,6 @@ is_settled s = is_empty s.queue && is_none s.work
 -- as it begins
 abbrev pub first_of : Setup → State
 first_of s = first_state (shape_of s) (limits_of s) (start_of s)
-
--- ---- announcements
--- the address of extender n: 02-45-42-01-00-n
-abbrev pub address_of : ℕ → List ℕ
-address_of n = 2 ∷ 69 ∷ 66 ∷ 1 ∷ 0 ∷ n ∷ []
-
--- the announcement has the address and the port count of extender n, by the port counts of all
-abbrev pub is_announced : List ℕ → ℕ → Announce → Bool
-is_announced ports n a = bytes_eq a.chassis.0 (address_of n) && a.ports == slice_index ports n
-
-abbrev pub is_of : Shape → ℕ → Announce → Bool
-is_of t n a = is_announced t.ports n a
-
--- such an announcement is heard, and another one changes nothing
-abbrev pub announced : Decide → Shape → ℕ → Announce → State → Moved
-announced decide t n a s = if is_of t n a then heard decide n s else still s
 
 -- ---- numbers
 -- the channel that a port of an extender holds at its trunk

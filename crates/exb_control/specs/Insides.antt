@@ -3,21 +3,19 @@ use Rattle.std.specs.Prelude.{◌≡◌, ℕ, Bool, false, List}
 use Rattle.exb_changing.specs.declared.job.Job.{Job}
 use Rattle.exb_control.specs.declared.working.Core.{Core}
 use Rattle.exb_control.specs.Controls.{Parts}
-use Rattle.exb_control.specs.Steps.{Heard}
 use Rattle.exb_control.specs.Soundness.{IsSound}
 
-abbrev pub parts_of : Core → List Job → Heard → ℕ → Bool → Parts
+abbrev pub parts_of : Core → List Job → List Bool → ℕ → Bool → Parts
 parts_of c queue heard given failed =
     record {
       active = c.active;
       place = c.place;
       queue = queue;
-      heard = heard.heard;
+      heard = heard;
       askers = c.sessions;
       given = given;
       failed = failed;
     }
 
-pub record IsKept (c : Core) (queue : List Job) (heard : Heard) (given : ℕ) (failed : Bool) : Type 0 where
-  pub ports : heard.ports ≡ c.active.shape.ports
+pub record IsKept (c : Core) (queue : List Job) (given : ℕ) (failed : Bool) : Type 0 where
   pub sound : failed ≡ false → IsSound c queue given

@@ -1,7 +1,8 @@
 -- What the parts of the control have to do with the machine of changes.
-use Rattle.std.specs.Prelude.{ℕ, ◌+◌, ◌==◌, ◌||◌, Bool, true, false, not, if◌then◌else◌, List, [], ◌∷◌, ◌++◌, Option, Some, None, slice_index, nat_lt, ◌&&◌, count_by, length, drop}
+use Rattle.std.specs.Prelude.{ℕ, ◌+◌, ◌==◌, ◌||◌, Bool, true, false, not, if◌then◌else◌, List, [], ◌∷◌, ◌++◌, Option, Some, None, ◌&&◌, count_by, length, drop}
 use Rattle.std.specs.List.{range_with_len}
 use Rattle.exb_model.specs.declared.event.Event.{Event}
+use Rattle.exb_model.specs.Tree.{Shape, is_extender}
 use Rattle.exb_csp.specs.declared.message.Message.{Message}
 use Rattle.exb_csp.specs.Sessions.Asking.{AskerState, asked, beaten, message_again}
 use Rattle.exb_csp.specs.declared.ask_at.AskAt.{AskAt}
@@ -138,12 +139,7 @@ commits_at AtRest s = still s
 commits_at (Prepared j x) s = commits j x s
 commits_at (InForce j x) s = still s
 
--- ---- announcements
--- the port count of each extender, and which were heard
-pub record Heard : Type 0 where
-  pub ports : List ℕ
-  pub heard : List Bool
-
+-- ---- who was heard
 -- extender n was heard too
 abbrev pub noted : ℕ → (ℕ → Bool) → ℕ → Bool
 noted n heard m = m == n || heard m
@@ -153,12 +149,12 @@ waits_for heard (job.Opening n) = not (is_heard heard n)
 waits_for heard (job.AutomaticUp p) = false
 waits_for heard (job.Ordered n c) = false
 
-abbrev pub unheard_at : Heard → ℕ → Bool
-unheard_at h n = nat_lt 0 n && nat_lt 0 (slice_index h.ports n) && not (is_heard h.heard n)
+abbrev pub unheard_at : Shape → List Bool → ℕ → Bool
+unheard_at t heard n = is_extender t n && not (is_heard heard n)
 
 -- how many of the first n extenders weren't heard yet
-unfoldable pub unheard_to : Heard → ℕ → ℕ
-unheard_to h n = count_by (unheard_at h) (range_with_len 1 n)
+unfoldable pub unheard_to : Shape → List Bool → ℕ → ℕ
+unheard_to t heard n = count_by (unheard_at t heard) (range_with_len 1 n)
 
 -- ---- jobs
 -- the automatic up of a port, if it goes up

@@ -17,7 +17,6 @@ use crate::turns::{give, take, wake};
 use crate::working::{Core, beat, outstanding};
 use exb_changing::Job;
 use exb_csp::{Message, Taken};
-use exb_lldp::Announce;
 use exb_model::command::Command;
 use exb_model::memory::NoMemory;
 use exb_model::port::PortId;
@@ -55,16 +54,16 @@ impl Model for Control {
 
     ghost view = { λ c. parts_of c.core c.queue c.heard c.given c.failed };
 
-    ghost invariant = { λ c. IsKept c.core c.queue c.heard c.given c.failed };
+    ghost invariant = { λ c. IsKept c.core c.queue c.given c.failed };
 }
 
 impl Control {
     ghost use Rattle.exb_changing.specs.Counting.{planned};
     ghost use Rattle.exb_control.specs.ActiveConfigs.{IsActiveConfig, held_in};
-    ghost use Rattle.exb_changing.specs.Machine.{ordered, answered, beats};
+    ghost use Rattle.exb_changing.specs.Machine.{ordered, heard, answered, beats};
     ghost use Rattle.exb_control.specs.Boxes.{IsMoved, IsStill};
     ghost use Rattle.exb_control.specs.Spelled.{CanBeSpelled};
-    ghost use Rattle.exb_control.specs.Controls.{state_of, decide_of, first_of, is_settled, announced, channel_at_trunk};
+    ghost use Rattle.exb_control.specs.Controls.{state_of, decide_of, first_of, is_settled, channel_at_trunk};
 
     /// The control of a setup: nothing was heard or given yet.
     pub fn new(alloc: Global, setup: &Setup) -> Result<Control, NoMemory>
@@ -91,7 +90,7 @@ impl Control {
         Ok(Control {
             core,
             queue,
-            heard: Heard::new(setup),
+            heard: Heard::new(),
             given: 0,
             failed: false,
         })
@@ -130,15 +129,10 @@ impl Control {
         Ok(())
     }
 
-    /// An announcement comes from an extender. It is heard where it has the extender's address and port count.
-    pub fn heard(
-        &mut self,
-        extender: u8,
-        announce: &Announce,
-        out: &mut Outbox,
-    ) -> Result<(), ControlFault>
+    /// An extender is heard.
+    pub fn heard(&mut self, extender: u8, out: &mut Outbox) -> Result<(), ControlFault>
         requires { is_extender self.old.active.shape extender ≡ true }
-        ensures ok { OnOk result (IsMoved (announced (decide_of self.old.active) self.old.active.shape extender announce.now (state_of self.old)) self.old self.new out.new) }
+        ensures ok { OnOk result (IsMoved (heard (decide_of self.old.active) extender (state_of self.old)) self.old self.new out.new) }
         ensures spelled { OnOk result (All (CanBeSpelled self.old.active.shape) out.new.asks) }
         ensures failed { (result ≡ Err ControlFault.Failed) ↔ (self.old.failed ≡ true) }
         ensures memory { OnErr result (self.new.failed ≡ true) }
@@ -151,9 +145,6 @@ impl Control {
             return Err(ControlFault::Failed);
         }
         self.core.active.is_active_config();
-        if !self.heard.is_of(extender, announce) {
-            return Ok(());
-        }
         self.heard.note(extender);
         let done = wake(&self.heard, &mut self.queue, &mut self.core, out);
         if done.is_err() {
@@ -234,7 +225,7 @@ impl Control {
     pub fn of(&self, port: PortId) -> Option<u16>
         ensures { result ≡ channel_at_trunk self.now.active.shape (held_in self.now.active) port }
     {
-        channel_of(&self.core.active, &self.heard, port)
+        channel_of(&self.core.active, port)
     }
 
     /// The port that holds a channel of a cascade port of the bridge, 1 to 64.

@@ -3,7 +3,7 @@
 //! `exb_changing` says. The control opens each extender once that was heard, lets ports go up, carries out commands one
 //! after another. Upwards it promises that each call is exactly a step of the machine of changes, with its events and
 //! messages and the ports that went down. Of frames it knows nothing: `exb_bridge` relays them by the configuration that
-//! this lends. It stands on `exb_changing`, `exb_plan`, `exb_csp`, `exb_lldp` and what these stand on.
+//! this lends. It stands on `exb_changing`, `exb_plan`, `exb_csp` and what these stand on.
 #![tactic(auto)]
 
 pub mod active_config;

@@ -5,17 +5,15 @@ ghost use Rattle.exb_control.specs.ActiveConfigs.{held_in};
 ghost use Rattle.exb_control.specs.Controls.{channel_at_trunk};
 
 use crate::active_config::ActiveConfig;
-use crate::announcements::Heard;
 use exb_model::port::PortId;
 
 /// The channel that a port of an extender holds at its trunk.
-pub(crate) fn channel_of(active: &ActiveConfig, heard: &Heard, port: PortId) -> Option<u16>
-    requires { heard.now.ports ≡ active.now.shape.ports }
+pub(crate) fn channel_of(active: &ActiveConfig, port: PortId) -> Option<u16>
     ensures { result ≡ channel_at_trunk active.now.shape (held_in active.now) port }
 {
     active.is_active_config();
     let extender = port.device();
-    if !heard.is_extender(extender) {
+    if !active.tree().is_extender(extender) {
         return None;
     }
     let trunk = active.tree().trunk(extender);

@@ -84,15 +84,14 @@ fn waiting(active: &ActiveConfig, queue: &Queue<Job>) -> Result<u64, NoMemory>
 
 /// How many requests and announcements are still to come.
 pub(crate) fn planned(core: &Core, queue: &Queue<Job>, heard: &Heard) -> Result<u64, NoMemory>
-    requires ports { heard.now.ports ≡ core.now.active.shape.ports }
     requires fit { AreFit core.now.active.shape queue.now }
     requires rests { AsksOrRests core.now }
     requires few { 2 ^ 21 * length queue.now < 2 ^ 63 }
-    ensures count { IfOk result (λ count. (f : Front) → f.queue ≡ queue.now → f.heard ≡ heard.now.heard →
+    ensures count { IfOk result (λ count. (f : Front) → f.queue ≡ queue.now → f.heard ≡ heard.now →
         count ≡ planned core.now.active.shape (decide_of core.now.active) (state_in f core.now)) }
     ensures none { queue.now ≡ [] → is_err result ≡ false }
 {
     let asked = left(&core.active, core.place);
     let waiting = waiting(&core.active, queue)?;
-    Ok(asked + waiting + heard.unheard())
+    Ok(asked + waiting + heard.unheard(core.active.tree()))
 }

@@ -28,10 +28,10 @@ fn turn(
     requires stage { core.old.active.stage ≡ Stage.AtRest }
     requires fit { AreFit core.old.active.shape queue.old }
     requires may { MayAsk (2 ^ 21 * length queue.old) (askers_of core.old.sessions) }
-    ensures ends { IfOk result (λ goes. goes ≡ false → (f : Front) → f.heard ≡ heard.now.heard →
+    ensures ends { IfOk result (λ goes. goes ≡ false → (f : Front) → f.heard ≡ heard.now →
         reached (state_in (with_queue queue.new f) core.new) out.new.events out.new.asks out.new.downs
         ≡ reached_by (goes_on (decide_of core.old.active) queue.old (rest_of f core.old)) out.old.events out.old.asks out.old.downs) }
-    ensures goes { IfOk result (λ goes. goes ≡ true → (f : Front) → f.heard ≡ heard.now.heard →
+    ensures goes { IfOk result (λ goes. goes ≡ true → (f : Front) → f.heard ≡ heard.now →
         reached_by (goes_on (decide_of core.old.active) queue.new (rest_of f core.new)) out.new.events out.new.asks out.new.downs
         ≡ reached_by (goes_on (decide_of core.old.active) queue.old (rest_of f core.old)) out.old.events out.old.asks out.old.downs) }
     ensures steady { OnOk result ((k : ℕ) → MayAsk (2 ^ 21 * length queue.old + k) (askers_of core.old.sessions) →
@@ -64,7 +64,7 @@ pub(crate) fn go_on(
     requires stage { core.old.active.stage ≡ Stage.AtRest }
     requires fit { AreFit core.old.active.shape queue.old }
     requires may { MayAsk (2 ^ 21 * length queue.old) (askers_of core.old.sessions) }
-    ensures reached { OnOk result ((f : Front) → f.heard ≡ heard.now.heard →
+    ensures reached { OnOk result ((f : Front) → f.heard ≡ heard.now →
         reached (state_in (with_queue queue.new f) core.new) out.new.events out.new.asks out.new.downs
         ≡ reached_by (goes_on (decide_of core.old.active) queue.old (rest_of f core.old)) out.old.events out.old.asks out.old.downs) }
     ensures steady { OnOk result ((k : ℕ) → MayAsk (2 ^ 21 * length queue.old + k) (askers_of core.old.sessions) →
@@ -91,7 +91,7 @@ pub(crate) fn wake(
     requires rests { AsksOrRests core.old }
     requires fit { AreFit core.old.active.shape queue.old }
     requires steady { IsSteady (2 ^ 21 * length queue.old) (work_at core.old.active.stage core.old.place) (askers_of core.old.sessions) }
-    ensures reached { OnOk result ((f : Front) → f.heard ≡ heard.now.heard → f.queue ≡ queue.old →
+    ensures reached { OnOk result ((f : Front) → f.heard ≡ heard.now → f.queue ≡ queue.old →
         reached (state_in (with_queue queue.new f) core.new) out.new.events out.new.asks out.new.downs
         ≡ reached_by (wakes (decide_of core.old.active) (state_in f core.old)) out.old.events out.old.asks out.old.downs) }
     ensures steady { OnOk result ((k : ℕ) → IsSteady (2 ^ 21 * length queue.old + k) (work_at core.old.active.stage core.old.place) (askers_of core.old.sessions) →
@@ -121,7 +121,7 @@ pub(crate) fn give(
     requires names { NamesExternal core.old.active.shape command.now }
     requires fit { AreFit core.old.active.shape queue.old }
     requires steady { IsSteady (2 ^ 21 * (length queue.old + 1)) (work_at core.old.active.stage core.old.place) (askers_of core.old.sessions) }
-    ensures reached { OnOk result ((f : Front) → f.heard ≡ heard.now.heard → f.queue ≡ queue.old ++ Job.Ordered number command.now ∷ [] →
+    ensures reached { OnOk result ((f : Front) → f.heard ≡ heard.now → f.queue ≡ queue.old ++ Job.Ordered number command.now ∷ [] →
         reached (state_in (with_queue queue.new f) core.new) out.new.events out.new.asks out.new.downs
         ≡ reached_by (wakes (decide_of core.old.active) (state_in f core.old)) out.old.events out.old.asks out.old.downs) }
     ensures steady { OnOk result ((k : ℕ) → IsSteady (2 ^ 21 * (length queue.old + 1) + k) (work_at core.old.active.stage core.old.place) (askers_of core.old.sessions) →
@@ -152,7 +152,7 @@ pub(crate) fn take(
     requires fit { AreFit core.old.active.shape queue.old }
     requires steady { IsSteady (2 ^ 21 * length queue.old) (work_at core.old.active.stage core.old.place) (askers_of core.old.sessions) }
     ensures taken { IfOk result (λ taken. taken ≡ (took (askers_of core.old.sessions extender) message.now).1) }
-    ensures reached { OnOk result ((f : Front) → f.heard ≡ heard.now.heard → f.queue ≡ queue.old →
+    ensures reached { OnOk result ((f : Front) → f.heard ≡ heard.now → f.queue ≡ queue.old →
         reached (state_in (with_queue queue.new f) core.new) out.new.events out.new.asks out.new.downs
         ≡ reached_by (answered (decide_of core.old.active) extender message.now (state_in f core.old)) out.old.events out.old.asks out.old.downs) }
     ensures steady { OnOk result ((k : ℕ) → IsSteady (2 ^ 21 * length queue.old + k) (work_at core.old.active.stage core.old.place) (askers_of core.old.sessions) →

@@ -13,7 +13,7 @@ returns-in_default-clause-ends c _ f same =
 
 pub returns-then-waits-clause-ends : goal.returns-then-waits-clause-ends
 returns-then-waits-clause-ends c _ f same =
-    first_waits (decide_of c.args.core.now.active) c.args.queue.now c.in-Some.job f c.args.heard.now.heard c.args.core.now _ _ _ c.requires.stage (sym c.first.ensures ∙ c.in-Some.is) same
+    first_waits (decide_of c.args.core.now.active) c.args.queue.now c.in-Some.job f c.args.heard.now c.args.core.now _ _ _ c.requires.stage (sym c.first.ensures ∙ c.in-Some.is) same
     (sym c.waits.ensures ∙ c.if-waits.true)
 
 pub returns-clause-ends : goal.returns-clause-ends
@@ -22,7 +22,7 @@ returns-clause-ends c busy f same =
     let old = c.args.core.now in
     let first = first_is c.args.queue.now c.in-Some.job (sym c.first.ensures ∙ c.in-Some.is) in
     rw c.remove_first.ensures
-    (starts_busy (decide_of old.active) c.in-Some.job (after_first c.args.queue.now) f c.args.heard.now.heard old c.start.new.core _ _ _ _ _ _ same
+    (starts_busy (decide_of old.active) c.in-Some.job (after_first c.args.queue.now) f c.args.heard.now old c.start.new.core _ _ _ _ _ _ same
     (sym c.waits.ensures ∙ c.if-waits.false) (made.reached f) made.rests (sym c.is_at_rest.ensures ∙ busy)
     ∙ ap (λ (q : List Job). reached_by (goes_on (decide_of old.active) q (rest_of f old)) c.args.out.now.events c.args.out.now.asks c.args.out.now.downs) (sym first))
 
@@ -32,6 +32,6 @@ returns-clause-goes c rest f same =
     let old = c.args.core.now in
     let first = first_is c.args.queue.now c.in-Some.job (sym c.first.ensures ∙ c.in-Some.is) in
     rw c.remove_first.ensures
-    (starts_resting (decide_of old.active) c.in-Some.job (after_first c.args.queue.now) f c.args.heard.now.heard old c.start.new.core _ _ _ _ _ _ same
+    (starts_resting (decide_of old.active) c.in-Some.job (after_first c.args.queue.now) f c.args.heard.now old c.start.new.core _ _ _ _ _ _ same
     (sym c.waits.ensures ∙ c.if-waits.false) (made.reached f) (sym c.is_at_rest.ensures ∙ rest)
     ∙ ap (λ (q : List Job). reached_by (goes_on (decide_of old.active) q (rest_of f old)) c.args.out.now.events c.args.out.now.asks c.args.out.now.downs) (sym first))

@@ -1,4 +1,4 @@
-use Rattle.std.proofs.Common.{◌≡◌, ◌+◌, ◌-◌, ◌*◌, ◌^◌, length, true, refl, sym, ap, subst, ◌∙◌, arith}
+use Rattle.std.proofs.Common.{◌≡◌, ◌+◌, ◌-◌, ◌*◌, ◌^◌, length, true, refl, sym, ap, subst, arith}
 use Rattle.exb_model.specs.Tree.{is_extender}
 use Rattle.exb_changing.specs.Machine.{answered}
 use Rattle.exb_control.specs.Boxes.{IsMoved}
@@ -27,9 +27,8 @@ invariant_of-self c =
     let after : 2 ^ 21 * length c.take-done.new.queue + k ≡ to_come c.take-done.new.queue w.given = omega arith in
     let t = w.core.active.shape in
     let s = state_of (parts_of w.core w.queue w.heard w.given w.failed) in
-    let led = made.reached (record { queue = w.queue; heard = w.heard.heard; given = w.given }) refl refl in
+    let led = made.reached (record { queue = w.queue; heard = w.heard; given = w.given }) refl refl in
     record {
-      ports = c.self.invariant.ports ∙ ap (λ t. t.ports) (sym made.shape);
       sound = λ _. record {
         fit = subst (λ t. AreFit t c.take-done.new.queue) (sym made.shape) made.fit;
         asks = made.rests;
@@ -49,7 +48,7 @@ returns-in-Ok-clause-ok c =
     subst (λ (p : Parts). IsMoved (answered (decide_of p.active) c.args.extender c.args.message.now (state_of p)) p new out) c.self.view_is
     (moved _ (parts_of w.core w.queue w.heard w.given w.failed) c.take-done.new.core c.take-done.new.queue w.heard w.given w.failed c.empty.new.self.events c.empty.new.self.asks c.empty.new.self.downs out
     c.empty.ensures.events c.empty.ensures.asks c.empty.ensures.downs
-    (made.reached (record { queue = w.queue; heard = w.heard.heard; given = w.given }) refl refl)
+    (made.reached (record { queue = w.queue; heard = w.heard; given = w.given }) refl refl)
     made.shape made.limits refl)
 
 pub returns-in-Ok-clause-spelled : goal.returns-in-Ok-clause-spelled

@@ -12,7 +12,7 @@ use Rattle.exb_control.proofs.control.Control.beat.Goals as goal
 pub invariant_of-self-else-is_err : goal.invariant_of-self-else-is_err
 invariant_of-self-else-is_err c =
     let w = c.self.inside in
-    kept_beat w.core c.beat.new.core w.queue w.heard w.given w.failed c.beat.ensures.rest c.beat.ensures.sessions c.self.invariant
+    kept_beat w.core c.beat.new.core w.queue w.given w.failed c.beat.ensures.rest c.beat.ensures.sessions c.self.invariant
 
 pub returns-clause-ok : goal.returns-clause-ok
 returns-clause-ok c =

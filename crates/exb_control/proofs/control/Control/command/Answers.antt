@@ -26,9 +26,8 @@ invariant_of-self-else-is_err c =
     let t = w.core.active.shape in
     let s = state_of (parts_of w.core w.queue w.heard w.given w.failed) in
     let names = subst (λ (p : Parts). NamesExternal p.active.shape c.args.command.now) (sym c.self.view_is) c.requires.names in
-    let led = when_ok _ fine made.reached (record { queue = w.queue ++ job.Ordered (w.given + 1) c.args.command.now ∷ []; heard = w.heard.heard; given = w.given + 1 }) refl refl in
+    let led = when_ok _ fine made.reached (record { queue = w.queue ++ job.Ordered (w.given + 1) c.args.command.now ∷ []; heard = w.heard; given = w.given + 1 }) refl refl in
     record {
-      ports = c.self.invariant.ports ∙ ap (λ t. t.ports) (sym made.shape);
       sound = λ _. record {
         fit = subst (λ t. AreFit t c.give-done.new.queue) (sym made.shape) (when_ok _ fine made.fit);
         asks = when_ok _ fine made.rests;
@@ -49,7 +48,7 @@ returns-clause-ok c =
     subst (λ (p : Parts). IsMoved (ordered (decide_of p.active) c.args.command.now (state_of p)) p new out) c.self.view_is
     (moved _ (parts_of w.core w.queue w.heard w.given w.failed) c.give-done.new.core c.give-done.new.queue w.heard (w.given + 1) w.failed c.empty.new.self.events c.empty.new.self.asks c.empty.new.self.downs out
     c.empty.ensures.events c.empty.ensures.asks c.empty.ensures.downs
-    (when_ok _ fine made.reached (record { queue = w.queue ++ job.Ordered (w.given + 1) c.args.command.now ∷ []; heard = w.heard.heard; given = w.given + 1 }) refl refl)
+    (when_ok _ fine made.reached (record { queue = w.queue ++ job.Ordered (w.given + 1) c.args.command.now ∷ []; heard = w.heard; given = w.given + 1 }) refl refl)
     made.shape made.limits refl)
 
 pub returns-clause-spelled : goal.returns-clause-spelled

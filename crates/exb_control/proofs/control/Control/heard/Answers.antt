@@ -1,20 +1,16 @@
 use Rattle.std.proofs.Common.{◌≡◌, ◌+◌, ◌-◌, ◌*◌, ◌^◌, length, true, refl, sym, ap, subst, ◌∙◌, arith}
 use Rattle.exb_model.specs.Tree.{is_extender}
 use Rattle.exb_control.specs.Boxes.{IsMoved}
-use Rattle.exb_control.specs.Controls.{Parts, state_of, decide_of, announced}
+use Rattle.exb_changing.specs.Machine.{heard}
+use Rattle.exb_control.specs.Controls.{Parts, state_of, decide_of}
 use Rattle.exb_changing.specs.Fitting.{AreFit}
 use Rattle.exb_control.specs.Soundness.{to_come}
 use Rattle.exb_control.specs.Steps.{Reached}
 use Rattle.exb_control.specs.Insides.{parts_of}
-use Rattle.exb_control.proofs.Calls.{when_ok, moved, steady_at, heard_it, ignored}
-use Rattle.exb_control.proofs.Messages.{Spelled, announced_spelled, spells_on, asks_on, none_asked}
+use Rattle.exb_control.proofs.Calls.{when_ok, moved, steady_at, heard_it}
+use Rattle.exb_control.proofs.Messages.{Spelled, heard_spelled, spells_on, asks_on}
 use Rattle.exb_control.proofs.Known.{extender_low}
 use Rattle.exb_control.proofs.control.Control.heard.Goals as goal
-
-pub is_of-requires : goal.is_of-requires
-is_of-requires c =
-    extender_low c.self.inside.core.active.shape c.is_active_config.ensures.tree c.args.extender
-    (subst (λ (p : Parts). is_extender p.active.shape c.args.extender ≡ true) (sym c.self.view_is) c.requires)
 
 pub note-requires : goal.note-requires
 note-requires c =
@@ -33,18 +29,16 @@ invariant_of-self-else-is_err c =
     let t = w.core.active.shape in
     let s = state_of (parts_of w.core w.queue w.heard w.given w.failed) in
     let led =
-    when_ok _ fine made.reached (record { queue = w.queue; heard = c.note.new.self.heard; given = w.given }) refl refl
-    ∙ heard_it (decide_of w.core.active) t w.heard.ports c.args.extender c.args.announce.now s _ c.empty.new.self.events c.empty.new.self.asks c.empty.new.self.downs
-    c.self.invariant.ports (sym c.is_of.ensures ∙ c.if-not-is_of.false) c.note.ensures.heard in
+    when_ok _ fine made.reached (record { queue = w.queue; heard = c.note.new.self; given = w.given }) refl refl
+    ∙ heard_it (decide_of w.core.active) c.args.extender s _ c.empty.new.self.events c.empty.new.self.asks c.empty.new.self.downs c.note.ensures in
     record {
-      ports = c.note.ensures.ports ∙ c.self.invariant.ports ∙ ap (λ t. t.ports) (sym made.shape);
       sound = λ _. record {
         fit = subst (λ t. AreFit t c.wake-done.new.queue) (sym made.shape) (when_ok _ fine made.fit);
         asks = when_ok _ fine made.rests;
         steady = steady_at (2 ^ 21 * length c.wake-done.new.queue + k) _ _ _ after (when_ok _ fine made.steady k (steady_at (to_come w.queue w.given) _ _ _ before sound.steady));
         spells =
-            spells_on t _ (announced (decide_of w.core.active) t c.args.extender c.args.announce.now s) (state_of (parts_of c.wake-done.new.core c.wake-done.new.queue c.note.new.self w.given w.failed)) made.shape (ap (λ (r : Reached). r.state) led)
-            (announced_spelled t w.core.active.limits s sound.fit sound.spells c.args.extender c.args.announce.now);
+            spells_on t _ (heard (decide_of w.core.active) c.args.extender s) (state_of (parts_of c.wake-done.new.core c.wake-done.new.queue c.note.new.self w.given w.failed)) made.shape (ap (λ (r : Reached). r.state) led)
+            (heard_spelled t w.core.active.limits s sound.fit sound.spells c.args.extender);
       };
     }
 
@@ -56,31 +50,18 @@ returns-clause-ok c =
     let out = c.wake-done.new.out in
     let old = parts_of w.core w.queue w.heard w.given w.failed in
     let new = parts_of c.wake-done.new.core c.wake-done.new.queue c.note.new.self w.given w.failed in
-    subst (λ (p : Parts). IsMoved (announced (decide_of p.active) p.active.shape c.args.extender c.args.announce.now (state_of p)) p new out) c.self.view_is
-    (moved (announced (decide_of w.core.active) w.core.active.shape c.args.extender c.args.announce.now (state_of old))
+    subst (λ (p : Parts). IsMoved (heard (decide_of p.active) c.args.extender (state_of p)) p new out) c.self.view_is
+    (moved (heard (decide_of w.core.active) c.args.extender (state_of old))
     old c.wake-done.new.core c.wake-done.new.queue c.note.new.self w.given w.failed c.empty.new.self.events c.empty.new.self.asks c.empty.new.self.downs out
     c.empty.ensures.events c.empty.ensures.asks c.empty.ensures.downs
-    (when_ok _ fine made.reached (record { queue = w.queue; heard = c.note.new.self.heard; given = w.given }) refl refl
-    ∙ heard_it (decide_of w.core.active) w.core.active.shape w.heard.ports c.args.extender c.args.announce.now (state_of old) _ c.empty.new.self.events c.empty.new.self.asks c.empty.new.self.downs
-    c.self.invariant.ports (sym c.is_of.ensures ∙ c.if-not-is_of.false) c.note.ensures.heard)
+    (when_ok _ fine made.reached (record { queue = w.queue; heard = c.note.new.self; given = w.given }) refl refl
+    ∙ heard_it (decide_of w.core.active) c.args.extender (state_of old) _ c.empty.new.self.events c.empty.new.self.asks c.empty.new.self.downs c.note.ensures)
     made.shape made.limits refl)
-
-pub returns-then-not-is_of-clause-ok : goal.returns-then-not-is_of-clause-ok
-returns-then-not-is_of-clause-ok c =
-    let w = c.self.inside in
-    let out = c.empty.new.self in
-    let old = parts_of w.core w.queue w.heard w.given w.failed in
-    subst (λ (p : Parts). IsMoved (announced (decide_of p.active) p.active.shape c.args.extender c.args.announce.now (state_of p)) p p out) c.self.view_is
-    (ignored (decide_of w.core.active) w.core.active.shape w.heard.ports c.args.extender c.args.announce.now old out c.self.invariant.ports (sym c.is_of.ensures ∙ c.if-not-is_of.true)
-    c.empty.ensures.events c.empty.ensures.asks c.empty.ensures.downs)
 
 pub returns-clause-spelled : goal.returns-clause-spelled
 returns-clause-spelled c =
     let w = c.self.inside in
     let sound = c.self.invariant.sound c.if-self.false in
     asks_on _ _ _ (returns-clause-ok c).asks
-    (subst (λ (p : Parts). Spelled p.active.shape (announced (decide_of p.active) p.active.shape c.args.extender c.args.announce.now (state_of p))) c.self.view_is
-    (announced_spelled w.core.active.shape w.core.active.limits (state_of (parts_of w.core w.queue w.heard w.given w.failed)) sound.fit sound.spells c.args.extender c.args.announce.now))
-
-pub returns-then-not-is_of-clause-spelled : goal.returns-then-not-is_of-clause-spelled
-returns-then-not-is_of-clause-spelled c = none_asked _ _ c.empty.ensures.asks
+    (subst (λ (p : Parts). Spelled p.active.shape (heard (decide_of p.active) c.args.extender (state_of p))) c.self.view_is
+    (heard_spelled w.core.active.shape w.core.active.limits (state_of (parts_of w.core w.queue w.heard w.given w.failed)) sound.fit sound.spells c.args.extender))

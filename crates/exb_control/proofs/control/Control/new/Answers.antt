@@ -12,7 +12,7 @@ invariant_of-result c =
     let askers = ap askers_of c.in_ok-sessions.ensures ∙ begun_all 65 in
     let jobs = when_ok c.first_jobs-begun.result (sym c.is_err.ensures.value ∙ c.if-is_err.false) c.first_jobs-begun.ensures ∙ ap first_jobs (c.tree.ensures ∙ made.shape) in
     begins_kept c.args.setup.now (record { active = c.in_ok-active.active; place = 0; sessions = c.in_ok-sessions.sessions })
-    c.first_jobs-begun.new.queue c.new-3.result made.shape made.stage jobs askers c.new-3.ensures.ports
+    c.first_jobs-begun.new.queue c.new-3.result made.shape made.stage jobs askers
 
 pub returns-clause-state : goal.returns-clause-state
 returns-clause-state c =
@@ -20,4 +20,4 @@ returns-clause-state c =
     let askers = ap askers_of c.in_ok-sessions.ensures ∙ begun_all 65 in
     let jobs = when_ok c.first_jobs-begun.result (sym c.is_err.ensures.value ∙ c.if-is_err.false) c.first_jobs-begun.ensures ∙ ap first_jobs (c.tree.ensures ∙ made.shape) in
     begins_as c.args.setup.now (record { active = c.in_ok-active.active; place = 0; sessions = c.in_ok-sessions.sessions })
-    c.first_jobs-begun.new.queue c.new-3.result made.shape made.stage jobs askers made.config made.held c.new-3.ensures.heard
+    c.first_jobs-begun.new.queue c.new-3.result made.shape made.stage jobs askers made.config made.held c.new-3.ensures

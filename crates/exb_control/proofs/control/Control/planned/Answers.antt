@@ -18,4 +18,4 @@ pub returns-clause-count : goal.returns-clause-count
 returns-clause-count c =
     let w = c.self.inside in
     subst (λ (p : Parts). IfOk c.planned.result (λ count. count ≡ planned p.active.shape (decide_of p.active) (state_of p))) c.self.view_is
-    (IfOk-weaker c.planned.result _ _ (λ count is. is (record { queue = w.queue; heard = w.heard.heard; given = w.given }) refl refl) c.planned.ensures.count)
+    (IfOk-weaker c.planned.result _ _ (λ count is. is (record { queue = w.queue; heard = w.heard; given = w.given }) refl refl) c.planned.ensures.count)

@@ -1,6 +1,6 @@
 use Rattle.std.proofs.Common.{◌≡◌, length, drop}
 use Rattle.exb_model.specs.Setup.{lay, shape_of}
-use Rattle.exb_control.proofs.announcements.port_counts.Given as goal
+use Rattle.exb_bridge.proofs.site.port_counts.Given as goal
 
 -- what is laid, with what is still to be laid, is the table
 abbrev pub invariant-loop-extender : goal.invariant-loop-extender

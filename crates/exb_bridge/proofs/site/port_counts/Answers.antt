@@ -1,6 +1,6 @@
 use Rattle.std.proofs.Common.{refl}
 use Rattle.exb_model.specs.Setup.{shape_of}
-use Rattle.exb_control.proofs.announcements.port_counts.Goals as goal
+use Rattle.exb_bridge.proofs.site.port_counts.Goals as goal
 
 pub loop-extender-init : goal.loop-extender-init
 unfolding shape_of
