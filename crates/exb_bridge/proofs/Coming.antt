@@ -30,7 +30,7 @@ use Rattle.exb_relay.specs.Spaces.{numbers_of}
 use Rattle.exb_relay.proofs.Words.{pcp_small}
 use Rattle.exb_control.specs.ActiveConfigs.{bridge_in}
 use Rattle.exb_link.specs.declared.word.Word.{Word}
-use Rattle.exb_machine.specs.Controls.{taught}
+use Rattle.exb_machine.specs.Controls.{taught, taught_by}
 use Rattle.exb_machine.specs.Worlds.{World, with_table}
 use Rattle.exb_machine.specs.Effects.{Effect, only, joined, each}
 use Rattle.exb_machine.specs.Extending.{hung_on, stamp_of}

@@ -7,9 +7,7 @@ use Rattle.exb_model.specs.declared.arrival.Arrival.{Arrival}
 use Rattle.exb_model.specs.Learning.{passes}
 use Rattle.exb_model.specs.Tree.{Shape}
 use Rattle.exb_model.specs.Frames.{kind_of, priority_of}
-use Rattle.exb_learn.specs.Calls.{Table}
 use Rattle.exb_learn.specs.Entries.{Entries, look_of}
-use Rattle.exb_learn.specs.Histories.{relay_call, after_any}
 use Rattle.exb_relay.specs.Sends.{ingress_of, sends_of}
 use Rattle.exb_relay.specs.Spaces.{numbers_of}
 use Rattle.exb_control.specs.ActiveConfigs.{ActiveConfig, bridge_in}
