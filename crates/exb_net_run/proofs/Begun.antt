@@ -3,7 +3,6 @@ use Rattle.std.proofs.Common.{◌≡◌, ℕ, ◌<◌, List, [], length, All, So
 use Rattle.std.specs.Prelude.{slice_get}
 use Rattle.std.proofs.lemmas.Option.{slice_get_within}
 use Rattle.exb_machine.specs.Worlds.{Left, left_at}
-use Rattle.exb_schedule.specs.Worlds.{network_of}
 use Rattle.exb_shelf.specs.Files.{Files}
 use Rattle.exb_shelf.specs.Shelf.{Id}
 use Rattle.exb_merge.specs.declared.programme.Programme.{Programme}
@@ -89,7 +88,7 @@ module _ {V : Type 0} {X : V → Type 0} (tells : Type 0) (r : NetRun) (now : Fi
         let manifest : slice_get r.manifests b ≡ Some k.manifest = ap (λ (qs : List Listed). slice_get qs b) (sym begin.desks.manifests) ∙ manifest_at g.desks.items b k desk in
         let own = begin.desks.each b k.manifest manifest in
         let noted = begin.noted.each b k desk in
-        can-note r.net b 0 0 k.manifest own.0 own.2 k.counted (no_dones r.net b) (o.dones b) (network_of y.world) (opened-more.each b y node) (few-now b (omega (arith, low, long)) 0) (omega arith) (omega arith)
+        can-note r.net b 0 0 k.manifest own.0 own.2 k.counted (no_dones r.net b) (o.dones b) y.world (opened-more.each b y node) (few-now b (omega (arith, low, long)) 0) (omega arith) (omega arith)
         noted.counted none_together;
   }
     where

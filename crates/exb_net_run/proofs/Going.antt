@@ -14,7 +14,6 @@ use Rattle.exb_machine.specs.Runs.Passed.{StepsTellPassed}
 use Rattle.exb_machine.specs.Runs.Sessions.{Each}
 use Rattle.exb_machine.specs.Stepping.{Stepped}
 use Rattle.exb_machine.specs.Worlds.{Left, left_at}
-use Rattle.exb_schedule.specs.Worlds.{network_of}
 use Rattle.exb_shelf.specs.Files.{Files, bytes_of}
 use Rattle.exb_shelf.specs.Shelf.{Id}
 use Rattle.exb_merge.specs.declared.agenda.NetNext.{NetNext}
@@ -347,7 +346,7 @@ module _ {V : Type 0} {X : V → Type 0} (tells : Type 0) (r : NetRun) (now : Fi
           let there = is_there ps b (let count = goes-after.count in omega (arith, low, count)) in
           let few = few-at b there.0 there.1 in
           let goes = goes-at b there.0 there.1 in
-          can-note r.net b (g.net.came + came_by d.next) there.0.taken k.manifest own.0 own.2 k.counted (p.going.dones b) (e b) (network_of y.world) (are-more.each b y node) few few-came
+          can-note r.net b (g.net.came + came_by d.next) there.0.taken k.manifest own.0 own.2 k.counted (p.going.dones b) (e b) y.world (are-more.each b y node) few few-came
           (let within = goes.within in let most = goes.few_commands in omega (arith, within, most)) noted.counted (together-at law b low);
     }
       where

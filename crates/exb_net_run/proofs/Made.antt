@@ -11,7 +11,6 @@ use Rattle.exb_network.specs.Networks.{Network}
 use Rattle.exb_bridge.specs.Worlds.{all_left}
 use Rattle.exb_motion.specs.Kept.{HasVid}
 use Rattle.exb_motion.specs.Runs.Settles.{beginning}
-use Rattle.exb_schedule.specs.Worlds.{network_of}
 use Rattle.exb_nets.specs.declared.wires.NetSetup.{NetSetup}
 use Rattle.exb_nets.specs.declared.wires.Wire.{Wire}
 use Rattle.exb_nets.specs.Nets.{Net, IsNet}
@@ -31,7 +30,7 @@ module _ {V : Type 0} {X : V → Type 0} (wires : List Wire) (setups : List Setu
   pub none_first : (nodes : List (Node V X)) → nodes ≡ [] → AreFirst wires setups nodes
   none_first nodes e = record { each = λ b s x s_is x_is. absurd (none-some x (sym (ap (λ (zs : List (Node V X)). slice_get zs b) e) ∙ x_is)) }
 
-  pub one_first : (nodes : List (Node V X)) (x : Node V X) (s : Setup) → slice_get setups (length nodes) ≡ Some s → IsFirst wires (length nodes) s (network_of x.world) x.ends.items → AreFirst wires setups nodes → AreFirst wires setups (nodes ++ x ∷ [])
+  pub one_first : (nodes : List (Node V X)) (x : Node V X) (s : Setup) → slice_get setups (length nodes) ≡ Some s → IsFirst wires (length nodes) s x.world x.ends.items → AreFirst wires setups nodes → AreFirst wires setups (nodes ++ x ∷ [])
   one_first nodes x s here first before =
       record {
         each = λ b r y r_is y_is. elim (cases_eq b (length nodes)) [
@@ -39,8 +38,8 @@ module _ {V : Type 0} {X : V → Type 0} (wires : List Wire) (setups : List Setu
               let at : slice_get (nodes ++ x ∷ []) (length nodes) ≡ Some y = subst (λ (z : ℕ). slice_get (nodes ++ x ∷ []) z ≡ Some y) e y_is in
               let same : x ≡ y = same_Some x y (sym (put_here nodes x) ∙ at) in
               let of : s ≡ r = same_Some s r (sym here ∙ subst (λ (z : ℕ). slice_get setups z ≡ Some r) e r_is) in
-              subst (λ (z : ℕ). IsFirst wires z r (network_of y.world) y.ends.items) (sym e)
-              (subst (λ (z : Setup). IsFirst wires (length nodes) z (network_of y.world) y.ends.items) of (subst (λ (z : Node V X). IsFirst wires (length nodes) s (network_of z.world) z.ends.items) same first))
+              subst (λ (z : ℕ). IsFirst wires z r y.world y.ends.items) (sym e)
+              (subst (λ (z : Setup). IsFirst wires (length nodes) z y.world y.ends.items) of (subst (λ (z : Node V X). IsFirst wires (length nodes) s z.world z.ends.items) same first))
           | inr ne ↦
               let low = slice_get_within (nodes ++ x ∷ []) b y y_is in
               let long = length-append nodes (x ∷ []) in
@@ -113,7 +112,7 @@ begun_so n s made of net long all came queue wires =
         at = λ b x x_is.
             (let low = slice_get_within made.nodes.items b x x_is in
             let r = is_there s.setups b (omega (arith, low, long)) in
-            first_at b r.0 (network_of x.world) x.ends.items (of.setups b r.0 r.1) (all.each b r.0 x r.1 x_is));
+            first_at b r.0 x.world x.ends.items (of.setups b r.0 r.1) (all.each b r.0 x r.1 x_is));
       };
       none = came;
       queue = queue;

@@ -6,7 +6,6 @@ use Rattle.std.proofs.lemmas.Bool.{cases_eq, cases_lt, lt-ltb, le-ltb}
 use Rattle.std.proofs.lemmas.Option.{same_Some, slice_get_within}
 use Rattle.exb_machine.specs.Stepping.{Stepped}
 use Rattle.exb_network.specs.Networks.{Network}
-use Rattle.exb_schedule.specs.Worlds.{network_of}
 use Rattle.exb_shelf.specs.Files.{Files}
 use Rattle.exb_shelf.specs.Shelf.{Id}
 use Rattle.exb_outputs.specs.Manifests.{Listed, kind_at, output_count, output_name}
@@ -125,7 +124,7 @@ noted_skip nodes tells f ds i j told dones high within quiet more noted = record
         elim (cases_lt b j) [
           | inl low ↦
               let x = is_there nodes b (omega (arith, low, within)) in
-              subst (IsNoted tells f d) (sym (upto_low j b told dones low)) (quiet-noted (told b) (dones b) (network_of x.0.world) (more.each b x.0 x.1) tells f d (quiet.each b x.0 (omega (arith, from)) low x.1) was)
+              subst (IsNoted tells f d) (sym (upto_low j b told dones low)) (quiet-noted (told b) (dones b) x.0.world (more.each b x.0 x.1) tells f d (quiet.each b x.0 (omega (arith, from)) low x.1) was)
           | inr past ↦ subst (IsNoted tells f d) (sym (upto_high j b told dones (omega (arith, past)))) was
         ]
   ];

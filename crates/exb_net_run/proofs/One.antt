@@ -21,7 +21,6 @@ use Rattle.exb_motion.specs.Onward.{IsGiving}
 use Rattle.exb_motion.specs.Runs.Settles.{MayTakeAll}
 use Rattle.exb_schedule.specs.Moves.{IsMoved}
 use Rattle.exb_schedule.specs.Segments.{IsPlayedOut}
-use Rattle.exb_schedule.specs.Worlds.{network_of}
 use Rattle.exb_nets.specs.Nets.{Net}
 use Rattle.exb_nets.specs.NetHistory.{Crossing}
 use Rattle.exb_wiring.specs.Playing.{Between, Dones, Handles, crossed, does, goes_on, limits_in, tree_in}
@@ -139,7 +138,7 @@ module _ (n : Net) (b : ℕ) where
         ∙ (ap (sent_over (does n b (step ∷ p.moves) s).left) at.ends ∙ sent_all n.wires b (does n b (step ∷ p.moves) s).left (s b).world.next (external_ports (tree_in n b))))))
 
 -- ---- all bridges
-pub holds_on : {V : Type 0} {X : V → Type 0} (n : Net) (b : ℕ) (s told e : Dones) (nodes : List (Node V X)) (y : Node V X) → Holds n s told nodes → ((c : ℕ) → c ≢ b → e c ≡ s c) → IsAt n b (e b) (told b) (network_of y.world) y.ends.items →
+pub holds_on : {V : Type 0} {X : V → Type 0} (n : Net) (b : ℕ) (s told e : Dones) (nodes : List (Node V X)) (y : Node V X) → Holds n s told nodes → ((c : ℕ) → c ≢ b → e c ≡ s c) → IsAt n b (e b) (told b) y.world y.ends.items →
     Holds n e told (set nodes b y)
 holds_on n b s told e nodes y h others at =
     record {
@@ -149,7 +148,7 @@ holds_on n b s told e nodes y h others at =
             let here : slice_get (set nodes b y) b ≡ Some x = subst (λ (z : ℕ). slice_get (set nodes b y) z ≡ Some x) same is in
             let low = slice_get_within (set nodes b y) b x here in
             let now : y ≡ x = same_Some y x (sym (set_here nodes b y (subst (λ (z : ℕ). b < z) (length-set nodes b y) low)) ∙ here) in
-            subst (λ (z : ℕ). IsAt n z (e z) (told z) (network_of x.world) x.ends.items) (sym same) (subst (λ (z : Node _ _). IsAt n b (e b) (told b) (network_of z.world) z.ends.items) now at)
-        | inr ne ↦ subst (λ (z : Stepped). IsAt n c z (told c) (network_of x.world) x.ends.items) (sym (others c ne)) (h.at c x (sym (set_there nodes b c y ne) ∙ is))
+            subst (λ (z : ℕ). IsAt n z (e z) (told z) x.world x.ends.items) (sym same) (subst (λ (z : Node _ _). IsAt n b (e b) (told b) z.world z.ends.items) now at)
+        | inr ne ↦ subst (λ (z : Stepped). IsAt n c z (told c) x.world x.ends.items) (sym (others c ne)) (h.at c x (sym (set_there nodes b c y ne) ∙ is))
       ];
     }

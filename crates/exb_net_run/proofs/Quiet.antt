@@ -1,7 +1,6 @@
 -- Bridges that told nothing.
 use Rattle.std.proofs.Common.{◌≡◌, ℕ, List, refl, arith}
 use Rattle.exb_network.specs.Networks.{IsQuiet, Network}
-use Rattle.exb_schedule.specs.Worlds.{network_of}
 use Rattle.exb_net_run.specs.declared.ends.WiredEnd.{WiredEnd}
 use Rattle.exb_net_run.specs.declared.node.Node.{Node}
 use Rattle.exb_net_run.specs.Lists.{AreEach}
@@ -20,7 +19,7 @@ module _ {V : Type 0} {X : V → Type 0} where
   all_marked marks all nodes = record { each = λ b x is none. absurd (let one = all b in omega (arith, one, none)) }
 
   -- where all have forgotten, whatever is marked
-  pub all_quiet : (marks : ℕ) (xs ys : List (Node V X)) → AreEach (λ b u v. HasForgotten (network_of u.world) (network_of v.world) u.ends.items v.ends.items) xs ys → AreQuietBut marks ys
+  pub all_quiet : (marks : ℕ) (xs ys : List (Node V X)) → AreEach (λ b u v. HasForgotten u.world v.world u.ends.items v.ends.items) xs ys → AreQuietBut marks ys
   all_quiet marks xs ys all = record {
     each = λ b y is none.
         let low = slice_get_within ys b y is in

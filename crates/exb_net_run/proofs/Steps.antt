@@ -11,7 +11,6 @@ use Rattle.exb_machine.specs.Allowing.{Can}
 use Rattle.exb_machine.specs.Stepping.{Stepped}
 use Rattle.exb_machine.specs.Worlds.{World, Step, Arrive, Order, Tick}
 use Rattle.exb_network.specs.Networks.{tree_of, world_of}
-use Rattle.exb_schedule.specs.Worlds.{network_of}
 use Rattle.exb_shelf.specs.Files.{Files}
 use Rattle.exb_shelf.specs.Shelf.{Id}
 use Rattle.exb_merge.specs.declared.agenda.NetNext.{NetNext}
@@ -135,10 +134,10 @@ module _ {V : Type 0} {X : V → Type 0} (tells : Type 0) (r : NetRun) (now : Fi
   node-at : (x : Bridges V X) (t told : Dones) → IsPlaying r.net t told x → (b : ℕ) (y : Node V X) → slice_get x.nodes.items b ≡ Some y → b < r.net.count
   node-at x t told playing b y is = (let low = slice_get_within x.nodes.items b y is in let all = playing.holds.count in omega (arith, low, all))
 
-  pub tick-can : (seconds == 0) ≡ false → All (λ (y : Node V X). Can (tree_of (network_of y.world)) (world_of (network_of y.world)) (Tick seconds)) g.net.nodes.items
+  pub tick-can : (seconds == 0) ≡ false → All (λ (y : Node V X). Can (tree_of y.world) (world_of y.world) (Tick seconds)) g.net.nodes.items
   tick-can some =
-      all_by (λ (y : Node V X). Can (tree_of (network_of y.world)) (world_of (network_of y.world)) (Tick seconds)) g.net.nodes.items
-      (λ b y is. may-tick b (node-at g.net p.going.dones p.going.dones p.going.is.playing b y is) some (tree_of (network_of y.world)) (world_of (network_of y.world)) (p.going.is.playing.holds.at b y is).world)
+      all_by (λ (y : Node V X). Can (tree_of y.world) (world_of y.world) (Tick seconds)) g.net.nodes.items
+      (λ b y is. may-tick b (node-at g.net p.going.dones p.going.dones p.going.is.playing b y is) some (tree_of y.world) (world_of y.world) (p.going.is.playing.holds.at b y is).world)
 
   -- after them it can be given
   module _ (rests : List NetRest) (of : AreOfRests rests ps) (x : Bridges V X) (passes : Passes r.net seconds p.going.dones p.going.dones x) (passed : HavePassed r.net p.going.dones (pass r.net seconds p.going.dones)) where
@@ -148,7 +147,7 @@ module _ {V : Type 0} {X : V → Type 0} (tells : Type 0) (r : NetRun) (now : Fi
     the-node : (y : Node V X) × (slice_get x.nodes.items d.bridge ≡ Some y)
     the-node = is_there x.nodes.items d.bridge (let low = here in let all = passes.playing.holds.count in omega (arith, low, all))
 
-    node-is : IsAtNode r.net d.bridge (pass r.net seconds p.going.dones d.bridge) (p.going.dones d.bridge) (network_of the-node.0.world) the-node.0.ends.items
+    node-is : IsAtNode r.net d.bridge (pass r.net seconds p.going.dones d.bridge) (p.going.dones d.bridge) the-node.0.world the-node.0.ends.items
     node-is = passes.playing.holds.at d.bridge the-node.0 the-node.1
 
     commands-are : p.comes.was.commands.now ≡ the-rest.0.commands
@@ -170,7 +169,7 @@ module _ {V : Type 0} {X : V → Type 0} (tells : Type 0) (r : NetRun) (now : Fi
       step = its-step.step;
       is = its-step.is;
       can =
-          (let P : Shape → Type 0 = λ t. Can t (world_of (network_of the-node.0.world)) its-step.step in
+          (let P : Shape → Type 0 = λ t. Can t (world_of the-node.0.world) its-step.step in
           let Q : World → Type 0 = λ w. Can (tree_in r.net d.bridge) w its-step.step in
           subst P (sym node-is.tree) (subst Q (sym node-is.world) its-step.can));
       came = (let few = p.going.goes.few_bytes in omega (arith, came, few));

@@ -8,7 +8,6 @@ use Rattle.exb_machine.specs.Allowing.{Can}
 use Rattle.exb_machine.specs.Worlds.{World, Arrive}
 use Rattle.exb_machine.specs.Runs.Sessions.{Each}
 use Rattle.exb_network.specs.Networks.{Network, tree_of, world_of}
-use Rattle.exb_schedule.specs.Worlds.{network_of}
 use Rattle.exb_nets.specs.Nets.{Net, is_wired}
 use Rattle.exb_wiring.specs.Playing.{Between, Delivers, Dones, Empties, Handles, coming_at, tree_in}
 use Rattle.exb_wiring.specs.Delivering.{BridgesHandle, DeliveriesEndSoon, DeliversTimes, IsHandledOn, IsSoon, MayCome}
@@ -42,16 +41,16 @@ pub coming_here : {V : Type 0} {X : V → Type 0} (n : Net) (b : ℕ) (a : Arriv
 coming_here n b a s told nodes before c = subst (λ (z : ℕ). b < z) (sym c.holds.count) c.here
 
 pub coming_can : {V : Type 0} {X : V → Type 0} (n : Net) (b : ℕ) (a : Arrival) (s told : Dones) (nodes : List (Node V X)) (before : List Queued) (x : Node V X) → IsComing n b a s told nodes before → slice_get nodes b ≡ Some x →
-    Can (tree_of (network_of x.world)) (world_of (network_of x.world)) (Arrive a)
-coming_can n b a s told nodes before x c is = there n b (s b) (told b) (network_of x.world) x.ends.items (c.holds.at b x is) (λ t l w. Can t w (Arrive a)) c.can
+    Can (tree_of x.world) (world_of x.world) (Arrive a)
+coming_can n b a s told nodes before x c is = there n b (s b) (told b) x.world x.ends.items (c.holds.at b x is) (λ t l w. Can t w (Arrive a)) c.can
 
 module _ (law : BridgesHandle) where
   -- ---- the first arrival
   pub begins_so : {V : Type 0} {X : V → Type 0} (n : Net) (b : ℕ) (a : Arrival) (s told : Dones) (nodes : List (Node V X)) (x y : Node V X) (before after : List Queued) → IsComing n b a s told nodes before → slice_get nodes b ≡ Some x →
-      HasEntered a x.ends.items (network_of x.world) (network_of y.world) before after → y.ends.items ≡ x.ends.items → Begins n b a s told (set nodes b y) after
+      HasEntered a x.ends.items x.world y.world before after → y.ends.items ≡ x.ends.items → Begins n b a s told (set nodes b y) after
   begins_so n b a s told nodes x y before after c is entered same =
-      let old : Network = network_of x.world in
-      let new : Network = network_of y.world in
+      let old : Network = x.world in
+      let new : Network = y.world in
       let ports : List ℕ = external_ports (tree_in n b) in
       let at : IsAt n b (s b) (told b) old x.ends.items = c.holds.at b x is in
       let p = entered.played in
@@ -83,7 +82,7 @@ module _ (law : BridgesHandle) where
     is_here = subst (λ (z : ℕ). crossing.to.bridge < z) (sym d.holds.count) all_may.0.here
 
     module _ (x : Node V X) (is : slice_get nodes crossing.to.bridge ≡ Some x) (low : crossing.to.port < 4160) where
-      at : IsAt m.net crossing.to.bridge (d.now.dones crossing.to.bridge) (m.told crossing.to.bridge) (network_of x.world) x.ends.items
+      at : IsAt m.net crossing.to.bridge (d.now.dones crossing.to.bridge) (m.told crossing.to.bridge) x.world x.ends.items
       at = d.holds.at crossing.to.bridge x is
 
       index : next_in x.ends.items crossing.to.port ≡ (d.now.dones crossing.to.bridge).world.next crossing.to.port
@@ -95,7 +94,7 @@ module _ (law : BridgesHandle) where
       comes : come_as x.ends.items crossing ≡ coming_at (crossing_of crossing) (d.now.dones crossing.to.bridge).world
       comes = ap (λ (i : ℕ). record { port = crossing.to.port; index = i; moment = crossing.moment; bytes = crossing.bytes }) index
 
-      pub may_come : k < length m.net.wires → Can (tree_of (network_of x.world)) (world_of (network_of x.world)) (Arrive (come_as x.ends.items crossing))
+      pub may_come : k < length m.net.wires → Can (tree_of x.world) (world_of x.world) (Arrive (come_as x.ends.items crossing))
       may_come room =
           let is_soon : IsSoon m.net k m.dones d.now = soon m.net m.bridge k m.arrival m.dones m.given d.now turn.net turn.vids turn.run turn.here turn.handles d.delivered (omega (arith, room)) in
           let few = is_soon.few crossing.to.bridge crossing.to.port all_may.0.here in
@@ -108,13 +107,13 @@ module _ (law : BridgesHandle) where
             short = omega (arith, short);
           }
 
-      pub delivered_so : (y : Node V X) (after : List Queued) → HasEntered (come_as x.ends.items crossing) x.ends.items (network_of x.world) (network_of y.world) before after →
+      pub delivered_so : (y : Node V X) (after : List Queued) → HasEntered (come_as x.ends.items crossing) x.ends.items x.world y.world before after →
           y.ends.items ≡ map (with_next crossing.to.port (next_in x.ends.items crossing.to.port + 1)) x.ends.items → HasDelivered m (k + 1) (set nodes crossing.to.bridge y) after
       delivered_so y after entered more =
           let s : Dones = d.now.dones in
           let told = m.told crossing.to.bridge in
-          let old : Network = network_of x.world in
-          let new : Network = network_of y.world in
+          let old : Network = x.world in
+          let new : Network = y.world in
           let ports : List ℕ = external_ports (tree_in m.net crossing.to.bridge) in
           let a : Arrival = coming_at (crossing_of crossing) (s crossing.to.bridge).world in
           let here : HasEntered a x.ends.items old new before after = subst (λ (z : Arrival). HasEntered z x.ends.items old new before after) comes entered in

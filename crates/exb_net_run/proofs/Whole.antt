@@ -17,7 +17,6 @@ use Rattle.exb_bridge.specs.Sites.{limits_in as limits_at}
 use Rattle.exb_bridge.specs.Worlds.{all_left}
 use Rattle.exb_motion.specs.Runs.Settles.{MayTakeAll}
 use Rattle.exb_schedule.specs.Moves.{IsMoved}
-use Rattle.exb_schedule.specs.Worlds.{network_of}
 use Rattle.exb_nets.specs.Nets.{Net, is_wired}
 use Rattle.exb_wiring.specs.Playing.{Between, Dones, Handles, MayPass, does, limits_in, pass, tree_in}
 use Rattle.exb_wiring.specs.Playing.{Opens as OpensAt}
@@ -44,17 +43,17 @@ pub record IsKept {V : Type 0} {X : V → Type 0} (x y : Bridges V X) : Type 0 w
 -- what a bridge did in it
 record IsOpened {V : Type 0} {X : V → Type 0} (n : Net) (xs ys : List (Node V X)) (b : ℕ) (d : Stepped) : Type 0 where
   opens : OpensAt n b d
-  moved : (x y : Node V X) → slice_get xs b ≡ Some x → slice_get ys b ≡ Some y → IsMoved d (network_of x.world) (network_of y.world)
+  moved : (x y : Node V X) → slice_get xs b ≡ Some x → slice_get ys b ≡ Some y → IsMoved d x.world y.world
 
 module _ {V : Type 0} {X : V → Type 0} (n : Net) (x y : Bridges V X) (begun : IsBegun n x)
-    (all : AreEach (λ b u v. HasDone [] (network_of u.world) (network_of v.world) u.ends.items v.ends.items) x.nodes.items y.nodes.items) where
+    (all : AreEach (λ b u v. HasDone [] u.world v.world u.ends.items v.ends.items) x.nodes.items y.nodes.items) where
   opened_one : (b : ℕ) → b < n.count → (d : Stepped) × IsOpened n x.nodes.items y.nodes.items b d
   opened_one b low =
       let same = begun.holds.count in
       let longer = all.long in
       let u = is_there x.nodes.items b (omega (arith, low, same)) in
       let v = is_there y.nodes.items b (omega (arith, low, same, longer)) in
-      let at : IsAt n b (no_dones n b) (no_dones n b) (network_of u.0.world) u.0.ends.items = begun.holds.at b u.0 u.1 in
+      let at : IsAt n b (no_dones n b) (no_dones n b) u.0.world u.0.ends.items = begun.holds.at b u.0 u.1 in
       let p = (all.each b u.0 v.0 u.1 v.1).played in
       let whole : List Step = p.moves ++ Mark ∷ [] in (
         run (tree_in n b) (limits_in n b) whole (no_dones n b).world,
@@ -62,15 +61,15 @@ module _ {V : Type 0} {X : V → Type 0} (n : Net) (x y : Bridges V X) (begun : 
           opens = record {
             moves = p.moves;
             may = may_front (tree_in n b) (limits_in n b) p.moves (Mark ∷ []) (no_dones n b).world
-                (here n b (no_dones n b) (no_dones n b) (network_of u.0.world) u.0.ends.items at (λ t l w. MayTakeAll t l w (p.moves ++ Mark ∷ [])) p.made.may);
+                (here n b (no_dones n b) (no_dones n b) u.0.world u.0.ends.items at (λ t l w. MayTakeAll t l w (p.moves ++ Mark ∷ [])) p.made.may);
             moves_alone = p.only;
-            settled = here n b (no_dones n b) (no_dones n b) (network_of u.0.world) u.0.ends.items at (λ t l w. IsSettled t (run t l p.moves w).world) p.settled;
+            settled = here n b (no_dones n b) (no_dones n b) u.0.world u.0.ends.items at (λ t l w. IsSettled t (run t l p.moves w).world) p.settled;
             is = refl;
           };
           moved = λ r s r_is s_is.
-              subst (λ (z : Node V X). IsMoved (run (tree_in n b) (limits_in n b) whole (no_dones n b).world) (network_of z.world) (network_of s.world)) (same_Some u.0 r (sym u.1 ∙ r_is))
-              (subst (λ (z : Node V X). IsMoved (run (tree_in n b) (limits_in n b) whole (no_dones n b).world) (network_of u.0.world) (network_of z.world)) (same_Some v.0 s (sym v.1 ∙ s_is))
-              (subst (λ (z : Stepped). IsMoved z (network_of u.0.world) (network_of v.0.world)) (run_here n b (no_dones n b) (no_dones n b) (network_of u.0.world) u.0.ends.items at whole) p.made.moved));
+              subst (λ (z : Node V X). IsMoved (run (tree_in n b) (limits_in n b) whole (no_dones n b).world) z.world s.world) (same_Some u.0 r (sym u.1 ∙ r_is))
+              (subst (λ (z : Node V X). IsMoved (run (tree_in n b) (limits_in n b) whole (no_dones n b).world) u.0.world z.world) (same_Some v.0 s (sym v.1 ∙ s_is))
+              (subst (λ (z : Stepped). IsMoved z u.0.world v.0.world) (run_here n b (no_dones n b) (no_dones n b) u.0.world u.0.ends.items at whole) p.made.moved));
         },
       )
 
@@ -95,9 +94,9 @@ module _ {V : Type 0} {X : V → Type 0} (n : Net) (x y : Bridges V X) (begun : 
                 let longer = all.long in
                 let low : b < n.count = omega (arith, low_y, same, longer) in
                 let u = is_there x.nodes.items b (omega (arith, low, same)) in
-                let at : IsAt n b (no_dones n b) (no_dones n b) (network_of u.0.world) u.0.ends.items = begun.holds.at b u.0 u.1 in
+                let at : IsAt n b (no_dones n b) (no_dones n b) u.0.world u.0.ends.items = begun.holds.at b u.0 u.1 in
                 let ends : v.ends.items ≡ ends_over n.wires b (no_dones n b).world.next (external_ports (tree_in n b)) = (all.each b u.0 v u.1 v_is).ends ∙ at.ends in
-                gone_on n b (no_dones n b) (no_dones n b) (network_of u.0.world) u.0.ends.items at (s b) (network_of v.world) v.ends.items ((one b low).moved u.0 v u.1 v_is)
+                gone_on n b (no_dones n b) (no_dones n b) u.0.world u.0.ends.items at (s b) v.world v.ends.items ((one b low).moved u.0 v u.1 v_is)
                 (ends ∙ same_next b (no_dones n b).world.next (s b).world.next (λ q. sym (first.next b q low))));
           };
           run = first.run;
@@ -122,15 +121,15 @@ module _ {V : Type 0} {X : V → Type 0} (n : Net) (s told : Dones) (x : Bridges
       })
 
   -- seconds may pass at each bridge
-  may_pass : (seconds : ℕ) → All (λ u. Can (tree_of (network_of u.world)) (world_of (network_of u.world)) (Tick seconds)) x.nodes.items → MayPass n seconds s
+  may_pass : (seconds : ℕ) → All (λ u. Can (tree_of u.world) (world_of u.world) (Tick seconds)) x.nodes.items → MayPass n seconds s
   may_pass seconds can some b low =
       let same = k.holds.count in
       let u = is_there x.nodes.items b (omega (arith, low, same)) in
-      here n b (s b) (told b) (network_of u.0.world) u.0.ends.items (k.holds.at b u.0 u.1) (λ t l w. Can t w (Tick seconds))
-      (of_all (λ (z : Node V X). Can (tree_of (network_of z.world)) (world_of (network_of z.world)) (Tick seconds)) x.nodes.items b u.0 can u.1)
+      here n b (s b) (told b) u.0.world u.0.ends.items (k.holds.at b u.0 u.1) (λ t l w. Can t w (Tick seconds))
+      (of_all (λ (z : Node V X). Can (tree_of z.world) (world_of z.world) (Tick seconds)) x.nodes.items b u.0 can u.1)
 
-  pub passed_so : SecondsPass → (y : Bridges V X) → IsKept x y → (seconds : ℕ) → (seconds == 0) ≡ false → All (λ u. Can (tree_of (network_of u.world)) (world_of (network_of u.world)) (Tick seconds)) x.nodes.items →
-      AreEach (λ b u v. HasPassed seconds (network_of u.world) (network_of v.world) u.ends.items v.ends.items) x.nodes.items y.nodes.items → Passes n seconds s told y
+  pub passed_so : SecondsPass → (y : Bridges V X) → IsKept x y → (seconds : ℕ) → (seconds == 0) ≡ false → All (λ u. Can (tree_of u.world) (world_of u.world) (Tick seconds)) x.nodes.items →
+      AreEach (λ b u v. HasPassed seconds u.world v.world u.ends.items v.ends.items) x.nodes.items y.nodes.items → Passes n seconds s told y
   passed_so law y kept seconds some can all =
       let may : MayPass n seconds s = may_pass seconds can in
       let passed : HavePassed n s (pass n seconds s) = law n seconds s k.net k.vids k.run may in
@@ -158,19 +157,19 @@ module _ {V : Type 0} {X : V → Type 0} (n : Net) (s told : Dones) (x : Bridges
       is_pass : (b : ℕ) → pass n seconds s b ≡ followed_by (s b) (does n b (Tick seconds ∷ []) s)
       is_pass b = rw some refl
 
-      passed_at : HavePassed n s (pass n seconds s) → (b : ℕ) (u v : Node V X) → IsAt n b (s b) (told b) (network_of u.world) u.ends.items → HasPassed seconds (network_of u.world) (network_of v.world) u.ends.items v.ends.items → b < n.count →
-          IsAt n b (pass n seconds s b) (told b) (network_of v.world) v.ends.items
+      passed_at : HavePassed n s (pass n seconds s) → (b : ℕ) (u v : Node V X) → IsAt n b (s b) (told b) u.world u.ends.items → HasPassed seconds u.world v.world u.ends.items v.ends.items → b < n.count →
+          IsAt n b (pass n seconds s b) (told b) v.world v.ends.items
       passed_at passed b u v at h low =
-          let old : Network = network_of u.world in
+          let old : Network = u.world in
           let d : Stepped = run (tree_of old) (bounds_of old) (Tick seconds ∷ []) (world_of old) in
           let whole : pass n seconds s b ≡ followed_by (s b) d = is_pass b ∙ ap (λ (z : Stepped). followed_by (s b) z) (sym (run_here n b (s b) (told b) old u.ends.items at (Tick seconds ∷ []))) in
           let next : (q : ℕ) → d.world.next q ≡ (s b).world.next q = λ q. ap (λ (z : Stepped). z.world.next q) (sym whole) ∙ passed.next b q low in
-          subst (λ (z : Stepped). IsAt n b z (told b) (network_of v.world) v.ends.items) (sym whole)
-          (gone_on n b (s b) (told b) old u.ends.items at d (network_of v.world) v.ends.items (by_step (Tick seconds) old (network_of v.world) h.stepped)
+          subst (λ (z : Stepped). IsAt n b z (told b) v.world v.ends.items) (sym whole)
+          (gone_on n b (s b) (told b) old u.ends.items at d v.world v.ends.items (by_step (Tick seconds) old v.world h.stepped)
           (h.ends ∙ (at.ends ∙ all_same n.wires b (s b).world.next d.world.next (λ q wired. next q) (external_ports (tree_in n b)))))
 
   -- what was told is forgotten
-  pub cleared_so : (y : Bridges V X) → IsKept x y → AreEach (λ b u v. HasForgotten (network_of u.world) (network_of v.world) u.ends.items v.ends.items) x.nodes.items y.nodes.items → IsPlaying n s s y
+  pub cleared_so : (y : Bridges V X) → IsKept x y → AreEach (λ b u v. HasForgotten u.world v.world u.ends.items v.ends.items) x.nodes.items y.nodes.items → IsPlaying n s s y
   cleared_so y kept all =
       record {
         net = k.net;
@@ -192,9 +191,9 @@ module _ {V : Type 0} {X : V → Type 0} (n : Net) (s told : Dones) (x : Bridges
       ends_with : {A : Type 0} (xs ys : List A) → ys ≡ [] → xs ≡ xs ++ ys
       ends_with xs ys e = sym (append-nil xs) ∙ ap (λ (zs : List _). xs ++ zs) (sym e)
 
-      forgotten_at : (b : ℕ) (u v : Node V X) → IsAt n b (s b) (told b) (network_of u.world) u.ends.items → HasForgotten (network_of u.world) (network_of v.world) u.ends.items v.ends.items → IsAt n b (s b) (s b) (network_of v.world) v.ends.items
+      forgotten_at : (b : ℕ) (u v : Node V X) → IsAt n b (s b) (told b) u.world u.ends.items → HasForgotten u.world v.world u.ends.items v.ends.items → IsAt n b (s b) (s b) v.world v.ends.items
       forgotten_at b u v at h =
-          let now : Network = network_of v.world in
+          let now : Network = v.world in
           record {
             tree = ap (λ (z : Site). z.tree) h.same.site ∙ at.tree;
             limits = ap limits_at h.same.site ∙ at.limits;
@@ -208,7 +207,7 @@ module _ {V : Type 0} {X : V → Type 0} (n : Net) (s told : Dones) (x : Bridges
 
   -- ---- an arrival
   pub is_coming : (b : ℕ) (a : Arrival) → x.came < 2 ^ 62 → b < length x.nodes.items → is_wired n.wires b a.port ≡ false →
-      ((u : Node V X) → slice_get x.nodes.items b ≡ Some u → Can (tree_of (network_of u.world)) (world_of (network_of u.world)) (Arrive a)) → IsComing n b a s told x.nodes.items x.queue.items
+      ((u : Node V X) → slice_get x.nodes.items b ≡ Some u → Can (tree_of u.world) (world_of u.world) (Arrive a)) → IsComing n b a s told x.nodes.items x.queue.items
   is_coming b a room low free can =
       let u = is_there x.nodes.items b low in
       record {
@@ -216,7 +215,7 @@ module _ {V : Type 0} {X : V → Type 0} (n : Net) (s told : Dones) (x : Bridges
         vids = k.vids;
         run = k.run;
         here = subst (λ (z : ℕ). b < z) k.holds.count low;
-        can = here n b (s b) (told b) (network_of u.0.world) u.0.ends.items (k.holds.at b u.0 u.1) (λ t l w. Can t w (Arrive a)) (can u.0 u.1);
+        can = here n b (s b) (told b) u.0.world u.0.ends.items (k.holds.at b u.0 u.1) (λ t l w. Can t w (Arrive a)) (can u.0 u.1);
         free = free;
         low = λ c p here wired. (let before = k.few c p here wired in omega (arith, before, room));
         holds = k.holds;
@@ -243,11 +242,11 @@ module _ {V : Type 0} {X : V → Type 0} (n : Net) (s told : Dones) (x : Bridges
       }
 
   -- ---- a command
-  pub ordered_so : BridgesHandle → (b : ℕ) (c : Command) (u v : Node V X) (y : Bridges V X) → b < length x.nodes.items → slice_get x.nodes.items b ≡ Some u → HasDone (Order c ∷ []) (network_of u.world) (network_of v.world) u.ends.items v.ends.items →
+  pub ordered_so : BridgesHandle → (b : ℕ) (c : Command) (u v : Node V X) (y : Bridges V X) → b < length x.nodes.items → slice_get x.nodes.items b ≡ Some u → HasDone (Order c ∷ []) u.world v.world u.ends.items v.ends.items →
       y.nodes.items ≡ set x.nodes.items b v → IsKept x y → Handled n b (Order c) s told y
   ordered_so law b c u v y low is h nodes kept =
-      let old : Network = network_of u.world in
-      let new : Network = network_of v.world in
+      let old : Network = u.world in
+      let new : Network = v.world in
       let at : IsAt n b (s b) (told b) old u.ends.items = k.holds.at b u is in
       let in_net : b < n.count = subst (λ (z : ℕ). b < z) k.holds.count low in
       let e : Between = given n b s (told b) old new u.ends.items at (Order c) [] h.played in

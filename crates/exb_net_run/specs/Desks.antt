@@ -5,7 +5,6 @@ use Rattle.exb_machine.specs.Stepping.{Stepped}
 use Rattle.exb_network.specs.Networks.{Network}
 use Rattle.exb_bridge.specs.Worlds.{all_left}
 use Rattle.exb_machine.specs.Worlds.{left_at}
-use Rattle.exb_schedule.specs.Worlds.{network_of}
 use Rattle.exb_shelf.specs.Files.{Files}
 use Rattle.exb_shelf.specs.Shelf.{Id}
 use Rattle.exb_text.specs.declared.output.Output.{Output}
@@ -88,7 +87,7 @@ pub record AreAllFronts (ps : List Listed) (now : Files) (dones : Dones) : Type 
 
 -- what the worlds tell was told since this was
 pub record AreMore {V : Type 0} {X : V → Type 0} (told dones : Dones) (nodes : List (Node V X)) : Type 0 where
-  pub each : (b : ℕ) (x : Node V X) → slice_get nodes b ≡ Some x → IsMore (told b) (dones b) (network_of x.world)
+  pub each : (b : ℕ) (x : Node V X) → slice_get nodes b ≡ Some x → IsMore (told b) (dones b) x.world
 
 -- and what was said of Relays goes with it
 pub record AllGoTogether {V : Type 0} {X : V → Type 0} (told : Dones) (nodes : List (Node V X)) : Type 0 where
@@ -98,7 +97,7 @@ pub record AllGoTogether {V : Type 0} {X : V → Type 0} (told : Dones) (nodes :
 pub record CanNoteAll {V : Type 0} {X : V → Type 0} (ds : List Desk) (nodes : List (Node V X)) : Type 0 where
   pub whole : length ds ≡ length nodes
   pub few : length ds ≤ 16
-  pub each : (b : ℕ) (d : Desk) (x : Node V X) → slice_get ds b ≡ Some d → slice_get nodes b ≡ Some x → CanNote d.manifest d.counted (network_of x.world)
+  pub each : (b : ℕ) (d : Desk) (x : Node V X) → slice_get ds b ≡ Some d → slice_get nodes b ≡ Some x → CanNote d.manifest d.counted x.world
 
 -- ---- the end
 -- what was counted at each desk

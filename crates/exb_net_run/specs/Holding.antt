@@ -4,7 +4,6 @@ use Rattle.exb_model.specs.Tree.{external_ports}
 use Rattle.exb_machine.specs.Stepping.{Stepped}
 use Rattle.exb_network.specs.Networks.{Network, world_of, tree_of, bounds_of}
 use Rattle.exb_bridge.specs.Worlds.{all_left}
-use Rattle.exb_schedule.specs.Worlds.{network_of}
 use Rattle.exb_nets.specs.Nets.{Net}
 use Rattle.exb_wiring.specs.Playing.{Dones, tree_in, limits_in}
 use Rattle.exb_net_run.specs.declared.ends.WiredEnd.{WiredEnd}
@@ -26,4 +25,4 @@ pub record IsAt (n : Net) (b : ℕ) (done told : Stepped) (w : Network) (wired :
 -- So it is of each.
 pub record Holds {V : Type 0} {X : V → Type 0} (n : Net) (s told : Dones) (nodes : List (Node V X)) : Type 0 where
   pub count : length nodes ≡ n.count
-  pub at : (b : ℕ) (x : Node V X) → slice_get nodes b ≡ Some x → IsAt n b (s b) (told b) (network_of x.world) x.ends.items
+  pub at : (b : ℕ) (x : Node V X) → slice_get nodes b ≡ Some x → IsAt n b (s b) (told b) x.world x.ends.items

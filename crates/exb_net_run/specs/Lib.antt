@@ -18,3 +18,4 @@ pub mod UnderWay
 pub mod Shelving
 pub mod Setting
 pub mod Reopening
+pub mod Fates

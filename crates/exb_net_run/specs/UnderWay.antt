@@ -11,7 +11,6 @@ use Rattle.exb_machine.specs.Worlds.{Left, Step, Arrive, Order, left_at}
 use Rattle.exb_network.specs.Networks.{tree_of, world_of}
 use Rattle.exb_motion.specs.Runs.Playing.{counted_in}
 use Rattle.exb_schedule.specs.Playing.{letters_in}
-use Rattle.exb_schedule.specs.Worlds.{network_of}
 use Rattle.exb_shelf.specs.Files.{Files}
 use Rattle.exb_shelf.specs.Shelf.{Id}
 use Rattle.exb_merge.specs.declared.agenda.NetNext.{NetNext}
@@ -268,7 +267,7 @@ pub record CanGive {V : Type 0} {X : V → Type 0} (n : Net) (s told : Dones) (r
   pub free : IsFree n d.bridge d.next
   pub step : Step
   pub is : IsStepOf rest.commands d.next step
-  pub can : Can (tree_of (network_of node.world)) (world_of (network_of node.world)) step
+  pub can : Can (tree_of node.world) (world_of node.world) step
   pub came : x.came < 2 ^ 62
 
 -- the commands of a bridge

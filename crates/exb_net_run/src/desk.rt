@@ -3,7 +3,6 @@ ghost use Rattle.std.specs.Prelude.{◌≡◌, ◌∷◌, ℕ, List, [], All, On
 ghost use Rattle.exb_machine.specs.Stepping.{Stepped};
 ghost use Rattle.exb_model.specs.FlatBridge.{Sent};
 ghost use Rattle.exb_shelf.specs.Files.{Files};
-ghost use Rattle.exb_schedule.specs.Worlds.{network_of};
 ghost use Rattle.exb_text.specs.declared.output.Output.{Output};
 ghost use Rattle.exb_text.specs.declared.output.Output.TheVariants as output;
 ghost use Rattle.exb_text.specs.Tallies.{FitsTally, counts_of};
@@ -45,15 +44,15 @@ fn write_new<S: Shelf>(
     world: &World,
 ) -> Result<(), ShelfFault>
     requires ready { IsReady manifest.now (S.ids shelf.old) outputs.old }
-    requires frames { All (λ x. CanBeWritten manifest.now x) (network_of world.now).log.left }
+    requires frames { All (λ x. CanBeWritten manifest.now x) world.now.log.left }
     ensures ready { IsReady manifest.now (S.ids shelf.new) outputs.new }
     ensures texts { S.tells → OnOk result ((orig : Files) (text : Output → List ℕ) → HasTexts manifest.now (pieces_of outputs.old) orig (S.file shelf.old) text
         → HasTexts manifest.now (pieces_of outputs.new) orig (S.file shelf.new)
-        (with_left_frames (with_more text output.Journal (lines_of (network_of world.now).log.events)) (network_of world.now).log.left)) }
+        (with_left_frames (with_more text output.Journal (lines_of world.now.log.events)) world.now.log.left)) }
     ensures cut { S.tells → OnErr result ((orig : Files) (text : Output → List ℕ) → HasTexts manifest.now (pieces_of outputs.old) orig (S.file shelf.old) text
         → AreCut manifest.now orig (S.file shelf.new)
-        (with_left_frames (with_more text output.Journal (lines_of (network_of world.now).log.events)) (network_of world.now).log.left)) }
-    ensures sent { OnOk result ((sent : ℕ → List Sent) → HasSent manifest.now outputs.old sent → HasSent manifest.now outputs.new (sent_with sent (network_of world.now).log.left)) }
+        (with_left_frames (with_more text output.Journal (lines_of world.now.log.events)) world.now.log.left)) }
+    ensures sent { OnOk result ((sent : ℕ → List Sent) → HasSent manifest.now outputs.old sent → HasSent manifest.now outputs.new (sent_with sent world.now.log.left)) }
     ensures only { OnlyWrites S.tells manifest.now (S.file shelf.old) (S.file shelf.new) (S.ids shelf.old) (S.ids shelf.new) }
     ensures faults { CountsWrites result (S.faults shelf.old) (S.faults shelf.new) }
 {
@@ -69,12 +68,12 @@ pub(crate) fn note<S: Shelf>(
     world: &World,
 ) -> Result<(), ShelfFault>
     requires ready { IsReady desk.old.manifest (S.ids shelf.old) desk.old.outputs }
-    requires can { CanNote desk.old.manifest desk.old.counted (network_of world.now) }
+    requires can { CanNote desk.old.manifest desk.old.counted world.now }
     ensures manifest { desk.new.manifest ≡ desk.old.manifest }
     ensures ready { IsReady desk.new.manifest (S.ids shelf.new) desk.new.outputs }
-    ensures noted { OnOk result ((told done : Stepped) → GoTogether told.events told.passed → IsMore told done (network_of world.now)
+    ensures noted { OnOk result ((told done : Stepped) → GoTogether told.events told.passed → IsMore told done world.now
         → IsNoted S.tells (S.file shelf.old) desk.old told → IsNoted S.tells (S.file shelf.new) desk.new done) }
-    ensures cut { S.tells → OnErr result ((told done : Stepped) → IsMore told done (network_of world.now)
+    ensures cut { S.tells → OnErr result ((told done : Stepped) → IsMore told done world.now
         → IsNoted S.tells (S.file shelf.old) desk.old told → AreFronts desk.old.manifest (S.file shelf.new) done) }
     ensures only { OnlyWrites S.tells desk.old.manifest (S.file shelf.old) (S.file shelf.new) (S.ids shelf.old) (S.ids shelf.new) }
     ensures faults { CountsWrites result (S.faults shelf.old) (S.faults shelf.new) }

@@ -3,13 +3,13 @@ ghost use Rattle.std.specs.Prelude.{All, ◌≡◌, ◌≢◌, ◌∷◌, [], �
 ghost use Rattle.exb_machine.specs.Allowing.{Can};
 ghost use Rattle.exb_machine.specs.Worlds.{Arrive, Order, Tick};
 ghost use Rattle.exb_network.specs.Networks.{tree_of, world_of};
-ghost use Rattle.exb_schedule.specs.Worlds.{fate_in, network_of};
 ghost use Rattle.exb_nets.specs.Nets.{Net as Wired, IsNet, is_wired};
 ghost use Rattle.exb_wiring.specs.Playing.{Dones};
 ghost use Rattle.exb_net_run.specs.Lists.{AreEach};
 ghost use Rattle.exb_net_run.specs.Marks.{AreQuietBut, AreQuietFrom, AreSameBut};
 ghost use Rattle.exb_net_run.specs.Nodes.{HasDone, HasForgotten, HasPassed};
 ghost use Rattle.exb_net_run.specs.Turns.{Turn, IsTurn, HasDelivered, IsComing, Begins, HasPlayed};
+ghost use Rattle.exb_net_run.specs.Fates.{fate_in};
 
 use crate::crossing::Crossing;
 use crate::making::make_all;
@@ -45,9 +45,9 @@ pub struct Net {
 
 /// Opens each bridge: it settles and is marked.
 fn open_all(nodes: &mut Vec<Node>) -> Result<(), WorldFault>
-    requires few { All (λ x. left (fate_in x.world) < 2 ^ 57) nodes.old.items }
-    ensures ok { OnOk result (AreEach (λ b x y. HasDone [] (network_of x.world) (network_of y.world) x.ends.items y.ends.items) nodes.old.items nodes.new.items) }
-    ensures fates { OnOk result (AreEach (λ b x y. left (fate_in y.world) ≤ left (fate_in x.world)) nodes.old.items nodes.new.items) }
+    requires few { All (λ x. left (fate_in x) < 2 ^ 57) nodes.old.items }
+    ensures ok { OnOk result (AreEach (λ b x y. HasDone [] x.world y.world x.ends.items y.ends.items) nodes.old.items nodes.new.items) }
+    ensures fates { OnOk result (AreEach (λ b x y. left (fate_in y) ≤ left (fate_in x)) nodes.old.items nodes.new.items) }
 {
     for node in nodes.iter_mut() {
         open_one(node)?;
@@ -57,9 +57,9 @@ fn open_all(nodes: &mut Vec<Node>) -> Result<(), WorldFault>
 
 /// Seconds pass at each bridge.
 fn pass_all(nodes: &mut Vec<Node>, seconds: u32) -> Result<(), WorldFault>
-    requires can { All (λ x. Can (tree_of (network_of x.world)) (world_of (network_of x.world)) (Tick seconds)) nodes.old.items }
-    ensures ok { OnOk result (AreEach (λ b x y. HasPassed seconds (network_of x.world) (network_of y.world) x.ends.items y.ends.items) nodes.old.items nodes.new.items) }
-    ensures fates { OnOk result (AreEach (λ b x y. left (fate_in y.world) ≤ left (fate_in x.world)) nodes.old.items nodes.new.items) }
+    requires can { All (λ x. Can (tree_of x.world) (world_of x.world) (Tick seconds)) nodes.old.items }
+    ensures ok { OnOk result (AreEach (λ b x y. HasPassed seconds x.world y.world x.ends.items y.ends.items) nodes.old.items nodes.new.items) }
+    ensures fates { OnOk result (AreEach (λ b x y. left (fate_in y) ≤ left (fate_in x)) nodes.old.items nodes.new.items) }
 {
     for node in nodes.iter_mut() {
         let_pass(node, seconds)?;
@@ -70,8 +70,8 @@ fn pass_all(nodes: &mut Vec<Node>, seconds: u32) -> Result<(), WorldFault>
 /// Forgets what was told and has left, where something came.
 fn clear_all(nodes: &mut Vec<Node>, touched: Marks)
     requires { AreQuietBut touched nodes.old.items }
-    ensures forgotten { AreEach (λ b x y. HasForgotten (network_of x.world) (network_of y.world) x.ends.items y.ends.items) nodes.old.items nodes.new.items }
-    ensures fates { AreEach (λ b x y. left (fate_in y.world) ≤ left (fate_in x.world)) nodes.old.items nodes.new.items }
+    ensures forgotten { AreEach (λ b x y. HasForgotten x.world y.world x.ends.items y.ends.items) nodes.old.items nodes.new.items }
+    ensures fates { AreEach (λ b x y. left (fate_in y) ≤ left (fate_in x)) nodes.old.items nodes.new.items }
 {
     let mut from = 0;
     'clearing: while let Some(bridge) = touched.first_from(from) {
@@ -91,10 +91,10 @@ fn deliver(
     queue: &mut VecDeque<Crossing>,
 ) -> Result<(), NoMemory>
     requires turn { (m : Turn) × ((k : ℕ) × (IsTurn m × (HasDelivered m k nodes.old.items (crossing ∷ queue.old.items) × (k < length m.net.wires)))) }
-    requires few { All (λ x. left (fate_in x.world) < 2 ^ 57) nodes.old.items }
+    requires few { All (λ x. left (fate_in x) < 2 ^ 57) nodes.old.items }
     ensures ok { OnOk result ((m : Turn) (k : ℕ) → IsTurn m → HasDelivered m k nodes.old.items (crossing ∷ queue.old.items) → k < length m.net.wires → HasDelivered m (k + 1) nodes.new.items queue.new.items) }
     ensures others { (b : ℕ) → b ≢ crossing.to.bridge → slice_get nodes.new.items b ≡ slice_get nodes.old.items b }
-    ensures fates { OnOk result (AreEach (λ b x y. left (fate_in y.world) ≤ left (fate_in x.world)) nodes.old.items nodes.new.items) }
+    ensures fates { OnOk result (AreEach (λ b x y. left (fate_in y) ≤ left (fate_in x)) nodes.old.items nodes.new.items) }
 {
     deliveries_end_soon();
     bridges_handle();
@@ -113,11 +113,11 @@ fn deliver_all(
     queue: &mut VecDeque<Crossing>,
 ) -> Result<Marks, NoMemory>
     requires turn { (m : Turn) × (IsTurn m × (HasDelivered m 0 nodes.old.items queue.old.items × (wires ≡ length m.net.wires))) }
-    requires few { All (λ x. left (fate_in x.world) < 2 ^ 57) nodes.old.items }
+    requires few { All (λ x. left (fate_in x) < 2 ^ 57) nodes.old.items }
     ensures ok { OnOk result ((m : Turn) → IsTurn m → HasDelivered m 0 nodes.old.items queue.old.items → wires ≡ length m.net.wires
         → HasPlayed m.net m.bridge m.arrival m.dones m.told nodes.new.items queue.new.items) }
     ensures others { IfOk result (λ touched. AreSameBut touched nodes.old.items nodes.new.items) }
-    ensures fates { OnOk result (AreEach (λ b x y. left (fate_in y.world) ≤ left (fate_in x.world)) nodes.old.items nodes.new.items) }
+    ensures fates { OnOk result (AreEach (λ b x y. left (fate_in y) ≤ left (fate_in x)) nodes.old.items nodes.new.items) }
 {
     deliveries_end_soon();
     let mut touched = Marks::none();
@@ -140,11 +140,11 @@ fn begin(
     arrival: &Arrival,
 ) -> Result<(), NoMemory>
     requires can { (n : Wired) × ((s : Dones) × ((told : Dones) × IsComing n bridge arrival.now s told nodes.old.items queue.old.items)) }
-    requires few { All (λ x. left (fate_in x.world) < 2 ^ 57) nodes.old.items }
+    requires few { All (λ x. left (fate_in x) < 2 ^ 57) nodes.old.items }
     ensures ok { OnOk result ((n : Wired) (s told : Dones) → IsComing n bridge arrival.now s told nodes.old.items queue.old.items
         → Begins n bridge arrival.now s told nodes.new.items queue.new.items) }
     ensures others { (b : ℕ) → b ≢ bridge → slice_get nodes.new.items b ≡ slice_get nodes.old.items b }
-    ensures fates { OnOk result (AreEach (λ b x y. left (fate_in y.world) ≤ left (fate_in x.world)) nodes.old.items nodes.new.items) }
+    ensures fates { OnOk result (AreEach (λ b x y. left (fate_in y) ≤ left (fate_in x)) nodes.old.items nodes.new.items) }
 {
     bridges_handle();
     enter(alloc, &mut nodes[bridge as usize], arrival, queue)
@@ -160,11 +160,11 @@ fn play_arrival(
     arrival: &Arrival,
 ) -> Result<Marks, NoMemory>
     requires can { (n : Wired) × ((s : Dones) × ((told : Dones) × (IsComing n bridge arrival.now s told nodes.old.items queue.old.items × (wires ≡ length n.wires)))) }
-    requires few { All (λ x. left (fate_in x.world) < 2 ^ 57) nodes.old.items }
+    requires few { All (λ x. left (fate_in x) < 2 ^ 57) nodes.old.items }
     ensures ok { OnOk result ((n : Wired) (s told : Dones) → IsComing n bridge arrival.now s told nodes.old.items queue.old.items → wires ≡ length n.wires
         → HasPlayed n bridge arrival.now s told nodes.new.items queue.new.items) }
     ensures others { IfOk result (λ touched. AreSameBut touched nodes.old.items nodes.new.items) }
-    ensures fates { OnOk result (AreEach (λ b x y. left (fate_in y.world) ≤ left (fate_in x.world)) nodes.old.items nodes.new.items) }
+    ensures fates { OnOk result (AreEach (λ b x y. left (fate_in y) ≤ left (fate_in x)) nodes.old.items nodes.new.items) }
 {
     begin(alloc, nodes, queue, bridge, arrival)?;
     let mut touched = deliver_all(alloc, nodes, wires, queue)?;
@@ -182,7 +182,7 @@ impl Net {
         requires few { All (λ f. left f < 2 ^ 57) fates.items }
         ensures begun { IfOk result (λ made. (n : Wired) → IsSetupOf n setup.now → IsNet n → IsBegun n made) }
         ensures awake { IfOk result (λ made. made.failed ≡ false) }
-        ensures fates { IfOk result (λ made. AreEach (λ b f x. left x.world.fate ≡ left f) fates.items made.nodes.items) }
+        ensures fates { IfOk result (λ made. AreEach (λ b f x. left x.fate ≡ left f) fates.items made.nodes.items) }
     {
         let mut fates = fates;
         let mut nodes = Vec::new(alloc);
@@ -207,12 +207,12 @@ impl Net {
     /// Opens all bridges: the extenders of each are heard and opened, and each of its ports goes up, or is refused that; settled and
     /// marked.
     pub fn open(&mut self) -> Result<(), WorldFault>
-        requires few { All (λ x. left (fate_in x.world) < 2 ^ 57) self.old.nodes.items }
+        requires few { All (λ x. left (fate_in x) < 2 ^ 57) self.old.nodes.items }
         ensures ok { OnOk result ((n : Wired) → IsBegun n self.old → Opens n self.new) }
         ensures failed { (result ≡ Err WorldFault.Failed) ↔ (self.old.failed ≡ true) }
         ensures memory { OnErr result (self.new.failed ≡ true) }
         ensures came { OnOk result (self.new.came ≡ self.old.came) }
-        ensures fates { OnOk result (AreEach (λ b x y. left (fate_in y.world) ≤ left (fate_in x.world)) self.old.nodes.items self.new.nodes.items) }
+        ensures fates { OnOk result (AreEach (λ b x y. left (fate_in y) ≤ left (fate_in x)) self.old.nodes.items self.new.nodes.items) }
     {
         opened_nets_run();
         if self.failed {
@@ -231,12 +231,12 @@ impl Net {
     /// Seconds pass at all bridges, if there are any.
     pub fn tick(&mut self, seconds: u32) -> Result<(), WorldFault>
         requires opened { IsOpen self.old }
-        requires can { (seconds == 0) ≡ false → All (λ x. Can (tree_of (network_of x.world)) (world_of (network_of x.world)) (Tick seconds)) self.old.nodes.items }
+        requires can { (seconds == 0) ≡ false → All (λ x. Can (tree_of x.world) (world_of x.world) (Tick seconds)) self.old.nodes.items }
         ensures ok { OnOk result ((n : Wired) (s told : Dones) → IsPlaying n s told self.old → Passes n seconds s told self.new) }
         ensures failed { (result ≡ Err WorldFault.Failed) ↔ (self.old.failed ≡ true) }
         ensures memory { OnErr result (self.new.failed ≡ true) }
         ensures came { OnOk result (self.new.came ≡ self.old.came) }
-        ensures fates { OnOk result (AreEach (λ b x y. left (fate_in y.world) ≤ left (fate_in x.world)) self.old.nodes.items self.new.nodes.items) }
+        ensures fates { OnOk result (AreEach (λ b x y. left (fate_in y) ≤ left (fate_in x)) self.old.nodes.items self.new.nodes.items) }
     {
         seconds_pass();
         if self.failed {
@@ -260,14 +260,14 @@ impl Net {
     pub fn arrive(&mut self, bridge: u8, arrival: &Arrival) -> Result<(), WorldFault>
         requires opened { self.old.failed ≡ false → (n : Wired) × ((s : Dones) × ((told : Dones) × (IsPlaying n s told self.old × (is_wired n.wires bridge arrival.now.port ≡ false)))) }
         requires here { bridge < length self.old.nodes.items }
-        requires can { (x : _) → slice_get self.old.nodes.items bridge ≡ Some x → Can (tree_of (network_of x.world)) (world_of (network_of x.world)) (Arrive arrival.now) }
+        requires can { (x : _) → slice_get self.old.nodes.items bridge ≡ Some x → Can (tree_of x.world) (world_of x.world) (Arrive arrival.now) }
         requires few { self.old.came < 2 ^ 62 }
-        requires fates { All (λ x. left (fate_in x.world) < 2 ^ 57) self.old.nodes.items }
+        requires fates { All (λ x. left (fate_in x) < 2 ^ 57) self.old.nodes.items }
         ensures ok { OnOk result ((n : Wired) (s told : Dones) → IsPlaying n s told self.old → is_wired n.wires bridge arrival.now.port ≡ false → Handled n bridge (Arrive arrival.now) s told self.new) }
         ensures failed { (result ≡ Err WorldFault.Failed) ↔ (self.old.failed ≡ true) }
         ensures memory { OnErr result (self.new.failed ≡ true) }
         ensures came { OnOk result (self.new.came ≡ self.old.came + 1) }
-        ensures fates { OnOk result (AreEach (λ b x y. left (fate_in y.world) ≤ left (fate_in x.world)) self.old.nodes.items self.new.nodes.items) }
+        ensures fates { OnOk result (AreEach (λ b x y. left (fate_in y) ≤ left (fate_in x)) self.old.nodes.items self.new.nodes.items) }
     {
         if self.failed {
             return Err(WorldFault::Failed);
@@ -292,13 +292,13 @@ impl Net {
     pub fn command(&mut self, bridge: u8, command: &Timed) -> Result<(), WorldFault>
         requires opened { IsOpen self.old }
         requires here { bridge < length self.old.nodes.items }
-        requires can { (x : _) → slice_get self.old.nodes.items bridge ≡ Some x → Can (tree_of (network_of x.world)) (world_of (network_of x.world)) (Order command.now.command) }
-        requires fate { (x : _) → slice_get self.old.nodes.items bridge ≡ Some x → left (fate_in x.world) + length command.now.fate < 2 ^ 57 }
+        requires can { (x : _) → slice_get self.old.nodes.items bridge ≡ Some x → Can (tree_of x.world) (world_of x.world) (Order command.now.command) }
+        requires fate { (x : _) → slice_get self.old.nodes.items bridge ≡ Some x → left (fate_in x) + length command.now.fate < 2 ^ 57 }
         ensures ok { OnOk result ((n : Wired) (s told : Dones) → IsPlaying n s told self.old → Handled n bridge (Order command.now.command) s told self.new) }
         ensures failed { (result ≡ Err WorldFault.Failed) ↔ (self.old.failed ≡ true) }
         ensures memory { OnErr result (self.new.failed ≡ true) }
         ensures came { OnOk result (self.new.came ≡ self.old.came) }
-        ensures fates { OnOk result (AreEach (λ b x y. left (fate_in y.world) ≤ left (fate_in x.world) + (if b == bridge then length command.now.fate else 0)) self.old.nodes.items self.new.nodes.items) }
+        ensures fates { OnOk result (AreEach (λ b x y. left (fate_in y) ≤ left (fate_in x) + (if b == bridge then length command.now.fate else 0)) self.old.nodes.items self.new.nodes.items) }
     {
         bridges_handle();
         if self.failed {
@@ -343,7 +343,7 @@ impl Net {
         ensures ok { (n : Wired) (s told : Dones) → IsPlaying n s told self.old → IsPlaying n s s self.new }
         ensures failed { self.new.failed ≡ self.old.failed }
         ensures came { self.new.came ≡ self.old.came }
-        ensures fates { AreEach (λ b x y. left (fate_in y.world) ≤ left (fate_in x.world)) self.old.nodes.items self.new.nodes.items }
+        ensures fates { AreEach (λ b x y. left (fate_in y) ≤ left (fate_in x)) self.old.nodes.items self.new.nodes.items }
     {
         clear_all(&mut self.nodes, self.touched);
         self.touched = Marks::none();

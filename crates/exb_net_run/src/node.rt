@@ -8,9 +8,9 @@ ghost use Rattle.exb_motion.specs.Kept.{HasVid};
 ghost use Rattle.exb_motion.specs.Runs.Settles.{beginning};
 ghost use Rattle.exb_network.specs.Networks.{bounds_of, tree_of, world_of, IsQuiet};
 ghost use Rattle.exb_schedule.specs.Segments.{IsPlayedOut};
-ghost use Rattle.exb_schedule.specs.Worlds.{fate_in, network_of};
 ghost use Rattle.exb_net_run.specs.Ends.{ends_over, next_in, with_next};
 ghost use Rattle.exb_net_run.specs.Nodes.{HasDone, HasEntered, HasForgotten, HasPassed, come_as};
+ghost use Rattle.exb_net_run.specs.Fates.{fate_in};
 
 use crate::crossing::{Crossing, send};
 use crate::ends::{WiredEnd, ends_of, next_at, set_next};
@@ -25,10 +25,11 @@ use std::collections::VecDeque;
 use std::marker::PhantomData;
 use std::slice;
 
-/// A bridge of a net: its world, and its wired ports in port order.
+/// A bridge of a net: its world, the fate of its control words, and its wired ports in port order.
 #[derive(Drop)]
 pub struct Node {
     pub world: World,
+    pub fate: Box<dyn Fate>,
     pub ends: Vec<WiredEnd>,
     /// Names the types of a step, for functions that make one.
     steps: PhantomData<Step<'static>>,
@@ -44,19 +45,20 @@ impl Node {
         fate: Box<dyn Fate>,
     ) -> Result<Node, NoMemory>
         requires { IsValid setup.now }
-        ensures tree { IfOk result (λ made. tree_of (network_of made.world) ≡ shape_of setup.now) }
-        ensures limits { IfOk result (λ made. bounds_of (network_of made.world) ≡ limits_of setup.now) }
-        ensures world { IfOk result (λ made. world_of (network_of made.world) ≡ beginning setup.now) }
-        ensures quiet { IfOk result (λ made. IsQuiet (network_of made.world)) }
-        ensures awake { IfOk result (λ made. (network_of made.world).failed ≡ false) }
+        ensures tree { IfOk result (λ made. tree_of made.world ≡ shape_of setup.now) }
+        ensures limits { IfOk result (λ made. bounds_of made.world ≡ limits_of setup.now) }
+        ensures world { IfOk result (λ made. world_of made.world ≡ beginning setup.now) }
+        ensures quiet { IfOk result (λ made. IsQuiet made.world) }
+        ensures awake { IfOk result (λ made. made.world.failed ≡ false) }
         ensures ends { IfOk result (λ made. made.ends.items ≡ ends_over wires.now bridge (λ q. 1) (external_ports (shape_of setup.now))) }
         ensures vids { IfOk result (λ made. All HasVid setup.now.start) }
-        ensures fate { IfOk result (λ made. left made.world.fate ≡ left fate) }
+        ensures fate { IfOk result (λ made. left made.fate ≡ left fate) }
     {
-        let world = World::new(alloc, setup, fate, false)?;
+        let world = World::new(alloc, setup, false)?;
         match ends_of(alloc, wires, bridge, world.tree()) {
             Ok(ends) => Ok(Node {
                 world,
+                fate,
                 ends,
                 steps: PhantomData,
             }),
@@ -71,13 +73,14 @@ impl Node {
 
 /// A frame arrives at a bridge, which settles and is marked.
 fn take_in(node: &mut Node, arrival: &Arrival) -> Result<(), NoMemory>
-    requires can { Can (tree_of (network_of node.old.world)) (world_of (network_of node.old.world)) (Arrive arrival.now) }
-    requires few { left (fate_in node.old.world) < 2 ^ 57 }
-    ensures ok { OnOk result (IsPlayedOut (Arrive arrival.now ∷ []) (network_of node.old.world) (network_of node.new.world)) }
+    requires can { Can (tree_of node.old.world) (world_of node.old.world) (Arrive arrival.now) }
+    requires few { left (fate_in node.old) < 2 ^ 57 }
+    ensures ok { OnOk result (IsPlayedOut (Arrive arrival.now ∷ []) node.old.world node.new.world) }
     ensures ends { node.new.ends ≡ node.old.ends }
-    ensures fate { left (fate_in node.new.world) ≤ left (fate_in node.old.world) }
+    ensures fate { left (fate_in node.new) ≤ left (fate_in node.old) }
 {
-    match eager(&mut node.world, 0, &[], slice::from_ref(arrival)) {
+    let fate = &mut *node.fate;
+    match eager(&mut node.world, fate, 0, &[], slice::from_ref(arrival)) {
         Ok(()) => Ok(()),
         Err(_) => Err(NoMemory),
     }
@@ -85,38 +88,39 @@ fn take_in(node: &mut Node, arrival: &Arrival) -> Result<(), NoMemory>
 
 /// A bridge is opened: it settles and is marked.
 pub(crate) fn open_one(node: &mut Node) -> Result<(), WorldFault>
-    requires { left (fate_in node.old.world) < 2 ^ 57 }
-    ensures ok { OnOk result (HasDone [] (network_of node.old.world) (network_of node.new.world) node.old.ends.items node.new.ends.items) }
-    ensures fate { left (fate_in node.new.world) ≤ left (fate_in node.old.world) }
+    requires { left (fate_in node.old) < 2 ^ 57 }
+    ensures ok { OnOk result (HasDone [] node.old.world node.new.world node.old.ends.items node.new.ends.items) }
+    ensures fate { left (fate_in node.new) ≤ left (fate_in node.old) }
 {
-    eager(&mut node.world, 0, &[], &[])
+    eager(&mut node.world, &mut *node.fate, 0, &[], &[])
 }
 
 /// Seconds pass at a bridge.
 pub(crate) fn let_pass(node: &mut Node, seconds: u32) -> Result<(), WorldFault>
-    requires { Can (tree_of (network_of node.old.world)) (world_of (network_of node.old.world)) (Tick seconds) }
-    ensures ok { OnOk result (HasPassed seconds (network_of node.old.world) (network_of node.new.world) node.old.ends.items node.new.ends.items) }
-    ensures fate { left (fate_in node.new.world) ≤ left (fate_in node.old.world) }
+    requires { Can (tree_of node.old.world) (world_of node.old.world) (Tick seconds) }
+    ensures ok { OnOk result (HasPassed seconds node.old.world node.new.world node.old.ends.items node.new.ends.items) }
+    ensures fate { left (fate_in node.new) ≤ left (fate_in node.old) }
 {
-    node.world.step(Step::Tick { seconds })
+    node.world.step(&Step::Tick { seconds })
 }
 
 /// A bridge forgets what was told and has left.
 pub(crate) fn forget(node: &mut Node)
-    ensures forgotten { HasForgotten (network_of node.old.world) (network_of node.new.world) node.old.ends.items node.new.ends.items }
-    ensures fate { left (fate_in node.new.world) ≤ left (fate_in node.old.world) }
+    ensures forgotten { HasForgotten node.old.world node.new.world node.old.ends.items node.new.ends.items }
+    ensures fate { left (fate_in node.new) ≤ left (fate_in node.old) }
 {
     node.world.clear();
 }
 
 /// A command is given to a bridge, which settles and is marked.
 pub fn order(node: &mut Node, command: &Timed) -> Result<(), WorldFault>
-    requires can { Can (tree_of (network_of node.old.world)) (world_of (network_of node.old.world)) (Order command.now.command) }
-    requires few { left (fate_in node.old.world) + length command.now.fate < 2 ^ 57 }
-    ensures ok { OnOk result (HasDone (Order command.now.command ∷ []) (network_of node.old.world) (network_of node.new.world) node.old.ends.items node.new.ends.items) }
-    ensures fate { left (fate_in node.new.world) ≤ left (fate_in node.old.world) + length command.now.fate }
+    requires can { Can (tree_of node.old.world) (world_of node.old.world) (Order command.now.command) }
+    requires few { left (fate_in node.old) + length command.now.fate < 2 ^ 57 }
+    ensures ok { OnOk result (HasDone (Order command.now.command ∷ []) node.old.world node.new.world node.old.ends.items node.new.ends.items) }
+    ensures fate { left (fate_in node.new) ≤ left (fate_in node.old) + length command.now.fate }
 {
-    eager(&mut node.world, 0, slice::from_ref(command), &[])
+    let fate = &mut *node.fate;
+    eager(&mut node.world, fate, 0, slice::from_ref(command), &[])
 }
 
 /// A frame arrives at a bridge, which settles; and what has left its wired ports for it is put at the end of the queue.
@@ -126,11 +130,11 @@ pub fn enter(
     arrival: &Arrival,
     queue: &mut VecDeque<Crossing>,
 ) -> Result<(), NoMemory>
-    requires can { Can (tree_of (network_of node.old.world)) (world_of (network_of node.old.world)) (Arrive arrival.now) }
-    requires few { left (fate_in node.old.world) < 2 ^ 57 }
-    ensures ok { OnOk result (HasEntered arrival.now node.old.ends.items (network_of node.old.world) (network_of node.new.world) queue.old.items queue.new.items) }
+    requires can { Can (tree_of node.old.world) (world_of node.old.world) (Arrive arrival.now) }
+    requires few { left (fate_in node.old) < 2 ^ 57 }
+    ensures ok { OnOk result (HasEntered arrival.now node.old.ends.items node.old.world node.new.world queue.old.items queue.new.items) }
     ensures ends { node.new.ends ≡ node.old.ends }
-    ensures fate { left (fate_in node.new.world) ≤ left (fate_in node.old.world) }
+    ensures fate { left (fate_in node.new) ≤ left (fate_in node.old) }
 {
     let before = count_left(node.world.left());
     take_in(node, arrival)?;
@@ -145,11 +149,11 @@ pub fn let_come(
     crossing: Crossing,
     queue: &mut VecDeque<Crossing>,
 ) -> Result<(), NoMemory>
-    requires can { Can (tree_of (network_of node.old.world)) (world_of (network_of node.old.world)) (Arrive (come_as node.old.ends.items crossing)) }
-    requires few { left (fate_in node.old.world) < 2 ^ 57 }
-    ensures ok { OnOk result (HasEntered (come_as node.old.ends.items crossing) node.old.ends.items (network_of node.old.world) (network_of node.new.world) queue.old.items queue.new.items) }
+    requires can { Can (tree_of node.old.world) (world_of node.old.world) (Arrive (come_as node.old.ends.items crossing)) }
+    requires few { left (fate_in node.old) < 2 ^ 57 }
+    ensures ok { OnOk result (HasEntered (come_as node.old.ends.items crossing) node.old.ends.items node.old.world node.new.world queue.old.items queue.new.items) }
     ensures ends { node.new.ends.items ≡ map (with_next crossing.to.port (next_in node.old.ends.items crossing.to.port + 1)) node.old.ends.items }
-    ensures fate { left (fate_in node.new.world) ≤ left (fate_in node.old.world) }
+    ensures fate { left (fate_in node.new) ≤ left (fate_in node.old) }
 {
     let port = crossing.to.port;
     let index = next_at(node.ends.as_slice(), port);

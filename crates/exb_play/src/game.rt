@@ -14,7 +14,6 @@ ghost use Rattle.exb_motion.specs.Playing.{IsTimely};
 ghost use Rattle.exb_network.specs.Networks.{world_of, IsQuiet, IsSame};
 ghost use Rattle.exb_bridge.specs.Worlds.{all_left};
 ghost use Rattle.exb_schedule.specs.Playing.{CanAll, HasPlayed as IsPlayedBy, IsSegment, gives, letters_in};
-ghost use Rattle.exb_schedule.specs.Worlds.{network_of, fate_in};
 ghost use Rattle.exb_shelf.specs.Files.{Files, Filled};
 ghost use Rattle.exb_text.specs.declared.output.Output.{Output};
 ghost use Rattle.exb_text.specs.Tallies.{counts_of};
@@ -56,10 +55,11 @@ use rand_core::SeedableRng;
 use rand_pcg::Lcg64Xsh32;
 use std::alloc::Global;
 
-/// The world, what is written of it, and what is counted.
+/// The world with the fate of its control words, what is written of it, and what is counted.
 #[derive(Drop)]
 struct Game {
     world: World,
+    fate: Box<dyn Fate>,
     outputs: Outputs,
     counted: Counted,
     /// What seeded runs draw from.
@@ -85,15 +85,15 @@ fn write_all<S: Shelf>(
     world: &World,
 ) -> Result<(), ShelfFault>
     requires ready { IsReady manifest.now (S.ids shelf.old) outputs.old }
-    requires frames { All (λ x. CanBeWritten manifest.now x) (network_of world.now).log.left }
+    requires frames { All (λ x. CanBeWritten manifest.now x) world.now.log.left }
     ensures ready { IsReady manifest.now (S.ids shelf.new) outputs.new }
     ensures texts { S.tells → OnOk result ((orig : Files) (text : Output → List ℕ) → HasTexts manifest.now (pieces_of outputs.old) orig (S.file shelf.old) text
         → HasTexts manifest.now (pieces_of outputs.new) orig (S.file shelf.new)
-        (with_told text (network_of world.now).log.events (network_of world.now).log.left (network_of world.now).log.lines)) }
+        (with_told text world.now.log.events world.now.log.left world.now.log.lines)) }
     ensures cut { S.tells → OnErr result ((orig : Files) (text : Output → List ℕ) → HasTexts manifest.now (pieces_of outputs.old) orig (S.file shelf.old) text
         → AreCut manifest.now orig (S.file shelf.new)
-        (with_told text (network_of world.now).log.events (network_of world.now).log.left (network_of world.now).log.lines)) }
-    ensures sent { OnOk result ((sent : ℕ → List Sent) → HasSent manifest.now outputs.old sent → HasSent manifest.now outputs.new (sent_with sent (network_of world.now).log.left)) }
+        (with_told text world.now.log.events world.now.log.left world.now.log.lines)) }
+    ensures sent { OnOk result ((sent : ℕ → List Sent) → HasSent manifest.now outputs.old sent → HasSent manifest.now outputs.new (sent_with sent world.now.log.left)) }
     ensures only { OnlyWrites S.tells manifest.now (S.file shelf.old) (S.file shelf.new) (S.ids shelf.old) (S.ids shelf.new) }
     ensures faults { CountsWrites result (S.faults shelf.old) (S.faults shelf.new) }
 {
@@ -113,29 +113,30 @@ fn write_all<S: Shelf>(
 fn play_segment(
     schedule: Schedule,
     world: &mut World,
+    fate: &mut dyn Fate,
     rng: &mut Lcg64Xsh32,
     seconds: u32,
     commands: &[Timed],
     arrivals: &[Arrival],
 ) -> Result<(), WorldFault>
-    requires can { CanAll (network_of world.old) (gives seconds commands.now arrivals.now) }
-    requires few { left (fate_in world.old) + letters_in commands.now < 2 ^ 57 }
+    requires can { CanAll world.old (gives seconds commands.now arrivals.now) }
+    requires few { left fate.old + letters_in commands.now < 2 ^ 57 }
     ensures plays { OnOk result ((i : Input) (so_far : List Segment) (s : Segment) (events : List Event) (passed : List Bool) (left : List Leaving) (lines : List TraceLine) → IsSegment i s seconds commands.now arrivals.now
-        → IsPlayedBy (mode_of schedule) i so_far (network_of world.old) (events ++ (network_of world.old).log.events) (passed ++ (network_of world.old).log.passed) (left ++ all_left (network_of world.old).log.left) (lines ++ (network_of world.old).log.lines)
-        → IsPlayedBy (mode_of schedule) i (so_far ++ s ∷ []) (network_of world.new) (events ++ (network_of world.new).log.events) (passed ++ (network_of world.new).log.passed) (left ++ all_left (network_of world.new).log.left) (lines ++ (network_of world.new).log.lines)) }
-    ensures same { OnOk result (IsSame (network_of world.old) (network_of world.new)) }
-    ensures fate { left (fate_in world.new) ≤ left (fate_in world.old) + letters_in commands.now }
+        → IsPlayedBy (mode_of schedule) i so_far world.old (events ++ world.old.log.events) (passed ++ world.old.log.passed) (left ++ all_left world.old.log.left) (lines ++ world.old.log.lines)
+        → IsPlayedBy (mode_of schedule) i (so_far ++ s ∷ []) world.new (events ++ world.new.log.events) (passed ++ world.new.log.passed) (left ++ all_left world.new.log.left) (lines ++ world.new.log.lines)) }
+    ensures same { OnOk result (IsSame world.old world.new) }
+    ensures fate { left fate.new ≤ left fate.old + letters_in commands.now }
 {
     match schedule {
-        Schedule::Eager => eager(world, seconds, commands, arrivals),
-        Schedule::Seeded { .. } => seeded(world, rng, seconds, commands, arrivals),
+        Schedule::Eager => eager(world, fate, seconds, commands, arrivals),
+        Schedule::Seeded { .. } => seeded(world, fate, rng, seconds, commands, arrivals),
     }
 }
 
 /// That the numbers of what a world told have 64 bits and the frames of its lines are bytes, by their types. It does nothing.
 fn told_by_types(world: &World)
-    ensures numbers { All IsOfNumbers (network_of world.now).log.events }
-    ensures bytes { All HasBytes (network_of world.now).log.lines }
+    ensures numbers { All IsOfNumbers world.now.log.events }
+    ensures bytes { All HasBytes world.now.log.lines }
 {
     events_numbers(world.events());
     lines_bytes(world.trace());
@@ -157,23 +158,23 @@ impl Game {
     #[inline(always)]
     fn note<S: Shelf>(&mut self, shelf: &mut S, manifest: &Manifest) -> Result<(), ShelfFault>
         requires ready { IsReady manifest.now (S.ids shelf.old) self.old.outputs }
-        requires frames { All (λ x. CanBeWritten manifest.now x) (network_of self.old.world).log.left }
-        requires can { CanCount self.old.counted (network_of self.old.world).log.events (network_of self.old.world).log.passed (length (all_left (network_of self.old.world).log.left)) }
+        requires frames { All (λ x. CanBeWritten manifest.now x) self.old.world.log.left }
+        requires can { CanCount self.old.counted self.old.world.log.events self.old.world.log.passed (length (all_left self.old.world.log.left)) }
         ensures ready { IsReady manifest.now (S.ids shelf.new) self.new.outputs }
-        ensures world { OnOk result (world_of (network_of self.new.world) ≡ world_of (network_of self.old.world)) }
-        ensures same { OnOk result (IsSame (network_of self.old.world) (network_of self.new.world)) }
-        ensures quiet { OnOk result (IsQuiet (network_of self.new.world)) }
+        ensures world { OnOk result (world_of self.new.world ≡ world_of self.old.world) }
+        ensures same { OnOk result (IsSame self.old.world self.new.world) }
+        ensures quiet { OnOk result (IsQuiet self.new.world) }
         ensures texts { S.tells → OnOk result ((orig : Files) (text : Output → List ℕ) → HasTexts manifest.now (pieces_of self.old.outputs) orig (S.file shelf.old) text
             → HasTexts manifest.now (pieces_of self.new.outputs) orig (S.file shelf.new)
-            (with_told text (network_of self.old.world).log.events (network_of self.old.world).log.left (network_of self.old.world).log.lines)) }
+            (with_told text self.old.world.log.events self.old.world.log.left self.old.world.log.lines)) }
         ensures cut { S.tells → OnErr result ((orig : Files) (text : Output → List ℕ) → HasTexts manifest.now (pieces_of self.old.outputs) orig (S.file shelf.old) text
             → AreCut manifest.now orig (S.file shelf.new)
-            (with_told text (network_of self.old.world).log.events (network_of self.old.world).log.left (network_of self.old.world).log.lines)) }
-        ensures sent { OnOk result ((sent : ℕ → List Sent) → HasSent manifest.now self.old.outputs sent → HasSent manifest.now self.new.outputs (sent_with sent (network_of self.old.world).log.left)) }
+            (with_told text self.old.world.log.events self.old.world.log.left self.old.world.log.lines)) }
+        ensures sent { OnOk result ((sent : ℕ → List Sent) → HasSent manifest.now self.old.outputs sent → HasSent manifest.now self.new.outputs (sent_with sent self.old.world.log.left)) }
         ensures tally { OnOk result (counts_of self.new.counted.tally
-            ≡ with_left (length (all_left (network_of self.old.world).log.left)) (fold (λ c e. counted e c) (counts_of self.old.counted.tally) (network_of self.old.world).log.events)) }
-        ensures ports { OnOk result (CountsOn self.old.counted.ports self.new.counted.ports (network_of self.old.world).log.events (network_of self.old.world).log.passed) }
-        ensures fate { OnOk result (left (fate_in self.new.world) ≡ left (fate_in self.old.world)) }
+            ≡ with_left (length (all_left self.old.world.log.left)) (fold (λ c e. counted e c) (counts_of self.old.counted.tally) self.old.world.log.events)) }
+        ensures ports { OnOk result (CountsOn self.old.counted.ports self.new.counted.ports self.old.world.log.events self.old.world.log.passed) }
+        ensures fate { OnOk result (left self.new.fate ≡ left self.old.fate) }
         ensures only { OnlyWrites S.tells manifest.now (S.file shelf.old) (S.file shelf.new) (S.ids shelf.old) (S.ids shelf.new) }
         ensures faults { CountsWrites result (S.faults shelf.old) (S.faults shelf.new) }
     {
@@ -204,17 +205,17 @@ impl Game {
         arrivals: &[Arrival],
     ) -> Result<(), ShelfFault>
         requires ready { IsReady manifest.now (S.ids shelf.old) self.old.outputs }
-        requires playable { (run : Run) × CanBePlayed S.tells (mode_of schedule) run manifest.now (S.file shelf.old) (network_of self.old.world) self.old.counted self.old.outputs seconds commands.now arrivals.now }
-        requires budget { left (fate_in self.old.world) + letters_in commands.now < 2 ^ 57 }
+        requires playable { (run : Run) × CanBePlayed S.tells (mode_of schedule) run manifest.now (S.file shelf.old) self.old.world self.old.counted self.old.outputs seconds commands.now arrivals.now }
+        requires budget { left self.old.fate + letters_in commands.now < 2 ^ 57 }
         ensures ready { IsReady manifest.now (S.ids shelf.new) self.new.outputs }
         ensures told { OnOk result ((run : Run) (so_far : List Segment) (s : Segment) → IsSegment run.input s seconds commands.now arrivals.now
-            → IsTold S.tells (mode_of schedule) run manifest.now (S.file shelf.old) (network_of self.old.world) self.old.counted self.old.outputs so_far
-            → IsTold S.tells (mode_of schedule) run manifest.now (S.file shelf.new) (network_of self.new.world) self.new.counted self.new.outputs (so_far ++ s ∷ [])) }
+            → IsTold S.tells (mode_of schedule) run manifest.now (S.file shelf.old) self.old.world self.old.counted self.old.outputs so_far
+            → IsTold S.tells (mode_of schedule) run manifest.now (S.file shelf.new) self.new.world self.new.counted self.new.outputs (so_far ++ s ∷ [])) }
         ensures cut { S.tells → OnErr result ((run : Run) (so_far rest : List Segment) (s : Segment) → segments (mode_of schedule) run.input ≡ so_far ++ s ∷ rest
             → IsSegment run.input s seconds commands.now arrivals.now
-            → IsTold S.tells (mode_of schedule) run manifest.now (S.file shelf.old) (network_of self.old.world) self.old.counted self.old.outputs so_far
+            → IsTold S.tells (mode_of schedule) run manifest.now (S.file shelf.old) self.old.world self.old.counted self.old.outputs so_far
             → IsCutOff (mode_of schedule) run manifest.now (S.file shelf.new)) }
-        ensures budget { OnOk result (left (fate_in self.new.world) ≤ left (fate_in self.old.world) + letters_in commands.now) }
+        ensures budget { OnOk result (left self.new.fate ≤ left self.old.fate + letters_in commands.now) }
         ensures only { OnlyWrites S.tells manifest.now (S.file shelf.old) (S.file shelf.new) (S.ids shelf.old) (S.ids shelf.new) }
         ensures faults { CountsWrites result (S.faults shelf.old) (S.faults shelf.new) }
     {
@@ -225,6 +226,7 @@ impl Game {
         if play_segment(
             schedule,
             &mut self.world,
+            &mut *self.fate,
             &mut self.rng,
             seconds,
             commands,
@@ -250,16 +252,16 @@ impl Game {
     ) -> Result<(), ShelfFault>
         requires ready { IsReady manifest.now (S.ids shelf.old) self.old.outputs }
         requires feed { CanFeed (S.ids shelf.old) feed.now }
-        requires playing { (run : Run) × ((second : ℕ) × CanGoOn S.tells (mode_of schedule) run manifest.now (S.file shelf.old) (S.ids shelf.old) (network_of self.old.world) self.old.counted self.old.outputs seconds from second feed.now) }
-        requires budget { left (fate_in self.old.world) + letters_in (drop from feed.now.programme.commands.now) < 2 ^ 57 }
+        requires playing { (run : Run) × ((second : ℕ) × CanGoOn S.tells (mode_of schedule) run manifest.now (S.file shelf.old) (S.ids shelf.old) self.old.world self.old.counted self.old.outputs seconds from second feed.now) }
+        requires budget { left self.old.fate + letters_in (drop from feed.now.programme.commands.now) < 2 ^ 57 }
         ensures ready { IsReady manifest.now (S.ids shelf.new) self.new.outputs }
         ensures told { OnOk result ((run : Run) (second : ℕ)
-            → CanGoOn S.tells (mode_of schedule) run manifest.now (S.file shelf.old) (S.ids shelf.old) (network_of self.old.world) self.old.counted self.old.outputs seconds from second feed.now
-            → IsPlaying S.tells (mode_of schedule) run manifest.now (S.file shelf.new) (S.ids shelf.new) (network_of self.new.world) self.new.counted self.new.outputs (Some second) feed.now.programme) }
+            → CanGoOn S.tells (mode_of schedule) run manifest.now (S.file shelf.old) (S.ids shelf.old) self.old.world self.old.counted self.old.outputs seconds from second feed.now
+            → IsPlaying S.tells (mode_of schedule) run manifest.now (S.file shelf.new) (S.ids shelf.new) self.new.world self.new.counted self.new.outputs (Some second) feed.now.programme) }
         ensures cut { S.tells → OnErr result ((run : Run) (second : ℕ)
-            → CanGoOn S.tells (mode_of schedule) run manifest.now (S.file shelf.old) (S.ids shelf.old) (network_of self.old.world) self.old.counted self.old.outputs seconds from second feed.now
+            → CanGoOn S.tells (mode_of schedule) run manifest.now (S.file shelf.old) (S.ids shelf.old) self.old.world self.old.counted self.old.outputs seconds from second feed.now
             → IsCutOff (mode_of schedule) run manifest.now (S.file shelf.new)) }
-        ensures budget { OnOk result (left (fate_in self.new.world) + letters_in (drop feed.now.programme.taken feed.now.programme.commands.now) < 2 ^ 57) }
+        ensures budget { OnOk result (left self.new.fate + letters_in (drop feed.now.programme.taken feed.now.programme.commands.now) < 2 ^ 57) }
         ensures only { OnlyWrites S.tells manifest.now (S.file shelf.old) (S.file shelf.new) (S.ids shelf.old) (S.ids shelf.new) }
         ensures faults { CountsWrites result (S.faults shelf.old) (S.faults shelf.new) }
     {
@@ -280,23 +282,23 @@ impl Game {
     ) -> Result<(), Fault>
         requires ready { IsReady manifest.now (S.ids shelf.old) self.old.outputs }
         requires feed { CanFeed (S.ids shelf.old) feed.old }
-        requires playing { (run : Run) × IsPlaying S.tells (mode_of schedule) run manifest.now (S.file shelf.old) (S.ids shelf.old) (network_of self.old.world) self.old.counted self.old.outputs None feed.old.programme }
-        requires budget { left (fate_in self.old.world) + letters_in (drop feed.old.programme.taken feed.old.programme.commands.now) < 2 ^ 57 }
+        requires playing { (run : Run) × IsPlaying S.tells (mode_of schedule) run manifest.now (S.file shelf.old) (S.ids shelf.old) self.old.world self.old.counted self.old.outputs None feed.old.programme }
+        requires budget { left self.old.fate + letters_in (drop feed.old.programme.taken feed.old.programme.commands.now) < 2 ^ 57 }
         ensures ready { OnOk result (IsReady manifest.now (S.ids shelf.new) self.new.outputs) }
         ensures few { OnOk result (self.new.counted.tally.relayed + self.new.counted.tally.ignored < 2 ^ 64) }
         ensures counted { OnOk result (AreCountsOf manifest.now self.new.counted.ports) }
         ensures sent { OnOk result (AreCountedAt manifest.now self.new.outputs) }
         ensures told { S.tells → OnOk result ((run : Run)
-            → IsPlaying S.tells (mode_of schedule) run manifest.now (S.file shelf.old) (S.ids shelf.old) (network_of self.old.world) self.old.counted self.old.outputs None feed.old.programme
-            → IsAllTold S.tells (mode_of schedule) run manifest.now (S.file shelf.new) (network_of self.new.world) self.new.counted self.new.outputs) }
+            → IsPlaying S.tells (mode_of schedule) run manifest.now (S.file shelf.old) (S.ids shelf.old) self.old.world self.old.counted self.old.outputs None feed.old.programme
+            → IsAllTold S.tells (mode_of schedule) run manifest.now (S.file shelf.new) self.new.world self.new.counted self.new.outputs) }
         ensures kept { S.tells → OnOk result ((run : Run)
-            → IsPlaying S.tells (mode_of schedule) run manifest.now (S.file shelf.old) (S.ids shelf.old) (network_of self.old.world) self.old.counted self.old.outputs None feed.old.programme
+            → IsPlaying S.tells (mode_of schedule) run manifest.now (S.file shelf.old) (S.ids shelf.old) self.old.world self.old.counted self.old.outputs None feed.old.programme
             → CanBeKept (segments (mode_of schedule) run.input)) }
         ensures cut { S.tells → OnErr result ((run : Run)
-            → IsPlaying S.tells (mode_of schedule) run manifest.now (S.file shelf.old) (S.ids shelf.old) (network_of self.old.world) self.old.counted self.old.outputs None feed.old.programme
+            → IsPlaying S.tells (mode_of schedule) run manifest.now (S.file shelf.old) (S.ids shelf.old) self.old.world self.old.counted self.old.outputs None feed.old.programme
             → IsCutOff (mode_of schedule) run manifest.now (S.file shelf.new)) }
         ensures never { S.tells → IfErr result (λ fault. IsChange fault → (run : Run)
-            → IsPlaying S.tells (mode_of schedule) run manifest.now (S.file shelf.old) (S.ids shelf.old) (network_of self.old.world) self.old.counted self.old.outputs None feed.old.programme → ⊥) }
+            → IsPlaying S.tells (mode_of schedule) run manifest.now (S.file shelf.old) (S.ids shelf.old) self.old.world self.old.counted self.old.outputs None feed.old.programme → ⊥) }
         ensures only { OnlyGoesOn S.tells manifest.now (ids_in feed.old.programme.captures) (S.file shelf.old) (S.file shelf.new) (S.ids shelf.old) (S.ids shelf.new) }
         ensures port { IfErr result (λ fault. (p at : ℕ) → fault ≡ Fault.Changed p at → HasPort p (standings feed.old.programme.captures)) }
         ensures causes { IfErr result IsOfPlay }
@@ -357,17 +359,17 @@ impl Game {
     ) -> Result<String, Fault>
         requires ready { IsReady manifest.now (S.ids shelf.old) self.old.outputs }
         requires feed { CanFeed (S.ids shelf.old) feed.old }
-        requires playing { (run : Run) × IsPlaying S.tells (mode_of schedule) run manifest.now (S.file shelf.old) (S.ids shelf.old) (network_of self.old.world) self.old.counted self.old.outputs None feed.old.programme }
-        requires budget { left (fate_in self.old.world) + letters_in (drop feed.old.programme.taken feed.old.programme.commands.now) < 2 ^ 57 }
+        requires playing { (run : Run) × IsPlaying S.tells (mode_of schedule) run manifest.now (S.file shelf.old) (S.ids shelf.old) self.old.world self.old.counted self.old.outputs None feed.old.programme }
+        requires budget { left self.old.fate + letters_in (drop feed.old.programme.taken feed.old.programme.commands.now) < 2 ^ 57 }
         ensures done { S.tells → IfOk result (λ line. (run : Run) → IsTimely run.input
-            → IsPlaying S.tells (mode_of schedule) run manifest.now (S.file shelf.old) (S.ids shelf.old) (network_of self.old.world) self.old.counted self.old.outputs None feed.old.programme
+            → IsPlaying S.tells (mode_of schedule) run manifest.now (S.file shelf.old) (S.ids shelf.old) self.old.world self.old.counted self.old.outputs None feed.old.programme
             → HasPlayed (mode_of schedule) run.input manifest.now run.before (S.file shelf.new) (string_bytes line)) }
         ensures says { IfOk result (λ line. IsSummary (string_bytes line)) }
         ensures cut { S.tells → OnErr result ((run : Run)
-            → IsPlaying S.tells (mode_of schedule) run manifest.now (S.file shelf.old) (S.ids shelf.old) (network_of self.old.world) self.old.counted self.old.outputs None feed.old.programme
+            → IsPlaying S.tells (mode_of schedule) run manifest.now (S.file shelf.old) (S.ids shelf.old) self.old.world self.old.counted self.old.outputs None feed.old.programme
             → IsCutOff (mode_of schedule) run manifest.now (S.file shelf.new)) }
         ensures never { S.tells → IfErr result (λ fault. IsChange fault → (run : Run)
-            → IsPlaying S.tells (mode_of schedule) run manifest.now (S.file shelf.old) (S.ids shelf.old) (network_of self.old.world) self.old.counted self.old.outputs None feed.old.programme → ⊥) }
+            → IsPlaying S.tells (mode_of schedule) run manifest.now (S.file shelf.old) (S.ids shelf.old) self.old.world self.old.counted self.old.outputs None feed.old.programme → ⊥) }
         ensures only { OnlyGoesOn S.tells manifest.now (ids_in feed.old.programme.captures) (S.file shelf.old) (S.file shelf.new) (S.ids shelf.old) (S.ids shelf.new) }
         ensures port { IfErr result (λ fault. (p at : ℕ) → fault ≡ Fault.Changed p at → HasPort p (standings feed.old.programme.captures)) }
         ensures causes { IfErr result IsOfPlay }
@@ -395,17 +397,17 @@ impl Game {
     ) -> Result<String, Fault>
         requires ready { IsReady manifest.now (S.ids shelf.old) self.old.outputs }
         requires feed { CanFeed (S.ids shelf.old) feed.old }
-        requires opened { (run : Run) × IsOpened S.tells (mode_of schedule) run manifest.now (S.file shelf.old) (S.ids shelf.old) (network_of self.old.world) self.old.counted self.old.outputs feed.old.programme }
-        requires budget { left (fate_in self.old.world) + letters_in (drop feed.old.programme.taken feed.old.programme.commands.now) < 2 ^ 57 }
+        requires opened { (run : Run) × IsOpened S.tells (mode_of schedule) run manifest.now (S.file shelf.old) (S.ids shelf.old) self.old.world self.old.counted self.old.outputs feed.old.programme }
+        requires budget { left self.old.fate + letters_in (drop feed.old.programme.taken feed.old.programme.commands.now) < 2 ^ 57 }
         ensures done { S.tells → IfOk result (λ line. (run : Run)
-            → IsOpened S.tells (mode_of schedule) run manifest.now (S.file shelf.old) (S.ids shelf.old) (network_of self.old.world) self.old.counted self.old.outputs feed.old.programme
+            → IsOpened S.tells (mode_of schedule) run manifest.now (S.file shelf.old) (S.ids shelf.old) self.old.world self.old.counted self.old.outputs feed.old.programme
             → HasPlayed (mode_of schedule) run.input manifest.now run.before (S.file shelf.new) (string_bytes line)) }
         ensures says { IfOk result (λ line. IsSummary (string_bytes line)) }
         ensures cut { S.tells → OnErr result ((run : Run)
-            → IsOpened S.tells (mode_of schedule) run manifest.now (S.file shelf.old) (S.ids shelf.old) (network_of self.old.world) self.old.counted self.old.outputs feed.old.programme
+            → IsOpened S.tells (mode_of schedule) run manifest.now (S.file shelf.old) (S.ids shelf.old) self.old.world self.old.counted self.old.outputs feed.old.programme
             → IsCutOff (mode_of schedule) run manifest.now (S.file shelf.new)) }
         ensures never { S.tells → IfErr result (λ fault. IsChange fault → (run : Run)
-            → IsOpened S.tells (mode_of schedule) run manifest.now (S.file shelf.old) (S.ids shelf.old) (network_of self.old.world) self.old.counted self.old.outputs feed.old.programme → ⊥) }
+            → IsOpened S.tells (mode_of schedule) run manifest.now (S.file shelf.old) (S.ids shelf.old) self.old.world self.old.counted self.old.outputs feed.old.programme → ⊥) }
         ensures only { OnlyGoesOn S.tells manifest.now (ids_in feed.old.programme.captures) (S.file shelf.old) (S.file shelf.new) (S.ids shelf.old) (S.ids shelf.new) }
         ensures port { IfErr result (λ fault. (p at : ℕ) → fault ≡ Fault.Changed p at → HasPort p (standings feed.old.programme.captures)) }
         ensures causes { IfErr result IsOfPlay }
@@ -428,23 +430,24 @@ fn play_world<S: Shelf>(
     manifest: &Manifest,
     schedule: Schedule,
     world: World,
+    fate: Box<dyn Fate>,
     outputs: Outputs,
     counted: Counted,
     feed: &mut Feed<'_>,
 ) -> Result<String, Fault>
     requires ready { IsReady manifest.now (S.ids shelf.old) outputs }
     requires feed { CanFeed (S.ids shelf.old) feed.old }
-    requires opened { (run : Run) × IsOpened S.tells (mode_of schedule) run manifest.now (S.file shelf.old) (S.ids shelf.old) (network_of world) counted outputs feed.old.programme }
-    requires budget { left (fate_in world) + letters_in (drop feed.old.programme.taken feed.old.programme.commands.now) < 2 ^ 57 }
+    requires opened { (run : Run) × IsOpened S.tells (mode_of schedule) run manifest.now (S.file shelf.old) (S.ids shelf.old) world counted outputs feed.old.programme }
+    requires budget { left fate + letters_in (drop feed.old.programme.taken feed.old.programme.commands.now) < 2 ^ 57 }
     ensures done { S.tells → IfOk result (λ line. (run : Run)
-        → IsOpened S.tells (mode_of schedule) run manifest.now (S.file shelf.old) (S.ids shelf.old) (network_of world) counted outputs feed.old.programme
+        → IsOpened S.tells (mode_of schedule) run manifest.now (S.file shelf.old) (S.ids shelf.old) world counted outputs feed.old.programme
         → HasPlayed (mode_of schedule) run.input manifest.now run.before (S.file shelf.new) (string_bytes line)) }
     ensures says { IfOk result (λ line. IsSummary (string_bytes line)) }
     ensures cut { S.tells → OnErr result ((run : Run)
-        → IsOpened S.tells (mode_of schedule) run manifest.now (S.file shelf.old) (S.ids shelf.old) (network_of world) counted outputs feed.old.programme
+        → IsOpened S.tells (mode_of schedule) run manifest.now (S.file shelf.old) (S.ids shelf.old) world counted outputs feed.old.programme
         → IsCutOff (mode_of schedule) run manifest.now (S.file shelf.new)) }
     ensures never { S.tells → IfErr result (λ fault. IsChange fault → (run : Run)
-        → IsOpened S.tells (mode_of schedule) run manifest.now (S.file shelf.old) (S.ids shelf.old) (network_of world) counted outputs feed.old.programme → ⊥) }
+        → IsOpened S.tells (mode_of schedule) run manifest.now (S.file shelf.old) (S.ids shelf.old) world counted outputs feed.old.programme → ⊥) }
     ensures only { OnlyGoesOn S.tells manifest.now (ids_in feed.old.programme.captures) (S.file shelf.old) (S.file shelf.new) (S.ids shelf.old) (S.ids shelf.new) }
     ensures port { IfErr result (λ fault. (p at : ℕ) → fault ≡ Fault.Changed p at → HasPort p (standings feed.old.programme.captures)) }
     ensures causes { IfErr result IsOfPlay }
@@ -452,6 +455,7 @@ fn play_world<S: Shelf>(
 {
     let mut game = Game {
         world,
+        fate,
         outputs,
         counted,
         rng: Lcg64Xsh32::seed_from_u64(seed_of(schedule)),
@@ -502,16 +506,17 @@ pub(crate) fn play_feed<S: Shelf>(
     let Ok(counted) = Counted::new(alloc, script.setup, manifest) else {
         return Err(Fault::Memory);
     };
+    let mut fate = fate;
     let Ok(world) = open(
         alloc,
         script.setup,
-        fate,
+        &mut *fate,
         script.fate,
         manifest.options().trace,
     ) else {
         return Err(Fault::Memory);
     };
     play_world(
-        alloc, shelf, manifest, schedule, world, outputs, counted, feed,
+        alloc, shelf, manifest, schedule, world, fate, outputs, counted, feed,
     )
 }

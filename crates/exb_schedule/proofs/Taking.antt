@@ -43,7 +43,3 @@ module _ (n : ℕ) (way : Way) (place before less : ℕ) (old new : Network) whe
 pub kept : (n : ℕ) (way : Way) (place before less : ℕ) (now : Network) (v : Verdict) → v ≡ verdict.Later → (v ≢ verdict.Pass → less < before) → HasTaken n way place (place + 1) before less now now
 kept n way place before less now v is pays =
     record { verdict = verdict.Later; paid = (let h = pays (subst (λ (x : Verdict). x ≢ verdict.Pass) (sym is) later_pass) in omega (arith, h)); next_is = refl; made = run_nothing now }
-
--- asking changes nothing of the network
-pub as_before : (n : ℕ) (way : Way) (place next before less : ℕ) (mid old new : Network) → mid ≡ old → HasTaken n way place next before less mid new → HasTaken n way place next before less old new
-as_before n way place next before less mid old new e k = subst (λ (x : Network). HasTaken n way place next before less x new) e k

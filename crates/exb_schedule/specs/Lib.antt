@@ -2,7 +2,6 @@ pub mod Moves
 pub mod Reached
 pub mod Rounds
 pub mod Playing
-pub mod Worlds
 pub mod Drawing
 pub mod Segments
 pub mod Laws

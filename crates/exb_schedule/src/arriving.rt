@@ -3,34 +3,34 @@ ghost use Rattle.std.specs.Prelude.{◌≡◌, ◌↔◌, true, OnErr, OnOk};
 ghost use Rattle.exb_schedule.specs.Moves.{HasRun};
 ghost use Rattle.exb_schedule.specs.Playing.{arrive, tick, CanAll};
 
-use crate::motion::Motion;
+use crate::world::World;
 use exb_model::arrival::Arrival;
 use exb_network::{Step, WorldFault};
 
 /// Lets seconds pass, if there are any.
 #[inline(always)]
-pub(crate) fn let_pass(motion: &mut Motion, seconds: u32) -> Result<(), WorldFault>
-    requires { CanAll motion.old (tick seconds) }
-    ensures ok { OnOk result (HasRun (tick seconds) motion.old motion.new) }
-    ensures failed { OnErr result ((result ≡ Err WorldFault.Failed) ↔ (motion.old.failed ≡ true)) }
-    ensures memory { OnErr result (motion.new.failed ≡ true) }
+pub(crate) fn let_pass(world: &mut World, seconds: u32) -> Result<(), WorldFault>
+    requires { CanAll world.old (tick seconds) }
+    ensures ok { OnOk result (HasRun (tick seconds) world.old world.new) }
+    ensures failed { OnErr result ((result ≡ Err WorldFault.Failed) ↔ (world.old.failed ≡ true)) }
+    ensures memory { OnErr result (world.new.failed ≡ true) }
 {
     if seconds == 0 {
         return Ok(());
     }
-    motion.step(&Step::Tick { seconds })
+    world.step(&Step::Tick { seconds })
 }
 
 /// Lets frames arrive, in order.
 #[inline(always)]
-pub(crate) fn let_arrive(motion: &mut Motion, arrivals: &[Arrival]) -> Result<(), WorldFault>
-    requires { CanAll motion.old (arrive arrivals.now) }
-    ensures ok { OnOk result (HasRun (arrive arrivals.now) motion.old motion.new) }
-    ensures failed { OnErr result ((result ≡ Err WorldFault.Failed) ↔ (motion.old.failed ≡ true)) }
-    ensures memory { OnErr result (motion.new.failed ≡ true) }
+pub(crate) fn let_arrive(world: &mut World, arrivals: &[Arrival]) -> Result<(), WorldFault>
+    requires { CanAll world.old (arrive arrivals.now) }
+    ensures ok { OnOk result (HasRun (arrive arrivals.now) world.old world.new) }
+    ensures failed { OnErr result ((result ≡ Err WorldFault.Failed) ↔ (world.old.failed ≡ true)) }
+    ensures memory { OnErr result (world.new.failed ≡ true) }
 {
     for arrival in arrivals {
-        motion.step(&Step::Arrive { arrival })?;
+        world.step(&Step::Arrive { arrival })?;
     }
     Ok(())
 }

@@ -6,7 +6,6 @@ ghost use Rattle.exb_network.specs.Networks.{world_of, tree_of, IsSame};
 ghost use Rattle.exb_schedule.specs.Drawing.{left_of, GoesOn, HasDrawn, IsDrawn, IsReady, Keeps};
 ghost use Rattle.exb_schedule.specs.Playing.{gives, letters_in, CanAll, PlaysOn};
 ghost use Rattle.exb_schedule.specs.Segments.{IsDrawnOut};
-ghost use Rattle.exb_schedule.specs.Worlds.{network_of};
 
 use crate::draws::{Choice, choose};
 use crate::queues::{Queue, next_in, queues_of, take_from};
@@ -14,6 +13,7 @@ use crate::rest::{Rest, can_come, come, command, pass};
 use crate::segment::end;
 use crate::steps::{carry, deliver, lose};
 use crate::world::World;
+use exb_fate::Fate;
 use exb_model::arrival::Arrival;
 use exb_model::memory::NoMemory;
 use exb_model::setup::{Timed, Verdict};
@@ -23,14 +23,13 @@ use rand_pcg::Lcg64Xsh32;
 /// Takes the first data word of a direction.
 fn take_data(world: &mut World, link: u8, way: Way) -> Result<(), WorldFault>
     requires { ⊤ }
-    ensures ok { OnOk result (Keeps (network_of world.old) (network_of world.new)) }
-    ensures failed { result ≡ Err WorldFault.Failed → (network_of world.old).failed ≡ true }
-    ensures fate { left world.new.fate ≡ left world.old.fate }
+    ensures ok { OnOk result (Keeps world.old world.new) }
+    ensures failed { result ≡ Err WorldFault.Failed → world.old.failed ≡ true }
 {
     if !world.can(&carry(link, way)) {
         return Ok(());
     }
-    world.motion.step(&carry(link, way))
+    world.step(&carry(link, way))
 }
 
 /// Delivers a control word, and may keep it.
@@ -42,47 +41,50 @@ fn deliver_at(
     keep: bool,
 ) -> Result<(), WorldFault>
     requires { ⊤ }
-    ensures ok { OnOk result (Keeps (network_of world.old) (network_of world.new)) }
-    ensures failed { result ≡ Err WorldFault.Failed → (network_of world.old).failed ≡ true }
-    ensures fate { left world.new.fate ≡ left world.old.fate }
+    ensures ok { OnOk result (Keeps world.old world.new) }
+    ensures failed { result ≡ Err WorldFault.Failed → world.old.failed ≡ true }
 {
     if !world.can(&deliver(link, way, place, keep)) {
         return Ok(());
     }
-    world.motion.step(&deliver(link, way, place, keep))
+    world.step(&deliver(link, way, place, keep))
 }
 
 /// Loses a control word.
 fn lose_at(world: &mut World, link: u8, way: Way, place: u64) -> Result<(), WorldFault>
     requires { ⊤ }
-    ensures ok { OnOk result (Keeps (network_of world.old) (network_of world.new)) }
-    ensures failed { result ≡ Err WorldFault.Failed → (network_of world.old).failed ≡ true }
-    ensures fate { left world.new.fate ≡ left world.old.fate }
+    ensures ok { OnOk result (Keeps world.old world.new) }
+    ensures failed { result ≡ Err WorldFault.Failed → world.old.failed ≡ true }
 {
     if !world.can(&lose(link, way, place)) {
         return Ok(());
     }
-    world.motion.step(&lose(link, way, place))
+    world.step(&lose(link, way, place))
 }
 
 /// A beat passes.
 fn beat_once(world: &mut World) -> Result<(), WorldFault>
     requires { ⊤ }
-    ensures ok { OnOk result (Keeps (network_of world.old) (network_of world.new)) }
-    ensures failed { result ≡ Err WorldFault.Failed → (network_of world.old).failed ≡ true }
-    ensures fate { left world.new.fate ≡ left world.old.fate }
+    ensures ok { OnOk result (Keeps world.old world.new) }
+    ensures failed { result ≡ Err WorldFault.Failed → world.old.failed ≡ true }
 {
-    world.motion.step(&Step::Beat)
+    world.step(&Step::Beat)
 }
 
 /// Asks the fate of a control word, and does what it says.
-fn ask_fate(world: &mut World, link: u8, way: Way, place: u64) -> Result<(), WorldFault>
+fn ask_fate(
+    world: &mut World,
+    fate: &mut dyn Fate,
+    link: u8,
+    way: Way,
+    place: u64,
+) -> Result<(), WorldFault>
     requires { ⊤ }
-    ensures ok { OnOk result (Keeps (network_of world.old) (network_of world.new)) }
-    ensures failed { result ≡ Err WorldFault.Failed → (network_of world.old).failed ≡ true }
-    ensures fate { left world.new.fate ≤ left world.old.fate }
+    ensures ok { OnOk result (Keeps world.old world.new) }
+    ensures failed { result ≡ Err WorldFault.Failed → world.old.failed ≡ true }
+    ensures fate { left fate.new ≤ left fate.old }
 {
-    match world.fate() {
+    match fate.next() {
         Verdict::Pass => deliver_at(world, link, way, place, false),
         Verdict::Lose => lose_at(world, link, way, place),
         Verdict::Twice => deliver_at(world, link, way, place, true),
@@ -100,10 +102,9 @@ fn come_next(
     arrivals: &[Arrival],
 ) -> Result<(), WorldFault>
     requires whole { length rest.old.given.items ≡ length arrivals.now }
-    ensures ok { (cs : List _) → OnOk result (GoesOn cs arrivals.now rest.old rest.new (network_of world.old) (network_of world.new)) }
+    ensures ok { (cs : List _) → OnOk result (GoesOn cs arrivals.now rest.old rest.new world.old world.new) }
     ensures taken { OnOk result (rest.new.taken ≡ rest.old.taken) }
-    ensures failed { result ≡ Err WorldFault.Failed → (network_of world.old).failed ≡ true }
-    ensures fate { left world.new.fate ≡ left world.old.fate }
+    ensures failed { result ≡ Err WorldFault.Failed → world.old.failed ≡ true }
 {
     let Some(at) = next_in(queues.as_slice(), queue) else {
         return Ok(());
@@ -119,6 +120,7 @@ fn come_next(
 /// Makes what was drawn, where it may be made.
 fn make(
     world: &mut World,
+    fate: &mut dyn Fate,
     rest: &mut Rest,
     queues: &mut Vec<Queue>,
     choice: Choice,
@@ -126,25 +128,25 @@ fn make(
     arrivals: &[Arrival],
 ) -> Result<(), WorldFault>
     requires whole { length rest.old.given.items ≡ length arrivals.now }
-    requires ready { IsReady (network_of world.old) rest.old.seconds (drop rest.old.taken commands.now) (left_of rest.old.given.items arrivals.now) }
-    requires few { left world.old.fate + letters_in (drop rest.old.taken commands.now) < 2 ^ 57 }
-    ensures ok { OnOk result (GoesOn commands.now arrivals.now rest.old rest.new (network_of world.old) (network_of world.new)) }
-    ensures failed { result ≡ Err WorldFault.Failed → (network_of world.old).failed ≡ true }
-    ensures fate { OnOk result (left world.new.fate + letters_in (drop rest.new.taken commands.now) ≤ left world.old.fate + letters_in (drop rest.old.taken commands.now)) }
-    ensures low { left world.new.fate ≤ left world.old.fate + letters_in (drop rest.old.taken commands.now) }
+    requires ready { IsReady world.old rest.old.seconds (drop rest.old.taken commands.now) (left_of rest.old.given.items arrivals.now) }
+    requires few { left fate.old + letters_in (drop rest.old.taken commands.now) < 2 ^ 57 }
+    ensures ok { OnOk result (GoesOn commands.now arrivals.now rest.old rest.new world.old world.new) }
+    ensures failed { result ≡ Err WorldFault.Failed → world.old.failed ≡ true }
+    ensures fate { OnOk result (left fate.new + letters_in (drop rest.new.taken commands.now) ≤ left fate.old + letters_in (drop rest.old.taken commands.now)) }
+    ensures low { left fate.new ≤ left fate.old + letters_in (drop rest.old.taken commands.now) }
 {
     match choice {
         Choice::Tick => pass(world, rest),
         Choice::Command => {
             if rest.taken < commands.len() {
-                command(world, rest, commands)
+                command(world, fate, rest, commands)
             } else {
                 Ok(())
             }
         }
         Choice::Arrival { queue } => come_next(world, rest, queues, queue, commands, arrivals),
         Choice::Data { link, way } => take_data(world, link, way),
-        Choice::Control { link, way, place } => ask_fate(world, link, way, place),
+        Choice::Control { link, way, place } => ask_fate(world, fate, link, way, place),
         Choice::Beat => beat_once(world),
     }
 }
@@ -152,6 +154,7 @@ fn make(
 /// Draws once.
 fn draw(
     world: &mut World,
+    fate: &mut dyn Fate,
     rest: &mut Rest,
     queues: &mut Vec<Queue>,
     rng: &mut Lcg64Xsh32,
@@ -159,33 +162,34 @@ fn draw(
     arrivals: &[Arrival],
 ) -> Result<(), WorldFault>
     requires whole { length rest.old.given.items ≡ length arrivals.now }
-    requires ready { IsReady (network_of world.old) rest.old.seconds (drop rest.old.taken commands.now) (left_of rest.old.given.items arrivals.now) }
-    requires few { left world.old.fate + letters_in (drop rest.old.taken commands.now) < 2 ^ 57 }
-    ensures ok { OnOk result (GoesOn commands.now arrivals.now rest.old rest.new (network_of world.old) (network_of world.new)) }
-    ensures failed { result ≡ Err WorldFault.Failed → (network_of world.old).failed ≡ true }
-    ensures fate { OnOk result (left world.new.fate + letters_in (drop rest.new.taken commands.now) ≤ left world.old.fate + letters_in (drop rest.old.taken commands.now)) }
-    ensures low { left world.new.fate ≤ left world.old.fate + letters_in (drop rest.old.taken commands.now) }
+    requires ready { IsReady world.old rest.old.seconds (drop rest.old.taken commands.now) (left_of rest.old.given.items arrivals.now) }
+    requires few { left fate.old + letters_in (drop rest.old.taken commands.now) < 2 ^ 57 }
+    ensures ok { OnOk result (GoesOn commands.now arrivals.now rest.old rest.new world.old world.new) }
+    ensures failed { result ≡ Err WorldFault.Failed → world.old.failed ≡ true }
+    ensures fate { OnOk result (left fate.new + letters_in (drop rest.new.taken commands.now) ≤ left fate.old + letters_in (drop rest.old.taken commands.now)) }
+    ensures low { left fate.new ≤ left fate.old + letters_in (drop rest.old.taken commands.now) }
 {
     let choice = choose(world, rest, commands.len(), queues.as_slice(), rng);
-    make(world, rest, queues, choice, commands, arrivals)
+    make(world, fate, rest, queues, choice, commands, arrivals)
 }
 
 /// Draws so often: 64 times for each of a segment's commands and arrivals, and 64 times.
 fn draw_all(
     world: &mut World,
+    fate: &mut dyn Fate,
     rest: &mut Rest,
     rng: &mut Lcg64Xsh32,
     commands: &[Timed],
     arrivals: &[Arrival],
 ) -> Result<(), WorldFault>
-    requires drawn { (all : ℕ) × HasDrawn all commands.now arrivals.now rest.old.seconds rest.old.taken rest.old.given.items (network_of world.old) (network_of world.old) }
-    requires few { left world.old.fate + letters_in (drop rest.old.taken commands.now) < 2 ^ 57 }
-    ensures ok { OnOk result ((all : ℕ) → HasDrawn all commands.now arrivals.now rest.old.seconds rest.old.taken rest.old.given.items (network_of world.old) (network_of world.old)
-        → HasDrawn all commands.now arrivals.now rest.new.seconds rest.new.taken rest.new.given.items (network_of world.old) (network_of world.new)) }
-    ensures same { OnOk result ((network_of world.new).failed ≡ (network_of world.old).failed) }
-    ensures failed { result ≡ Err WorldFault.Failed → (network_of world.old).failed ≡ true }
-    ensures fate { OnOk result (left world.new.fate + letters_in (drop rest.new.taken commands.now) ≤ left world.old.fate + letters_in (drop rest.old.taken commands.now)) }
-    ensures low { left world.new.fate ≤ left world.old.fate + letters_in (drop rest.old.taken commands.now) }
+    requires drawn { (all : ℕ) × HasDrawn all commands.now arrivals.now rest.old.seconds rest.old.taken rest.old.given.items world.old world.old }
+    requires few { left fate.old + letters_in (drop rest.old.taken commands.now) < 2 ^ 57 }
+    ensures ok { OnOk result ((all : ℕ) → HasDrawn all commands.now arrivals.now rest.old.seconds rest.old.taken rest.old.given.items world.old world.old
+        → HasDrawn all commands.now arrivals.now rest.new.seconds rest.new.taken rest.new.given.items world.old world.new) }
+    ensures same { OnOk result (world.new.failed ≡ world.old.failed) }
+    ensures failed { result ≡ Err WorldFault.Failed → world.old.failed ≡ true }
+    ensures fate { OnOk result (left fate.new + letters_in (drop rest.new.taken commands.now) ≤ left fate.old + letters_in (drop rest.old.taken commands.now)) }
+    ensures low { left fate.new ≤ left fate.old + letters_in (drop rest.old.taken commands.now) }
 {
     let mut queues = match queues_of(world.alloc, arrivals) {
         Ok(queues) => queues,
@@ -196,7 +200,7 @@ fn draw_all(
         .saturating_add(1);
     let mut draws = count.saturating_mul(64);
     'draws: while draws > 0 {
-        draw(world, rest, &mut queues, rng, commands, arrivals)?;
+        draw(world, fate, rest, &mut queues, rng, commands, arrivals)?;
         draws -= 1;
     }
     Ok(())
@@ -205,23 +209,24 @@ fn draw_all(
 /// Gives the commands that are left, in order.
 fn give_commands(
     world: &mut World,
+    fate: &mut dyn Fate,
     rest: &mut Rest,
     commands: &[Timed],
     arrivals: &[Arrival],
 ) -> Result<(), WorldFault>
-    requires drawn { (all : ℕ) × (old : _) × HasDrawn all commands.now arrivals.now rest.old.seconds rest.old.taken rest.old.given.items old (network_of world.old) }
-    requires few { left world.old.fate + letters_in (drop rest.old.taken commands.now) < 2 ^ 57 }
-    ensures ok { OnOk result (GoesOn commands.now arrivals.now rest.old rest.new (network_of world.old) (network_of world.new)) }
+    requires drawn { (all : ℕ) × (old : _) × HasDrawn all commands.now arrivals.now rest.old.seconds rest.old.taken rest.old.given.items old world.old }
+    requires few { left fate.old + letters_in (drop rest.old.taken commands.now) < 2 ^ 57 }
+    ensures ok { OnOk result (GoesOn commands.now arrivals.now rest.old rest.new world.old world.new) }
     ensures all { OnOk result (length commands.now ≤ rest.new.taken) }
     ensures seconds { OnOk result (rest.new.seconds ≡ rest.old.seconds) }
-    ensures same { OnOk result ((network_of world.new).failed ≡ (network_of world.old).failed) }
-    ensures failed { result ≡ Err WorldFault.Failed → (network_of world.old).failed ≡ true }
-    ensures fate { left world.new.fate ≤ left world.old.fate + letters_in (drop rest.old.taken commands.now) }
+    ensures same { OnOk result (world.new.failed ≡ world.old.failed) }
+    ensures failed { result ≡ Err WorldFault.Failed → world.old.failed ≡ true }
+    ensures fate { left fate.new ≤ left fate.old + letters_in (drop rest.old.taken commands.now) }
 {
     // the clauses alone speak of them
     let _ = arrivals;
     'commands: while rest.taken < commands.len() {
-        command(world, rest, commands)?;
+        command(world, fate, rest, commands)?;
     }
     Ok(())
 }
@@ -233,13 +238,12 @@ fn give_arrivals(
     commands: &[Timed],
     arrivals: &[Arrival],
 ) -> Result<(), WorldFault>
-    requires drawn { (all : ℕ) × (old : _) × HasDrawn all commands.now arrivals.now rest.old.seconds rest.old.taken rest.old.given.items old (network_of world.old) }
-    ensures ok { OnOk result (GoesOn commands.now arrivals.now rest.old rest.new (network_of world.old) (network_of world.new)) }
+    requires drawn { (all : ℕ) × (old : _) × HasDrawn all commands.now arrivals.now rest.old.seconds rest.old.taken rest.old.given.items old world.old }
+    ensures ok { OnOk result (GoesOn commands.now arrivals.now rest.old rest.new world.old world.new) }
     ensures all { OnOk result ((at : ℕ) → at < length arrivals.now → slice_index_or rest.new.given.items at true ≡ true) }
     ensures seconds { OnOk result (rest.new.seconds ≡ rest.old.seconds) }
     ensures taken { OnOk result (rest.new.taken ≡ rest.old.taken) }
-    ensures failed { result ≡ Err WorldFault.Failed → (network_of world.old).failed ≡ true }
-    ensures fate { left world.new.fate ≡ left world.old.fate }
+    ensures failed { result ≡ Err WorldFault.Failed → world.old.failed ≡ true }
 {
     // the clauses alone speak of them
     let _ = commands;
@@ -252,64 +256,67 @@ fn give_arrivals(
 /// Gives what is left of a segment: in an order that is drawn, and what is left after so many draws in order.
 fn give_rest(
     world: &mut World,
+    fate: &mut dyn Fate,
     rest: &mut Rest,
     rng: &mut Lcg64Xsh32,
     seconds: u32,
     commands: &[Timed],
     arrivals: &[Arrival],
 ) -> Result<(), WorldFault>
-    requires drawn { HasDrawn seconds commands.now arrivals.now rest.old.seconds rest.old.taken rest.old.given.items (network_of world.old) (network_of world.old) }
-    requires few { left world.old.fate + letters_in (drop rest.old.taken commands.now) < 2 ^ 57 }
-    ensures ok { OnOk result (IsDrawn seconds commands.now arrivals.now (network_of world.old) (network_of world.new)) }
-    ensures failed { result ≡ Err WorldFault.Failed → (network_of world.old).failed ≡ true }
-    ensures fate { left world.new.fate ≤ left world.old.fate + letters_in (drop rest.old.taken commands.now) }
+    requires drawn { HasDrawn seconds commands.now arrivals.now rest.old.seconds rest.old.taken rest.old.given.items world.old world.old }
+    requires few { left fate.old + letters_in (drop rest.old.taken commands.now) < 2 ^ 57 }
+    ensures ok { OnOk result (IsDrawn seconds commands.now arrivals.now world.old world.new) }
+    ensures failed { result ≡ Err WorldFault.Failed → world.old.failed ≡ true }
+    ensures fate { left fate.new ≤ left fate.old + letters_in (drop rest.old.taken commands.now) }
 {
     // how many there were at first: the clauses alone speak of that
     let _ = seconds;
-    draw_all(world, rest, rng, commands, arrivals)?;
+    draw_all(world, fate, rest, rng, commands, arrivals)?;
     pass(world, rest)?;
-    give_commands(world, rest, commands, arrivals)?;
+    give_commands(world, fate, rest, commands, arrivals)?;
     give_arrivals(world, rest, commands, arrivals)
 }
 
 /// Gives a segment so.
 fn give_drawn(
     world: &mut World,
+    fate: &mut dyn Fate,
     rng: &mut Lcg64Xsh32,
     seconds: u32,
     commands: &[Timed],
     arrivals: &[Arrival],
 ) -> Result<(), WorldFault>
-    requires can { CanAll (network_of world.old) (gives seconds commands.now arrivals.now) }
-    requires few { left world.old.fate + letters_in commands.now < 2 ^ 57 }
-    ensures ok { OnOk result (IsDrawn seconds commands.now arrivals.now (network_of world.old) (network_of world.new)) }
-    ensures failed { result ≡ Err WorldFault.Failed → (network_of world.old).failed ≡ true }
-    ensures fate { left world.new.fate ≤ left world.old.fate + letters_in commands.now }
+    requires can { CanAll world.old (gives seconds commands.now arrivals.now) }
+    requires few { left fate.old + letters_in commands.now < 2 ^ 57 }
+    ensures ok { OnOk result (IsDrawn seconds commands.now arrivals.now world.old world.new) }
+    ensures failed { result ≡ Err WorldFault.Failed → world.old.failed ≡ true }
+    ensures fate { left fate.new ≤ left fate.old + letters_in commands.now }
 {
     let Ok(mut rest) = Rest::new(world.alloc, seconds, arrivals.len()) else {
         return Err(WorldFault::Memory);
     };
-    give_rest(world, &mut rest, rng, seconds, commands, arrivals)
+    give_rest(world, fate, &mut rest, rng, seconds, commands, arrivals)
 }
 
 /// Gives a segment so, settles and marks.
 fn play_drawn(
     world: &mut World,
+    fate: &mut dyn Fate,
     rng: &mut Lcg64Xsh32,
     seconds: u32,
     commands: &[Timed],
     arrivals: &[Arrival],
 ) -> Result<(), WorldFault>
-    requires can { CanAll (network_of world.old) (gives seconds commands.now arrivals.now) }
-    requires few { left world.old.fate + letters_in commands.now < 2 ^ 57 }
-    ensures settled { OnOk result (IsSettled (tree_of (network_of world.new)) (world_of (network_of world.new))) }
-    ensures segment { OnOk result (IsDrawnOut seconds commands.now arrivals.now (network_of world.old) (network_of world.new)) }
-    ensures plays { OnOk result (PlaysOn Seeded seconds commands.now arrivals.now (network_of world.old) (network_of world.new)) }
-    ensures same { OnOk result (IsSame (network_of world.old) (network_of world.new)) }
-    ensures fate { left world.new.fate ≤ left world.old.fate + letters_in commands.now }
+    requires can { CanAll world.old (gives seconds commands.now arrivals.now) }
+    requires few { left fate.old + letters_in commands.now < 2 ^ 57 }
+    ensures settled { OnOk result (IsSettled (tree_of world.new) (world_of world.new)) }
+    ensures segment { OnOk result (IsDrawnOut seconds commands.now arrivals.now world.old world.new) }
+    ensures plays { OnOk result (PlaysOn Seeded seconds commands.now arrivals.now world.old world.new) }
+    ensures same { OnOk result (IsSame world.old world.new) }
+    ensures fate { left fate.new ≤ left fate.old + letters_in commands.now }
 {
-    give_drawn(world, rng, seconds, commands, arrivals)?;
-    end(world)
+    give_drawn(world, fate, rng, seconds, commands, arrivals)?;
+    end(world, fate)
 }
 
 /// Plays a segment of a seeded run: one draw after another says what comes next, of the segment, of the words on the links, or a beat;
@@ -318,28 +325,29 @@ fn play_drawn(
 #[inline(never)]
 pub fn seeded(
     world: &mut World,
+    fate: &mut dyn Fate,
     rng: &mut Lcg64Xsh32,
     seconds: u32,
     commands: &[Timed],
     arrivals: &[Arrival],
 ) -> Result<(), WorldFault>
-    requires can { CanAll (network_of world.old) (gives seconds commands.now arrivals.now) }
-    requires few { left world.old.fate + letters_in commands.now < 2 ^ 57 }
-    ensures settled { OnOk result (IsSettled (tree_of (network_of world.new)) (world_of (network_of world.new))) }
-    ensures segment { OnOk result (IsDrawnOut seconds commands.now arrivals.now (network_of world.old) (network_of world.new)) }
-    ensures plays { OnOk result (PlaysOn Seeded seconds commands.now arrivals.now (network_of world.old) (network_of world.new)) }
-    ensures same { OnOk result (IsSame (network_of world.old) (network_of world.new)) }
-    ensures failed { (result ≡ Err WorldFault.Failed) ↔ ((network_of world.old).failed ≡ true) }
-    ensures memory { OnErr result ((network_of world.new).failed ≡ true) }
-    ensures fate { left world.new.fate ≤ left world.old.fate + letters_in commands.now }
+    requires can { CanAll world.old (gives seconds commands.now arrivals.now) }
+    requires few { left fate.old + letters_in commands.now < 2 ^ 57 }
+    ensures settled { OnOk result (IsSettled (tree_of world.new) (world_of world.new)) }
+    ensures segment { OnOk result (IsDrawnOut seconds commands.now arrivals.now world.old world.new) }
+    ensures plays { OnOk result (PlaysOn Seeded seconds commands.now arrivals.now world.old world.new) }
+    ensures same { OnOk result (IsSame world.old world.new) }
+    ensures failed { (result ≡ Err WorldFault.Failed) ↔ (world.old.failed ≡ true) }
+    ensures memory { OnErr result (world.new.failed ≡ true) }
+    ensures fate { left fate.new ≤ left fate.old + letters_in commands.now }
 {
-    if world.motion.network().has_failed() {
+    if world.network().has_failed() {
         return Err(WorldFault::Failed);
     }
-    match play_drawn(world, rng, seconds, commands, arrivals) {
+    match play_drawn(world, fate, rng, seconds, commands, arrivals) {
         Ok(()) => Ok(()),
         Err(_) => {
-            world.motion.fail();
+            world.fail();
             Err(WorldFault::Memory)
         }
     }

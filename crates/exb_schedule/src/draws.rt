@@ -2,7 +2,6 @@
 ghost use Rattle.std.specs.Prelude.{◌≡◌, true};
 ghost use Rattle.exb_model.specs.Tree.{is_extender};
 ghost use Rattle.exb_network.specs.Networks.{tree_of};
-ghost use Rattle.exb_schedule.specs.Worlds.{network_of};
 
 use crate::queues::{Queue, next_in};
 use crate::rest::Rest;
@@ -66,7 +65,7 @@ fn offer_given(offers: &mut Offers, rest: &Rest, commands: usize, queues: &[Queu
 
 /// The words of a direction: the first data word, and each control word that is free.
 fn offer_words(offers: &mut Offers, world: &World, link: u8, way: Way)
-    requires { is_extender (tree_of (network_of world.now)) link ≡ true }
+    requires { is_extender (tree_of world.now) link ≡ true }
 {
     let counts = world.counts(link, way);
     if counts.frames > 0 {

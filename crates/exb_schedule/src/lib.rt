@@ -12,7 +12,6 @@ mod drawn;
 mod draws;
 mod facts;
 pub mod laws;
-mod motion;
 mod queues;
 mod remaining;
 mod rest;

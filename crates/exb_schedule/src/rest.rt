@@ -5,10 +5,10 @@ ghost use Rattle.exb_machine.specs.Worlds.{Arrive, Order, Tick};
 ghost use Rattle.exb_network.specs.Networks.{step_of, tree_of, world_of};
 ghost use Rattle.exb_schedule.specs.Drawing.{GoesOn};
 ghost use Rattle.exb_schedule.specs.Playing.{letters_in};
-ghost use Rattle.exb_schedule.specs.Worlds.{network_of};
 
 use crate::segment::give_one;
 use crate::world::World;
+use exb_fate::Fate;
 use exb_model::arrival::Arrival;
 use exb_model::memory::NoMemory;
 use exb_model::setup::Timed;
@@ -48,7 +48,7 @@ pub(crate) fn arrive<'a>(arrival: &'a Arrival) -> Step<'a>
 /// Whether an arrival may come now, where memory hasn't run out.
 pub(crate) fn can_come(world: &World, commands: &[Timed], arrivals: &[Arrival], at: usize) -> bool
     requires { at < length arrivals.now }
-    ensures { result ≡ true → (a : _) → a ≡ slice_index_or arrivals.now at a → Can (tree_of (network_of world.now)) (world_of (network_of world.now)) (Arrive a) }
+    ensures { result ≡ true → (a : _) → a ≡ slice_index_or arrivals.now at a → Can (tree_of world.now) (world_of world.now) (Arrive a) }
 {
     // a step may hold a command: a parameter of that type is asked for where a step is made
     let _ = commands;
@@ -57,19 +57,18 @@ pub(crate) fn can_come(world: &World, commands: &[Timed], arrivals: &[Arrival], 
 
 /// Lets the seconds pass, if any are left.
 pub(crate) fn pass(world: &mut World, rest: &mut Rest) -> Result<(), WorldFault>
-    requires can { rest.old.seconds ≢ 0 → Can (tree_of (network_of world.old)) (world_of (network_of world.old)) (Tick rest.old.seconds) }
-    ensures ok { (cs : List _) (frames : List _) → OnOk result (GoesOn cs frames rest.old rest.new (network_of world.old) (network_of world.new)) }
+    requires can { rest.old.seconds ≢ 0 → Can (tree_of world.old) (world_of world.old) (Tick rest.old.seconds) }
+    ensures ok { (cs : List _) (frames : List _) → OnOk result (GoesOn cs frames rest.old rest.new world.old world.new) }
     ensures seconds { OnOk result (rest.new.seconds ≡ 0) }
     ensures taken { rest.new.taken ≡ rest.old.taken }
     ensures given { rest.new.given ≡ rest.old.given }
-    ensures same { OnOk result ((network_of world.new).failed ≡ (network_of world.old).failed) }
-    ensures failed { result ≡ Err WorldFault.Failed → (network_of world.old).failed ≡ true }
-    ensures fate { left world.new.fate ≡ left world.old.fate }
+    ensures same { OnOk result (world.new.failed ≡ world.old.failed) }
+    ensures failed { result ≡ Err WorldFault.Failed → world.old.failed ≡ true }
 {
     if rest.seconds == 0 {
         return Ok(());
     }
-    world.motion.step(&Step::Tick {
+    world.step(&Step::Tick {
         seconds: rest.seconds,
     })?;
     rest.seconds = 0;
@@ -79,20 +78,21 @@ pub(crate) fn pass(world: &mut World, rest: &mut Rest) -> Result<(), WorldFault>
 /// Gives the next command.
 pub(crate) fn command(
     world: &mut World,
+    fate: &mut dyn Fate,
     rest: &mut Rest,
     commands: &[Timed],
 ) -> Result<(), WorldFault>
     requires some { rest.old.taken < length commands.now }
-    requires can { (c : _) → c ≡ slice_index_or commands.now rest.old.taken c → Can (tree_of (network_of world.old)) (world_of (network_of world.old)) (Order c.command) }
-    requires few { left world.old.fate + letters_in (drop rest.old.taken commands.now) < 2 ^ 57 }
-    ensures ok { (frames : List _) → OnOk result (GoesOn commands.now frames rest.old rest.new (network_of world.old) (network_of world.new)) }
+    requires can { (c : _) → c ≡ slice_index_or commands.now rest.old.taken c → Can (tree_of world.old) (world_of world.old) (Order c.command) }
+    requires few { left fate.old + letters_in (drop rest.old.taken commands.now) < 2 ^ 57 }
+    ensures ok { (frames : List _) → OnOk result (GoesOn commands.now frames rest.old rest.new world.old world.new) }
     ensures seconds { rest.new.seconds ≡ rest.old.seconds }
     ensures taken { OnOk result (rest.new.taken ≡ rest.old.taken + 1) }
     ensures given { rest.new.given ≡ rest.old.given }
-    ensures failed { result ≡ Err WorldFault.Failed → (network_of world.old).failed ≡ true }
-    ensures fate { left world.new.fate + letters_in (drop (rest.old.taken + 1) commands.now) ≤ left world.old.fate + letters_in (drop rest.old.taken commands.now) }
+    ensures failed { result ≡ Err WorldFault.Failed → world.old.failed ≡ true }
+    ensures fate { left fate.new + letters_in (drop (rest.old.taken + 1) commands.now) ≤ left fate.old + letters_in (drop rest.old.taken commands.now) }
 {
-    give_one(world, &commands[rest.taken])?;
+    give_one(world, fate, &commands[rest.taken])?;
     rest.taken += 1;
     Ok(())
 }
@@ -106,19 +106,18 @@ pub(crate) fn come(
 ) -> Result<(), WorldFault>
     requires there { at < length arrivals.now }
     requires whole { length rest.old.given.items ≡ length arrivals.now }
-    requires can { slice_index_or rest.old.given.items at true ≡ false → (a : _) → a ≡ slice_index_or arrivals.now at a → Can (tree_of (network_of world.old)) (world_of (network_of world.old)) (Arrive a) }
-    ensures ok { (cs : List _) → OnOk result (GoesOn cs arrivals.now rest.old rest.new (network_of world.old) (network_of world.new)) }
+    requires can { slice_index_or rest.old.given.items at true ≡ false → (a : _) → a ≡ slice_index_or arrivals.now at a → Can (tree_of world.old) (world_of world.old) (Arrive a) }
+    ensures ok { (cs : List _) → OnOk result (GoesOn cs arrivals.now rest.old rest.new world.old world.new) }
     ensures seconds { rest.new.seconds ≡ rest.old.seconds }
     ensures taken { rest.new.taken ≡ rest.old.taken }
     ensures given { OnOk result ((i : ℕ) → slice_index_or rest.old.given.items i true ≡ true → slice_index_or rest.new.given.items i true ≡ true) }
     ensures here { OnOk result (slice_index_or rest.new.given.items at true ≡ true) }
-    ensures failed { result ≡ Err WorldFault.Failed → (network_of world.old).failed ≡ true }
-    ensures fate { left world.new.fate ≡ left world.old.fate }
+    ensures failed { result ≡ Err WorldFault.Failed → world.old.failed ≡ true }
 {
     if rest.given[at] {
         return Ok(());
     }
-    world.motion.step(&arrive(&arrivals[at]))?;
+    world.step(&arrive(&arrivals[at]))?;
     rest.given[at] = true;
     Ok(())
 }

@@ -10,10 +10,8 @@ ghost use Rattle.exb_motion.specs.Runs.Settles.{MayTake};
 ghost use Rattle.exb_schedule.specs.Moves.{HasEnded, HasRun};
 ghost use Rattle.exb_schedule.specs.Playing.{gives, letters_in, orders, CanAll, HasPlayed, PlaysOn};
 ghost use Rattle.exb_schedule.specs.Segments.{IsPlayedOut};
-ghost use Rattle.exb_schedule.specs.Worlds.{network_of};
 
 use crate::arriving::{let_arrive, let_pass};
-use crate::motion::Motion;
 use crate::settling::settle;
 use crate::world::World;
 use exb_fate::Fate;
@@ -25,39 +23,39 @@ use std::alloc::Global;
 
 /// Marks what is settled.
 #[inline(always)]
-fn set_mark(motion: &mut Motion) -> Result<(), WorldFault>
-    requires { IsSettled (tree_of motion.old) (world_of motion.old) }
-    ensures ok { OnOk result (IsStepped Mark motion.old motion.new) }
-    ensures may { OnOk result (MayTake (tree_of motion.old) (world_of motion.old) Mark) }
-    ensures failed { (result ≡ Err WorldFault.Failed) ↔ (motion.old.failed ≡ true) }
-    ensures memory { OnErr result (motion.new.failed ≡ true) }
+fn set_mark(world: &mut World) -> Result<(), WorldFault>
+    requires { IsSettled (tree_of world.old) (world_of world.old) }
+    ensures ok { OnOk result (IsStepped Mark world.old world.new) }
+    ensures may { OnOk result (MayTake (tree_of world.old) (world_of world.old) Mark) }
+    ensures failed { (result ≡ Err WorldFault.Failed) ↔ (world.old.failed ≡ true) }
+    ensures memory { OnErr result (world.new.failed ≡ true) }
 {
-    motion.step(&Step::Mark)
+    world.step(&Step::Mark)
 }
 
 /// Settles and marks.
 #[inline(always)]
-pub(crate) fn end(world: &mut World) -> Result<(), WorldFault>
-    requires few { left world.old.fate < 2 ^ 57 }
-    ensures ok { OnOk result (HasEnded (network_of world.old) (network_of world.new)) }
-    ensures settled { OnOk result (IsSettled (tree_of (network_of world.new)) (world_of (network_of world.new))) }
-    ensures failed { (result ≡ Err WorldFault.Failed) ↔ ((network_of world.old).failed ≡ true) }
-    ensures memory { OnErr result ((network_of world.new).failed ≡ true) }
-    ensures fate { left world.new.fate ≤ left world.old.fate }
+pub(crate) fn end(world: &mut World, fate: &mut dyn Fate) -> Result<(), WorldFault>
+    requires few { left fate.old < 2 ^ 57 }
+    ensures ok { OnOk result (HasEnded world.old world.new) }
+    ensures settled { OnOk result (IsSettled (tree_of world.new) (world_of world.new)) }
+    ensures failed { (result ≡ Err WorldFault.Failed) ↔ (world.old.failed ≡ true) }
+    ensures memory { OnErr result (world.new.failed ≡ true) }
+    ensures fate { left fate.new ≤ left fate.old }
 {
-    settle(world)?;
-    set_mark(&mut world.motion)
+    settle(world, fate)?;
+    set_mark(world)
 }
 
 /// Arms the fate, settles and marks.
-fn open_armed(world: &mut World, plan: &[Verdict]) -> Result<(), NoMemory>
-    requires few { left world.old.fate + length plan.now < 2 ^ 57 }
-    ensures ended { OnOk result (HasEnded (network_of world.old) (network_of world.new)) }
-    ensures settled { OnOk result (IsSettled (tree_of (network_of world.new)) (world_of (network_of world.new))) }
-    ensures fate { OnOk result (left world.new.fate ≤ left world.old.fate + length plan.now) }
+fn open_armed(world: &mut World, fate: &mut dyn Fate, plan: &[Verdict]) -> Result<(), NoMemory>
+    requires few { left fate.old + length plan.now < 2 ^ 57 }
+    ensures ended { OnOk result (HasEnded world.old world.new) }
+    ensures settled { OnOk result (IsSettled (tree_of world.new) (world_of world.new)) }
+    ensures fate { OnOk result (left fate.new ≤ left fate.old + length plan.now) }
 {
-    world.arm(plan)?;
-    match end(world) {
+    fate.arm(plan)?;
+    match end(world, fate) {
         Ok(()) => Ok(()),
         Err(_) => Err(NoMemory),
     }
@@ -68,23 +66,23 @@ fn open_armed(world: &mut World, plan: &[Verdict]) -> Result<(), NoMemory>
 pub fn open(
     alloc: Global,
     setup: &Setup,
-    fate: Box<dyn Fate>,
+    fate: &mut dyn Fate,
     plan: &[Verdict],
     trace: bool,
 ) -> Result<World, NoMemory>
     requires valid { IsValid setup.now }
-    requires few { left fate + length plan.now < 2 ^ 57 }
+    requires few { left fate.old + length plan.now < 2 ^ 57 }
     ensures plays { IfOk result (λ world. (m : Mode) (i : Input) → i.setup ≡ setup.now
-        → HasPlayed m i [] (network_of world) (network_of world).log.events (network_of world).log.passed (all_left (network_of world).log.left) (network_of world).log.lines) }
-    ensures settled { IfOk result (λ world. IsSettled (tree_of (network_of world)) (world_of (network_of world))) }
-    ensures tree { IfOk result (λ world. tree_of (network_of world) ≡ shape_of setup.now) }
-    ensures limits { IfOk result (λ world. bounds_of (network_of world) ≡ limits_of setup.now) }
-    ensures awake { IfOk result (λ world. (network_of world).failed ≡ false) }
-    ensures tracing { IfOk result (λ world. (network_of world).log.tracing ≡ trace) }
-    ensures fate { IfOk result (λ world. left world.fate ≤ left fate + length plan.now) }
+        → HasPlayed m i [] world world.log.events world.log.passed (all_left world.log.left) world.log.lines) }
+    ensures settled { IfOk result (λ world. IsSettled (tree_of world) (world_of world)) }
+    ensures tree { IfOk result (λ world. tree_of world ≡ shape_of setup.now) }
+    ensures limits { IfOk result (λ world. bounds_of world ≡ limits_of setup.now) }
+    ensures awake { IfOk result (λ world. world.failed ≡ false) }
+    ensures tracing { IfOk result (λ world. world.log.tracing ≡ trace) }
+    ensures fate { OnOk result (left fate.new ≤ left fate.old + length plan.now) }
 {
-    let mut world = World::new(alloc, setup, fate, trace)?;
-    match open_armed(&mut world, plan) {
+    let mut world = World::new(alloc, setup, trace)?;
+    match open_armed(&mut world, fate, plan) {
         Ok(()) => Ok(world),
         Err(_) => {
             // By a call, since a block's end is far longer to prove where it lets a world go.
@@ -97,16 +95,20 @@ pub fn open(
 /// Gives a command. What is planned for it the fate is armed with just before.
 #[cold]
 #[inline(never)]
-pub(crate) fn give_one(world: &mut World, command: &Timed) -> Result<(), WorldFault>
-    requires can { Can (tree_of (network_of world.old)) (world_of (network_of world.old)) (Order command.now.command) }
-    requires few { left world.old.fate + length command.now.fate < 2 ^ 57 }
-    ensures ok { OnOk result (IsStepped (Order command.now.command) (network_of world.old) (network_of world.new)) }
-    ensures may { OnOk result (MayTake (tree_of (network_of world.old)) (world_of (network_of world.old)) (Order command.now.command)) }
-    ensures failed { result ≡ Err WorldFault.Failed → (network_of world.old).failed ≡ true }
-    ensures fate { left world.new.fate ≤ left world.old.fate + length command.now.fate }
+pub(crate) fn give_one(
+    world: &mut World,
+    fate: &mut dyn Fate,
+    command: &Timed,
+) -> Result<(), WorldFault>
+    requires can { Can (tree_of world.old) (world_of world.old) (Order command.now.command) }
+    requires few { left fate.old + length command.now.fate < 2 ^ 57 }
+    ensures ok { OnOk result (IsStepped (Order command.now.command) world.old world.new) }
+    ensures may { OnOk result (MayTake (tree_of world.old) (world_of world.old) (Order command.now.command)) }
+    ensures failed { result ≡ Err WorldFault.Failed → world.old.failed ≡ true }
+    ensures fate { left fate.new ≤ left fate.old + length command.now.fate }
 {
-    match world.arm(command.fate.as_slice()) {
-        Ok(()) => world.motion.step(&Step::Command {
+    match fate.arm(command.fate.as_slice()) {
+        Ok(()) => world.step(&Step::Command {
             command: &command.command,
         }),
         Err(_) => Err(WorldFault::Memory),
@@ -115,15 +117,15 @@ pub(crate) fn give_one(world: &mut World, command: &Timed) -> Result<(), WorldFa
 
 /// Gives commands, in order.
 #[inline(always)]
-fn give(world: &mut World, commands: &[Timed]) -> Result<(), WorldFault>
-    requires can { CanAll (network_of world.old) (orders commands.now) }
-    requires few { left world.old.fate + letters_in commands.now < 2 ^ 57 }
-    ensures ok { OnOk result (HasRun (orders commands.now) (network_of world.old) (network_of world.new)) }
-    ensures failed { result ≡ Err WorldFault.Failed → (network_of world.old).failed ≡ true }
-    ensures fate { left world.new.fate ≤ left world.old.fate + letters_in commands.now }
+fn give(world: &mut World, fate: &mut dyn Fate, commands: &[Timed]) -> Result<(), WorldFault>
+    requires can { CanAll world.old (orders commands.now) }
+    requires few { left fate.old + letters_in commands.now < 2 ^ 57 }
+    ensures ok { OnOk result (HasRun (orders commands.now) world.old world.new) }
+    ensures failed { result ≡ Err WorldFault.Failed → world.old.failed ≡ true }
+    ensures fate { left fate.new ≤ left fate.old + letters_in commands.now }
 {
     for command in commands {
-        give_one(world, command)?;
+        give_one(world, fate, command)?;
     }
     Ok(())
 }
@@ -133,66 +135,69 @@ fn give(world: &mut World, commands: &[Timed]) -> Result<(), WorldFault>
 #[inline(always)]
 fn give_all(
     world: &mut World,
+    fate: &mut dyn Fate,
     seconds: u32,
     commands: &[Timed],
     arrivals: &[Arrival],
 ) -> Result<(), WorldFault>
-    requires can { CanAll (network_of world.old) (gives seconds commands.now arrivals.now) }
-    requires few { left world.old.fate + letters_in commands.now < 2 ^ 57 }
-    ensures ok { OnOk result (HasRun (gives seconds commands.now arrivals.now) (network_of world.old) (network_of world.new)) }
-    ensures failed { result ≡ Err WorldFault.Failed → (network_of world.old).failed ≡ true }
-    ensures fate { left world.new.fate ≤ left world.old.fate + letters_in commands.now }
+    requires can { CanAll world.old (gives seconds commands.now arrivals.now) }
+    requires few { left fate.old + letters_in commands.now < 2 ^ 57 }
+    ensures ok { OnOk result (HasRun (gives seconds commands.now arrivals.now) world.old world.new) }
+    ensures failed { result ≡ Err WorldFault.Failed → world.old.failed ≡ true }
+    ensures fate { left fate.new ≤ left fate.old + letters_in commands.now }
 {
-    let_pass(&mut world.motion, seconds)?;
-    give(world, commands)?;
-    let_arrive(&mut world.motion, arrivals)
+    let_pass(world, seconds)?;
+    give(world, fate, commands)?;
+    let_arrive(world, arrivals)
 }
 
 /// Gives a segment in order, settles and marks.
 #[inline(always)]
 fn play_in_order(
     world: &mut World,
+    fate: &mut dyn Fate,
     seconds: u32,
     commands: &[Timed],
     arrivals: &[Arrival],
 ) -> Result<(), WorldFault>
-    requires can { CanAll (network_of world.old) (gives seconds commands.now arrivals.now) }
-    requires few { left world.old.fate + letters_in commands.now < 2 ^ 57 }
-    ensures settled { OnOk result (IsSettled (tree_of (network_of world.new)) (world_of (network_of world.new))) }
-    ensures segment { OnOk result (IsPlayedOut (gives seconds commands.now arrivals.now) (network_of world.old) (network_of world.new)) }
-    ensures plays { OnOk result (PlaysOn Eager seconds commands.now arrivals.now (network_of world.old) (network_of world.new)) }
-    ensures same { OnOk result (IsSame (network_of world.old) (network_of world.new)) }
-    ensures fate { left world.new.fate ≤ left world.old.fate + letters_in commands.now }
+    requires can { CanAll world.old (gives seconds commands.now arrivals.now) }
+    requires few { left fate.old + letters_in commands.now < 2 ^ 57 }
+    ensures settled { OnOk result (IsSettled (tree_of world.new) (world_of world.new)) }
+    ensures segment { OnOk result (IsPlayedOut (gives seconds commands.now arrivals.now) world.old world.new) }
+    ensures plays { OnOk result (PlaysOn Eager seconds commands.now arrivals.now world.old world.new) }
+    ensures same { OnOk result (IsSame world.old world.new) }
+    ensures fate { left fate.new ≤ left fate.old + letters_in commands.now }
 {
-    give_all(world, seconds, commands, arrivals)?;
-    end(world)
+    give_all(world, fate, seconds, commands, arrivals)?;
+    end(world, fate)
 }
 
 /// Plays a segment of the eager run: it is given in order, all is settled and marked. A world in which memory runs out has failed.
 #[inline(always)]
 pub fn eager(
     world: &mut World,
+    fate: &mut dyn Fate,
     seconds: u32,
     commands: &[Timed],
     arrivals: &[Arrival],
 ) -> Result<(), WorldFault>
-    requires can { CanAll (network_of world.old) (gives seconds commands.now arrivals.now) }
-    requires few { left world.old.fate + letters_in commands.now < 2 ^ 57 }
-    ensures settled { OnOk result (IsSettled (tree_of (network_of world.new)) (world_of (network_of world.new))) }
-    ensures segment { OnOk result (IsPlayedOut (gives seconds commands.now arrivals.now) (network_of world.old) (network_of world.new)) }
-    ensures plays { OnOk result (PlaysOn Eager seconds commands.now arrivals.now (network_of world.old) (network_of world.new)) }
-    ensures same { OnOk result (IsSame (network_of world.old) (network_of world.new)) }
-    ensures failed { (result ≡ Err WorldFault.Failed) ↔ ((network_of world.old).failed ≡ true) }
-    ensures memory { OnErr result ((network_of world.new).failed ≡ true) }
-    ensures fate { left world.new.fate ≤ left world.old.fate + letters_in commands.now }
+    requires can { CanAll world.old (gives seconds commands.now arrivals.now) }
+    requires few { left fate.old + letters_in commands.now < 2 ^ 57 }
+    ensures settled { OnOk result (IsSettled (tree_of world.new) (world_of world.new)) }
+    ensures segment { OnOk result (IsPlayedOut (gives seconds commands.now arrivals.now) world.old world.new) }
+    ensures plays { OnOk result (PlaysOn Eager seconds commands.now arrivals.now world.old world.new) }
+    ensures same { OnOk result (IsSame world.old world.new) }
+    ensures failed { (result ≡ Err WorldFault.Failed) ↔ (world.old.failed ≡ true) }
+    ensures memory { OnErr result (world.new.failed ≡ true) }
+    ensures fate { left fate.new ≤ left fate.old + letters_in commands.now }
 {
-    if world.motion.network().has_failed() {
+    if world.network().has_failed() {
         return Err(WorldFault::Failed);
     }
-    match play_in_order(world, seconds, commands, arrivals) {
+    match play_in_order(world, fate, seconds, commands, arrivals) {
         Ok(()) => Ok(()),
         Err(_) => {
-            world.motion.fail();
+            world.fail();
             Err(WorldFault::Memory)
         }
     }

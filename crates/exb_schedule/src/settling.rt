@@ -5,10 +5,10 @@ ghost use Rattle.exb_machine.specs.Allowing.{IsSettled};
 ghost use Rattle.exb_machine.specs.Settling.{planned_in};
 ghost use Rattle.exb_network.specs.Networks.{world_of, tree_of, bounds_of};
 ghost use Rattle.exb_schedule.specs.Rounds.{HasSettled};
-ghost use Rattle.exb_schedule.specs.Worlds.{network_of};
 
 use crate::delivery::round;
 use crate::world::World;
+use exb_fate::Fate;
 use exb_motion::laws::runs::settles;
 use exb_network::WorldFault;
 use exb_resting::laws::rounds_spend;
@@ -16,21 +16,21 @@ use exb_resting::laws::rounds_spend;
 /// Makes rounds until nothing is left to be done, and answers how many, a number that stays at 2^64 - 1: at most 64 for each verdict
 /// other than Pass that the fate may still give, for each exchange that is planned, and for one more.
 #[inline(always)]
-pub fn settle(world: &mut World) -> Result<u64, WorldFault>
-    requires few { left world.old.fate < 2 ^ 57 }
-    ensures ok { IfOk result (λ made. HasSettled (rounds (left world.old.fate) (planned_in (tree_of (network_of world.old)) (bounds_of (network_of world.old)) (world_of (network_of world.old)))) made (left world.old.fate) (left world.new.fate) (network_of world.old) (network_of world.new)) }
-    ensures settled { OnOk result (IsSettled (tree_of (network_of world.new)) (world_of (network_of world.new))) }
-    ensures bound { IfOk result (λ made. made ≤ rounds (left world.old.fate) (planned_in (tree_of (network_of world.old)) (bounds_of (network_of world.old)) (world_of (network_of world.old)))) }
-    ensures failed { (result ≡ Err WorldFault.Failed) ↔ ((network_of world.old).failed ≡ true) }
-    ensures memory { OnErr result ((network_of world.new).failed ≡ true) }
-    ensures falls { left world.new.fate ≤ left world.old.fate }
+pub fn settle(world: &mut World, fate: &mut dyn Fate) -> Result<u64, WorldFault>
+    requires few { left fate.old < 2 ^ 57 }
+    ensures ok { IfOk result (λ made. HasSettled (rounds (left fate.old) (planned_in (tree_of world.old) (bounds_of world.old) (world_of world.old))) made (left fate.old) (left fate.new) world.old world.new) }
+    ensures settled { OnOk result (IsSettled (tree_of world.new) (world_of world.new)) }
+    ensures bound { IfOk result (λ made. made ≤ rounds (left fate.old) (planned_in (tree_of world.old) (bounds_of world.old) (world_of world.old))) }
+    ensures failed { (result ≡ Err WorldFault.Failed) ↔ (world.old.failed ≡ true) }
+    ensures memory { OnErr result (world.new.failed ≡ true) }
+    ensures falls { left fate.new ≤ left fate.old }
 {
     rounds_spend();
     settles();
-    world.motion.is_reached();
+    world.is_reached();
     let mut made: u64 = 0;
     'rounds: while !world.settled() {
-        round(world)?;
+        round(world, fate)?;
         made = made.saturating_add(1);
     }
     Ok(made)

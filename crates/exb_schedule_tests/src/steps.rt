@@ -20,15 +20,9 @@ pub(crate) fn scripted(rt: &impl Abort, alloc: Global) -> Box<dyn Fate> {
 }
 
 /// A world of a topology in which nothing has happened yet, with a trace or without.
-pub(crate) fn begun(
-    rt: &impl Abort,
-    alloc: Global,
-    topology: &Topology,
-    fate: Box<dyn Fate>,
-    trace: bool,
-) -> World {
+pub(crate) fn begun(rt: &impl Abort, alloc: Global, topology: &Topology, trace: bool) -> World {
     assert!(rt; topology.setup.valid());
-    World::new(alloc, &topology.setup, fate, trace).expect(rt, "memory")
+    World::new(alloc, &topology.setup, trace).expect(rt, "memory")
 }
 
 /// How many words are on a direction.
@@ -46,7 +40,7 @@ pub(crate) fn is_free(rt: &impl Abort, world: &World, link: u8, way: Way, at: u6
 /// The first data word of a direction is taken.
 pub(crate) fn carry(rt: &impl Abort, world: &mut World, link: u8, way: Way) {
     assert!(rt; world.can(&Step::Carry { link, way }));
-    world.step(Step::Carry { link, way }).expect(rt, "memory");
+    world.step(&Step::Carry { link, way }).expect(rt, "memory");
 }
 
 /// A control word is delivered, and may be kept.
@@ -60,7 +54,7 @@ pub(crate) fn deliver(rt: &impl Abort, world: &mut World, link: u8, way: Way, at
         })
     );
     world
-        .step(Step::Control {
+        .step(&Step::Control {
             link,
             way,
             at,
@@ -73,14 +67,14 @@ pub(crate) fn deliver(rt: &impl Abort, world: &mut World, link: u8, way: Way, at
 pub(crate) fn lose(rt: &impl Abort, world: &mut World, link: u8, way: Way, at: u64) {
     assert!(rt; world.can(&Step::Lose { link, way, at }));
     world
-        .step(Step::Lose { link, way, at })
+        .step(&Step::Lose { link, way, at })
         .expect(rt, "memory");
 }
 
 /// A beat passes.
 pub(crate) fn beat(rt: &impl Abort, world: &mut World) {
     assert!(rt; world.can(&Step::Beat));
-    world.step(Step::Beat).expect(rt, "memory");
+    world.step(&Step::Beat).expect(rt, "memory");
 }
 
 /// A record arrives, at the moment 0.
@@ -93,73 +87,73 @@ pub(crate) fn arrive(rt: &impl Abort, world: &mut World, port: PortId, index: u6
     };
     let arrival = &arrival;
     assert!(rt; world.can(&Step::Arrive { arrival }));
-    world.step(Step::Arrive { arrival }).expect(rt, "memory");
+    world.step(&Step::Arrive { arrival }).expect(rt, "memory");
 }
 
 // The fate is armed.
-fn arm(rt: &impl Abort, world: &mut World, plan: &[Verdict]) {
-    assert!(rt; world.fate_left() < MANY);
+fn arm(rt: &impl Abort, fate: &mut dyn Fate, plan: &[Verdict]) {
+    assert!(rt; fate.left() < MANY);
     assert!(rt; plan.len() < 1_000_000);
-    world.arm(plan).expect(rt, "memory");
+    fate.arm(plan).expect(rt, "memory");
 }
 
 /// The fate is armed with so many plain deliveries.
-pub(crate) fn arm_with(rt: &impl Abort, alloc: Global, world: &mut World, count: u64) {
+pub(crate) fn arm_with(rt: &impl Abort, alloc: Global, fate: &mut dyn Fate, count: u64) {
     let mut plan = Vec::new(alloc);
     for _ in 0..count {
         plan.push(Verdict::Pass).expect(rt, "memory");
     }
-    arm(rt, world, plan.as_slice());
+    arm(rt, fate, plan.as_slice());
 }
 
 // A command is given.
 fn command(rt: &impl Abort, world: &mut World, timed: &Timed) {
     let command = &timed.command;
     assert!(rt; world.can(&Step::Command { command }));
-    world.step(Step::Command { command }).expect(rt, "memory");
+    world.step(&Step::Command { command }).expect(rt, "memory");
 }
 
 /// A command is given, for which the fate is armed just before.
-pub(crate) fn give(rt: &impl Abort, world: &mut World, timed: &Timed) {
-    arm(rt, world, timed.fate.as_slice());
+pub(crate) fn give(rt: &impl Abort, world: &mut World, fate: &mut dyn Fate, timed: &Timed) {
+    arm(rt, fate, timed.fate.as_slice());
     command(rt, world, timed);
 }
 
 /// How many of so many verdicts were given with which the fate was armed.
-pub(crate) fn asked(world: &World, armed: u64) -> u64 {
-    armed.saturating_sub(world.fate_left())
+pub(crate) fn asked(fate: &dyn Fate, armed: u64) -> u64 {
+    armed.saturating_sub(fate.left())
 }
 
 // What is settled is marked.
 fn mark(rt: &impl Abort, world: &mut World) {
     assert!(rt; world.can(&Step::Mark));
-    world.step(Step::Mark).expect(rt, "memory");
+    world.step(&Step::Mark).expect(rt, "memory");
 }
 
-// How many rounds a settling may take: 64 for each verdict that isn't Pass, each planned exchange, and one more.
-fn bound_of(rt: &impl Abort, world: &World) -> u64 {
+// How many rounds a settling may take: 64 for each of so many verdicts that may not be Pass, each planned exchange, and one more.
+fn bound_of(rt: &impl Abort, world: &World, left: u64) -> u64 {
     let planned = world.planned().expect(rt, "memory");
-    let all = world.fate_left().saturating_add(planned);
+    let all = left.saturating_add(planned);
     all.saturating_add(1).saturating_mul(64)
 }
 
 // All settles; how many rounds that took.
-fn settled(rt: &impl Abort, world: &mut World) -> u64 {
-    assert!(rt; world.fate_left() < MANY);
-    settle(world).expect(rt, "memory")
+fn settled(rt: &impl Abort, world: &mut World, fate: &mut dyn Fate) -> u64 {
+    assert!(rt; fate.left() < MANY);
+    settle(world, fate).expect(rt, "memory")
 }
 
 // All settles within its bound, and in as many beats as it says.
-fn settle_in_bound(rt: &impl Abort, world: &mut World) {
-    let bound = bound_of(rt, world);
+fn settle_in_bound(rt: &impl Abort, world: &mut World, fate: &mut dyn Fate) {
+    let bound = bound_of(rt, world, fate.left());
     let before = world.beats();
-    let made = settled(rt, world);
+    let made = settled(rt, world, fate);
     assert!(rt; made <= bound);
     assert!(rt; world.beats().saturating_sub(before) == made);
 }
 
 /// All settles within its bound, and is marked.
-pub(crate) fn rest(rt: &impl Abort, world: &mut World) {
-    settle_in_bound(rt, world);
+pub(crate) fn rest(rt: &impl Abort, world: &mut World, fate: &mut dyn Fate) {
+    settle_in_bound(rt, world, fate);
     mark(rt, world);
 }

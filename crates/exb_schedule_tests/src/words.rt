@@ -12,6 +12,7 @@ use crate::steps::{
     arm_with, arrive, asked, beat, begun, carry, counts, deliver, give, is_free, lose, rest,
     scripted,
 };
+use exb_fate::Fate;
 use exb_hostile::hex::{bytes_of, text_of};
 use exb_model::event::Event;
 use exb_model::port::PortId;
@@ -23,10 +24,11 @@ use std::alloc::Global;
 use std::process::Abort;
 use std::str::SplitWhitespace;
 
-/// How many commands were given, with how many verdicts the steps armed the fate, and what was told.
+/// The fate, how many commands were given, with how many verdicts the steps armed it, and what was told.
 #[derive(Drop)]
 struct Progress {
     alloc: Global,
+    fate: Box<dyn Fate>,
     given: usize,
     armed: u64,
     log: String,
@@ -150,7 +152,7 @@ fn tells(
         "planned" => say_planned(rt, alloc, world, log),
         "counts" => say_counts(rt, alloc, world, small(rt, words.next()), log),
         "free" => say_free(rt, world, log, words),
-        "asked" => say_count(rt, alloc, log, verb, asked(world, armed)),
+        "asked" => say_count(rt, alloc, log, verb, asked(&*progress.fate, armed)),
         _ => return false,
     }
     true
@@ -159,7 +161,7 @@ fn tells(
 // Gives the next command.
 fn give_next(rt: &impl Abort, world: &mut World, commands: &[Timed], progress: &mut Progress) {
     let next = commands.get(progress.given).expect(rt, "a command");
-    give(rt, world, next);
+    give(rt, world, &mut *progress.fate, next);
     progress.given = progress.given.saturating_add(1);
 }
 
@@ -173,9 +175,9 @@ fn arrive_next(rt: &impl Abort, alloc: Global, world: &mut World, words: &mut Sp
 }
 
 // Arms the fate.
-fn arm_next(rt: &impl Abort, world: &mut World, progress: &mut Progress, count: u64) {
+fn arm_next(rt: &impl Abort, progress: &mut Progress, count: u64) {
     progress.armed = progress.armed.saturating_add(count);
-    arm_with(rt, progress.alloc, world, count);
+    arm_with(rt, progress.alloc, &mut *progress.fate, count);
 }
 
 // Lets what comes from outside come, or moves the whole world, if a step does.
@@ -188,12 +190,12 @@ fn comes(
     words: &mut SplitWhitespace<'_>,
 ) -> bool {
     match verb {
-        "settle" => rest(rt, world),
+        "settle" => rest(rt, world, &mut *progress.fate),
         "beat" => beat(rt, world),
         "skip" => world.clear(),
         "give" => give_next(rt, world, commands, progress),
         "arrive" => arrive_next(rt, progress.alloc, world, words),
-        "arm" => arm_next(rt, world, progress, number(rt, words.next())),
+        "arm" => arm_next(rt, progress, number(rt, words.next())),
         _ => return false,
     }
     true
@@ -243,6 +245,7 @@ fn log_of(
 ) -> String {
     let mut progress = Progress {
         alloc,
+        fate: scripted(rt, alloc),
         given: 0,
         armed: 0,
         log: String::new(alloc),
@@ -259,7 +262,7 @@ fn log_over(rt: &impl Abort, alloc: Global, topology: &Topology, steps: &str) ->
         Some(steps) => (steps, false),
         None => (steps, true),
     };
-    let mut world = begun(rt, alloc, topology, scripted(rt, alloc), trace);
+    let mut world = begun(rt, alloc, topology, trace);
     let log = log_of(rt, alloc, &mut world, topology.commands.as_slice(), steps);
     drop(world);
     log

@@ -5,7 +5,6 @@ use Rattle.exb_model.specs.Texts.{with_left}
 use Rattle.exb_boxes.specs.declared.log.Left.{Left}
 use Rattle.exb_bridge.specs.Worlds.{all_left}
 use Rattle.exb_machine.specs.Worlds.{left_at}
-use Rattle.exb_schedule.specs.Worlds.{network_of}
 use Rattle.exb_outputs.specs.Writing.{pieces_of}
 use Rattle.exb_outputs.proofs.Cutting.{cut_same}
 use Rattle.exb_outputs.proofs.OutputLemmas.{kinds_same}
@@ -21,7 +20,7 @@ use Rattle.exb_net_run.proofs.desk.note.Goals as goal
 
 pub note-requires : goal.note-requires
 note-requires g c =
-    let n = network_of c.args.world.now in
+    let n = c.args.world.now in
     let counted = c.args.desk.now.counted in
     let count : ℕ = c.count_left.result in
     let same : length (all_left n.log.left) ≡ count = sym (c.count_left.ensures ∙ ap (λ (xs : List Left). length (all_left xs)) c.left.ensures) in
@@ -39,7 +38,7 @@ pub returns-clause-noted : goal.returns-clause-noted
 returns-clause-noted g c told done together more is =
     let desk = c.args.desk.now in
     let manifest = desk.manifest in
-    let n = network_of c.args.world.now in
+    let n = c.args.world.now in
     let old = g.S.Shelf.file c.args.shelf.now in
     let new = g.S.Shelf.file c.write_new.new.shelf in
     let outputs = c.write_new.new.outputs in
@@ -68,7 +67,7 @@ returns-in_err-write_new-clause-cut g c = λ t.
     let manifest = c.args.desk.now.manifest in
     let old = g.S.Shelf.file c.args.shelf.now in
     let new = g.S.Shelf.file c.write_new.new.shelf in
-    let n = network_of c.args.world.now in
+    let n = c.args.world.now in
     record {
       counts = [];
       each = fronts_cut manifest (pieces_of c.args.desk.now.outputs) old new (text_of told []) (text_of done []) (goes-on told done n more) (is.texts t)

@@ -2,7 +2,6 @@ use Rattle.std.proofs.Common.{List, subst}
 use Rattle.std.proofs.lemmas.Result.{err_from_is_err_and, on_err_weaker, on_ok_weaker}
 use Rattle.exb_model.specs.declared.event.Event.{Event}
 use Rattle.exb_boxes.specs.declared.log.Left.{Left}
-use Rattle.exb_schedule.specs.Worlds.{network_of}
 use Rattle.exb_text.specs.declared.output.Output.TheVariants as output
 use Rattle.exb_outputs.specs.Sent.{HasSent}
 use Rattle.exb_outputs.specs.Writing.{AreCut, HasTexts, pieces_of, lines_of, with_more}
@@ -20,7 +19,7 @@ returns-clause-texts g c tells =
     (λ last orig text held.
     let first = c.in_ok-write_events.ensures.texts tells orig text held in
     let second = last orig (with_more text output.Journal (lines_of c.events.result.now)) first in
-    let n = network_of c.args.world.now in
+    let n = c.args.world.now in
     let P = λ (es : List Event) (xs : List Left). HasTexts manifest (pieces_of c.write_left.new.outputs) orig (S.file c.write_left.new.shelf)
     (with_left_frames (with_more text output.Journal (lines_of es)) xs) in
     let one : P n.log.events c.left.result.now = subst (λ (es : List Event). P es c.left.result.now) c.events.ensures second in
@@ -37,7 +36,7 @@ returns-in_err-write_events-clause-cut g c = λ t.
     (λ orig text p.
     let manifest = c.args.manifest.now in
     let file = g.S.Shelf.file c.write_events.new.shelf in
-    let n = network_of c.args.world.now in
+    let n = c.args.world.now in
     let first = subst (λ (es : List Event). AreCut manifest orig file (with_more text output.Journal (lines_of es))) c.events.ensures (c.in_err-write_events.ensures.cut t orig text p) in
     cut_frames manifest orig file (with_more text output.Journal (lines_of n.log.events)) n.log.left first)
 
@@ -49,7 +48,7 @@ returns-clause-cut g c tells =
     (λ last orig text held.
     let first = c.in_ok-write_events.ensures.texts tells orig text held in
     let second = last orig (with_more text output.Journal (lines_of c.events.result.now)) first in
-    let n = network_of c.args.world.now in
+    let n = c.args.world.now in
     let P = λ (es : List Event) (xs : List Left). AreCut manifest orig (S.file c.write_left.new.shelf)
     (with_left_frames (with_more text output.Journal (lines_of es)) xs) in
     let one : P n.log.events c.left.result.now = subst (λ (es : List Event). P es c.left.result.now) c.events.ensures second in

@@ -47,5 +47,5 @@ returns-in-Command-clause-fates g c =
     let timed = c.index-commands-number.result in
     let place : slice_get rest.commands (number - 1) ≡ Some timed =
     ap (λ (cs : List Timed). slice_get cs (number - 1)) (sym commands) ∙ at_place c.as_slice-commands.result.now (number - 1) timed (let same = ap (λ (cs : List Timed). length cs) commands in omega (arith, low, same)) c.index-commands-number.is in
-    letters-given rests c.args.due (λ x. (goal.Fate-dyn g (x.world.fate.vtable, x.world.fate.value)).left x.world.fate.value) c.args.net.now.nodes.items c.command.new.self.nodes.items number c.in-Command.moment rest timed c.in-Command.is there place
+    letters-given rests c.args.due (λ x. (goal.Fate-dyn g (x.fate.vtable, x.fate.value)).left x.fate.value) c.args.net.now.nodes.items c.command.new.self.nodes.items number c.in-Command.moment rest timed c.in-Command.is there place
     (get _ c.command.ensures.fates))

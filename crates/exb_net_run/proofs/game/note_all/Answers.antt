@@ -2,7 +2,6 @@ use Rattle.std.proofs.Common.{rules, ◌<◌, ◌≤◌, List, length, refl, sym
 use Rattle.std.proofs.lemmas.Bool.{cases_lt}
 use Rattle.std.proofs.lemmas.Option.{slice_get_within}
 use Rattle.std.proofs.lemmas.Result.{err_from_is_err_and}
-use Rattle.exb_schedule.specs.Worlds.{network_of}
 use Rattle.exb_outputs.specs.Manifests.{Listed}
 use Rattle.exb_outputs.proofs.ShelvingLemmas.{writes_from}
 use Rattle.exb_net_run.proofs.Places.{at_place, is_there, set_there}
@@ -52,7 +51,7 @@ note-requires-clause-can g c =
     let was = c.index_mut.result.now in
     let before = sym (inv.rest i found.0) ∙ at_place items i was inside c.index_mut.ensures.value in
     let node = is_there c.args.net.now.nodes.items i found.1 in
-    subst (λ (w : _). CanNote was.manifest was.counted (network_of w)) (sym (c.world.ensures node.0 node.1)) (c.requires.can.each i was node.0 before node.1)
+    subst (λ (w : _). CanNote was.manifest was.counted w) (sym (c.world.ensures node.0 node.1)) (c.requires.can.each i was node.0 before node.1)
 
 pub noting-preserved : goal.noting-preserved
 noting-preserved g c =
@@ -78,7 +77,7 @@ noting-preserved g c =
       noted = λ told dones together more all.
           noted_more S.tells (S.file c.noting.shelf) (S.file c.note.new.shelf) items i was now told dones apart at noted.only.others
           (noted_skip nodes S.tells (S.file c.noting.shelf) items c.noting.from i told dones found.0 within found.2 more (inv.noted told dones together more all))
-          (λ own. noted.noted (told i) (dones i) (together.each i node.0 node.1) (subst (λ (w : _). IsMore (told i) (dones i) (network_of w)) (sym (c.world.ensures node.0 node.1)) (more.each i node.0 node.1)) own);
+          (λ own. noted.noted (told i) (dones i) (together.each i node.0 node.1) (subst (λ (w : _). IsMore (told i) (dones i) w) (sym (c.world.ensures node.0 node.1)) (more.each i node.0 node.1)) own);
       only =
           subst (λ (ps : List Listed). OnlyWritesAll S.tells ps (S.file c.args.shelf.now) (S.file c.note.new.shelf) (S.ids c.args.shelf.now) (S.ids c.note.new.shelf)) inv.manifests
           (only_one items apart i was at S.tells (S.file c.args.shelf.now) (S.file c.noting.shelf) (S.file c.note.new.shelf) (S.ids c.args.shelf.now) (S.ids c.noting.shelf) (S.ids c.note.new.shelf)
@@ -143,8 +142,8 @@ returns-in_err-note-clause-cut g c = λ t.
     (λ b k is.
     let inside_b = slice_get_within items b k is in
     let x = is_there nodes b (omega (arith, inside_b, long, whole)) in
-    (network_of x.0.world, more.each b x.0 x.1))
-    (c.in_err-note.ensures.cut t (told i) (dones i) (subst (λ (w : _). IsMore (told i) (dones i) (network_of w)) (sym (c.world.ensures node.0 node.1)) (more.each i node.0 node.1))
+    (x.0.world, more.each b x.0 x.1))
+    (c.in_err-note.ensures.cut t (told i) (dones i) (subst (λ (w : _). IsMore (told i) (dones i) w) (sym (c.world.ensures node.0 node.1)) (more.each i node.0 node.1))
     (subst (λ (d : _). IsNoted S.tells (S.file c.noting.shelf) was d) (upto_high i i told dones (omega arith)) (noted.each i was at)))))
 
 pub returns-in_err-note-clause-faults : goal.returns-in_err-note-clause-faults

@@ -10,7 +10,7 @@ loop-bridge-init g c =
       first = none_first c.args.setup.now.wires c.args.setup.now.setups c.args.nodes.now.items c.requires.none;
       long = ap (λ zs. length zs) c.requires.none;
       left = refl;
-      each = no_pairs (λ b f x. (goal.Fate-dyn g (x.world.fate.vtable, x.world.fate.value)).left x.world.fate.value ≡ (goal.Fate-dyn g (f.vtable, f.value)).left f.value) c.args.nodes.now.items c.requires.none;
+      each = no_pairs (λ b f x. (goal.Fate-dyn g (x.fate.vtable, x.fate.value)).left x.fate.value ≡ (goal.Fate-dyn g (f.vtable, f.value)).left f.value) c.args.nodes.now.items c.requires.none;
     }
 
 pub remove-requires : goal.remove-requires
@@ -40,7 +40,7 @@ loop-bridge-preserved g c =
       first = c.in_ok-make_one.ensures.ok c.loop-bridge.invariant.first;
       long = c.in_ok-make_one.ensures.long ∙ ap (λ n. n + 1) c.loop-bridge.invariant.long;
       left = rest_is xs i low c.loop-bridge.fates.items c.remove.new.self.items c.remove.result c.loop-bridge.invariant.left c.remove.ensures.items;
-      each = subst (λ zs. AreEach (λ b f x. (goal.Fate-dyn g (x.world.fate.vtable, x.world.fate.value)).left x.world.fate.value ≡ (goal.Fate-dyn g (f.vtable, f.value)).left f.value) zs c.make_one.new.nodes.items) (front_is xs i low c.remove.result is) (c.in_ok-make_one.ensures.fate (take i xs) c.loop-bridge.invariant.each);
+      each = subst (λ zs. AreEach (λ b f x. (goal.Fate-dyn g (x.fate.vtable, x.fate.value)).left x.fate.value ≡ (goal.Fate-dyn g (f.vtable, f.value)).left f.value) zs c.make_one.new.nodes.items) (front_is xs i low c.remove.result is) (c.in_ok-make_one.ensures.fate (take i xs) c.loop-bridge.invariant.each);
     }
 
 pub returns-clause-ok : goal.returns-clause-ok
@@ -56,4 +56,4 @@ pub returns-clause-fates : goal.returns-clause-fates
 returns-clause-fates g c =
     let xs = c.args.fates.now.items in
     let same = ap (λ zs. length zs) c.as_slice-bridge-end.ensures in
-    subst (λ zs. AreEach (λ b f x. (goal.Fate-dyn g (x.world.fate.vtable, x.world.fate.value)).left x.world.fate.value ≡ (goal.Fate-dyn g (f.vtable, f.value)).left f.value) zs c.loop-bridge.nodes.items) (take_all c.loop-bridge._bridge xs (omega (arith, c.loop-bridge-test.false, same, c.requires.whole))) c.loop-bridge.invariant.each
+    subst (λ zs. AreEach (λ b f x. (goal.Fate-dyn g (x.fate.vtable, x.fate.value)).left x.fate.value ≡ (goal.Fate-dyn g (f.vtable, f.value)).left f.value) zs c.loop-bridge.nodes.items) (take_all c.loop-bridge._bridge xs (omega (arith, c.loop-bridge-test.false, same, c.requires.whole))) c.loop-bridge.invariant.each

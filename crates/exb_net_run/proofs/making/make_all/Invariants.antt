@@ -9,5 +9,5 @@ invariant-loop-bridge g l = record {
   first : AreFirst l.setup.wires l.setup.setups l.nodes.items;
   long : length l.nodes.items ≡ l._bridge;
   left : l.fates.items ≡ drop l._bridge l.fn.fates.items;
-  each : AreEach (λ b f x. (goal.Fate-dyn g (x.world.fate.vtable, x.world.fate.value)).left x.world.fate.value ≡ (goal.Fate-dyn g (f.vtable, f.value)).left f.value) (take l._bridge l.fn.fates.items) l.nodes.items;
+  each : AreEach (λ b f x. (goal.Fate-dyn g (x.fate.vtable, x.fate.value)).left x.fate.value ≡ (goal.Fate-dyn g (f.vtable, f.value)).left f.value) (take l._bridge l.fn.fates.items) l.nodes.items;
 }

@@ -20,7 +20,7 @@ pub enter-requires-clause-few : goal.enter-requires-clause-few
 enter-requires-clause-few g c =
     let nodes = c.args.nodes.now.items in
     let inside : c.args.bridge < length nodes = coming_here _ _ _ _ _ nodes c.args.queue.now.items c.requires.can.1.1.1 in
-    of_all (λ x. (goal.Fate-dyn g (x.world.fate.vtable, x.world.fate.value)).left x.world.fate.value < 2 ^ 57) nodes c.args.bridge c.index_mut.result.now c.requires.few (at_place nodes c.args.bridge c.index_mut.result.now inside c.index_mut.ensures.value)
+    of_all (λ x. (goal.Fate-dyn g (x.fate.vtable, x.fate.value)).left x.fate.value < 2 ^ 57) nodes c.args.bridge c.index_mut.result.now c.requires.few (at_place nodes c.args.bridge c.index_mut.result.now inside c.index_mut.ensures.value)
 
 pub returns-clause-ok : goal.returns-clause-ok
 returns-clause-ok g c =
@@ -37,7 +37,7 @@ returns-clause-fates g c =
     let nodes = c.args.nodes.now.items in
     let inside : c.args.bridge < length nodes = coming_here _ _ _ _ _ nodes c.args.queue.now.items c.requires.can.1.1.1 in
     on_ok_of c.enter.result
-    (falls_set (λ x. (goal.Fate-dyn g (x.world.fate.vtable, x.world.fate.value)).left x.world.fate.value) nodes c.args.bridge c.index_mut.result.now c.enter.new.node (at_place nodes c.args.bridge c.index_mut.result.now inside c.index_mut.ensures.value) c.enter.ensures.fate)
+    (falls_set (λ x. (goal.Fate-dyn g (x.fate.vtable, x.fate.value)).left x.fate.value) nodes c.args.bridge c.index_mut.result.now c.enter.new.node (at_place nodes c.args.bridge c.index_mut.result.now inside c.index_mut.ensures.value) c.enter.ensures.fate)
 
 pub returns-clause-others : goal.returns-clause-others
 returns-clause-others g c = λ b ne. set_there c.args.nodes.now.items c.args.bridge b c.enter.new.node ne

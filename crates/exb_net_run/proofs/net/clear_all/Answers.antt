@@ -1,6 +1,5 @@
 use Rattle.std.proofs.Common.{◌+◌, ◌-◌, ◌<◌, length, arith}
 use Rattle.std.proofs.lemmas.Option.{slice_get_within}
-use Rattle.exb_schedule.specs.Worlds.{network_of}
 use Rattle.exb_net_run.proofs.Places.{all_from, none_so_far, one_more, skip_to}
 use Rattle.exb_net_run.proofs.Quiet.{forgets_nothing}
 use Rattle.exb_net_run.proofs.net.clear_all.Goals as goal
@@ -26,7 +25,7 @@ clearing-preserved g c =
     record {
       done =
           one_more _ xs ys j c.index_mut.result.now c.forget.new.node
-          (skip_to _ xs ys c.clearing.from j found.0 inv.done (λ k x on before is. forgets_nothing (network_of x.world) x.ends.items (c.requires.each k x is (found.1 k on before)))) inside c.index_mut.ensures.value
+          (skip_to _ xs ys c.clearing.from j found.0 inv.done (λ k x on before is. forgets_nothing x.world x.ends.items (c.requires.each k x is (found.1 k on before)))) inside c.index_mut.ensures.value
           c.forget.ensures.forgotten;
       falls =
           one_more _ xs ys j c.index_mut.result.now c.forget.new.node (skip_to _ xs ys c.clearing.from j found.0 inv.falls (λ k x on before is. omega arith)) inside c.index_mut.ensures.value c.forget.ensures.fate;
@@ -35,7 +34,7 @@ clearing-preserved g c =
 pub returns-clause-forgotten : goal.returns-clause-forgotten
 returns-clause-forgotten g c =
     all_from _ c.args.nodes.now.items c.clearing.nodes.items c.clearing.from c.clearing.invariant.done
-    (λ k x on is. forgets_nothing (network_of x.world) x.ends.items (c.requires.each k x is (c.in_default.ensures.none k on)))
+    (λ k x on is. forgets_nothing x.world x.ends.items (c.requires.each k x is (c.in_default.ensures.none k on)))
 
 pub returns-clause-fates : goal.returns-clause-fates
 returns-clause-fates g c = all_from _ c.args.nodes.now.items c.clearing.nodes.items c.clearing.from c.clearing.invariant.falls (λ k x on is. omega arith)
@@ -47,7 +46,7 @@ returns-then-bridge-len-clause-forgotten g c =
     all_from _ xs c.clearing.nodes.items c.clearing.from c.clearing.invariant.done
     (λ k x on is.
     let low = slice_get_within xs k x is in
-    forgets_nothing (network_of x.world) x.ends.items (c.requires.each k x is (c.in-Some.ensures.found.1 k on (omega (arith, low, long, c.if-bridge-len.true, c.len.ensures, c.clearing.nodes.ok.0)))))
+    forgets_nothing x.world x.ends.items (c.requires.each k x is (c.in-Some.ensures.found.1 k on (omega (arith, low, long, c.if-bridge-len.true, c.len.ensures, c.clearing.nodes.ok.0)))))
 
 pub returns-then-bridge-len-clause-fates : goal.returns-then-bridge-len-clause-fates
 returns-then-bridge-len-clause-fates g c = all_from _ c.args.nodes.now.items c.clearing.nodes.items c.clearing.from c.clearing.invariant.falls (λ k x on is. omega arith)

@@ -1,5 +1,4 @@
 use Rattle.std.proofs.Common.{◌-◌, ◌≤◌, length}
-use Rattle.exb_schedule.specs.Worlds.{network_of}
 use Rattle.exb_net_run.specs.Nodes.{HasForgotten}
 use Rattle.exb_net_run.proofs.Places.{AreSoFar}
 use Rattle.exb_net_run.proofs.net.clear_all.Given as goal
@@ -7,8 +6,8 @@ use Rattle.exb_net_run.proofs.net.clear_all.Given as goal
 -- Those so far have forgotten.
 abbrev pub invariant-clearing : goal.invariant-clearing
 invariant-clearing g l = record {
-  done : AreSoFar (λ b x y. HasForgotten (network_of x.world) (network_of y.world) x.ends.items y.ends.items) l.from l.fn.nodes.items l.nodes.items;
-  falls : AreSoFar (λ b x y. (goal.Fate-dyn g (y.world.fate.vtable, y.world.fate.value)).left y.world.fate.value ≤ (goal.Fate-dyn g (x.world.fate.vtable, x.world.fate.value)).left x.world.fate.value) l.from l.fn.nodes.items l.nodes.items;
+  done : AreSoFar (λ b x y. HasForgotten x.world y.world x.ends.items y.ends.items) l.from l.fn.nodes.items l.nodes.items;
+  falls : AreSoFar (λ b x y. (goal.Fate-dyn g (y.fate.vtable, y.fate.value)).left y.fate.value ≤ (goal.Fate-dyn g (x.fate.vtable, x.fate.value)).left x.fate.value) l.from l.fn.nodes.items l.nodes.items;
 }
 
 abbrev pub decreases-clearing : goal.decreases-clearing

@@ -27,7 +27,7 @@ let_come-requires-clause-few g c =
     let nodes = c.args.nodes.now.items in
     let inside : c.args.crossing.to.bridge < length nodes =
     is_here c.bridges_handle.ensures c.deliveries_end_soon.ensures t.0 t.1.0 nodes c.args.crossing c.args.queue.now.items t.1.1.0 t.1.1.1.0 in
-    of_all (λ x. (goal.Fate-dyn g (x.world.fate.vtable, x.world.fate.value)).left x.world.fate.value < 2 ^ 57) nodes c.args.crossing.to.bridge c.index_mut.result.now c.requires.few (at_place nodes c.args.crossing.to.bridge c.index_mut.result.now inside c.index_mut.ensures.value)
+    of_all (λ x. (goal.Fate-dyn g (x.fate.vtable, x.fate.value)).left x.fate.value < 2 ^ 57) nodes c.args.crossing.to.bridge c.index_mut.result.now c.requires.few (at_place nodes c.args.crossing.to.bridge c.index_mut.result.now inside c.index_mut.ensures.value)
 
 pub returns-clause-ok : goal.returns-clause-ok
 returns-clause-ok g c =
@@ -50,7 +50,7 @@ returns-clause-fates g c =
     let inside : c.args.crossing.to.bridge < length nodes =
     is_here c.bridges_handle.ensures c.deliveries_end_soon.ensures t.0 t.1.0 nodes c.args.crossing c.args.queue.now.items t.1.1.0 t.1.1.1.0 in
     on_ok_of c.let_come.result
-    (falls_set (λ x. (goal.Fate-dyn g (x.world.fate.vtable, x.world.fate.value)).left x.world.fate.value) nodes c.args.crossing.to.bridge c.index_mut.result.now c.let_come.new.node (at_place nodes c.args.crossing.to.bridge c.index_mut.result.now inside c.index_mut.ensures.value) c.let_come.ensures.fate)
+    (falls_set (λ x. (goal.Fate-dyn g (x.fate.vtable, x.fate.value)).left x.fate.value) nodes c.args.crossing.to.bridge c.index_mut.result.now c.let_come.new.node (at_place nodes c.args.crossing.to.bridge c.index_mut.result.now inside c.index_mut.ensures.value) c.let_come.ensures.fate)
 
 pub returns-clause-others : goal.returns-clause-others
 returns-clause-others g c = λ b ne. set_there c.args.nodes.now.items c.args.crossing.to.bridge b c.let_come.new.node ne

@@ -5,7 +5,7 @@ use Rattle.exb_net_run.proofs.Turning.{none_left, played_so}
 use Rattle.exb_net_run.proofs.net.deliver_all.Goals as goal
 
 pub loop-delivery-init : goal.loop-delivery-init
-loop-delivery-init g c = record { turn = c.requires.turn; ok = λ m turn d e. d; others = record { each = λ b none. refl }; few = c.requires.few; fates = falls_same (λ x. (goal.Fate-dyn g (x.world.fate.vtable, x.world.fate.value)).left x.world.fate.value) c.args.nodes.now.items }
+loop-delivery-init g c = record { turn = c.requires.turn; ok = λ m turn d e. d; others = record { each = λ b none. refl }; few = c.requires.few; fates = falls_same (λ x. (goal.Fate-dyn g (x.fate.vtable, x.fate.value)).left x.fate.value) c.args.nodes.now.items }
 
 pub deliver-requires-clause-turn : goal.deliver-requires-clause-turn
 deliver-requires-clause-turn g c =
@@ -26,8 +26,8 @@ loop-delivery-preserved g c =
       turn = (t.0, (t.1.0, (c.in_ok-deliver.ensures.ok t.0 i t.1.0 (subst (HasDelivered t.0 i nodes) c.in-Some.ensures.items t.1.1.0) room, t.1.1.1)));
       ok = λ m turn d e. (let low = c.loop-delivery-test.true in c.in_ok-deliver.ensures.ok m i turn (subst (HasDelivered m i nodes) c.in-Some.ensures.items (c.loop-delivery.invariant.ok m turn d e)) (omega (arith, low, e)));
       others = record { each = λ b none. (let apart = c.mark.ensures b none in c.deliver.ensures.others b apart.1 ∙ c.loop-delivery.invariant.others.each b apart.0) };
-      few = stay_few (λ x. (goal.Fate-dyn g (x.world.fate.vtable, x.world.fate.value)).left x.world.fate.value) (2 ^ 57) nodes c.deliver.new.nodes.items c.loop-delivery.invariant.few c.in_ok-deliver.ensures.fates;
-      fates = falls_then (λ x. (goal.Fate-dyn g (x.world.fate.vtable, x.world.fate.value)).left x.world.fate.value) c.args.nodes.now.items nodes c.deliver.new.nodes.items c.loop-delivery.invariant.fates c.in_ok-deliver.ensures.fates;
+      few = stay_few (λ x. (goal.Fate-dyn g (x.fate.vtable, x.fate.value)).left x.fate.value) (2 ^ 57) nodes c.deliver.new.nodes.items c.loop-delivery.invariant.few c.in_ok-deliver.ensures.fates;
+      fates = falls_then (λ x. (goal.Fate-dyn g (x.fate.vtable, x.fate.value)).left x.fate.value) c.args.nodes.now.items nodes c.deliver.new.nodes.items c.loop-delivery.invariant.fates c.in_ok-deliver.ensures.fates;
     }
 
 pub returns-in_default-clause-ok : goal.returns-in_default-clause-ok

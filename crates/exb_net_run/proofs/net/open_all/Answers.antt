@@ -13,7 +13,7 @@ open_one-requires g c =
     let same = ap (λ zs. length zs) c.deref_mut-node-items.ensures.value in
     let long = c.loop-node.invariant.done.long in
     let inside : i < length ys = omega (arith, c.loop-node-test.true, same, long) in
-    still_all _ xs ys i (λ x. (goal.Fate-dyn g (x.world.fate.vtable, x.world.fate.value)).left x.world.fate.value < 2 ^ 57) c.node-item.result c.requires.few c.loop-node.invariant.done inside c.node-item.is
+    still_all _ xs ys i (λ x. (goal.Fate-dyn g (x.fate.vtable, x.fate.value)).left x.fate.value < 2 ^ 57) c.node-item.result c.requires.few c.loop-node.invariant.done inside c.node-item.is
 
 pub loop-node-preserved : goal.loop-node-preserved
 loop-node-preserved g c =

@@ -2,7 +2,6 @@ use Rattle.std.proofs.Common.{◌<◌, ◌≤◌, length, ap, arith}
 use Rattle.exb_machine.specs.Allowing.{Can}
 use Rattle.exb_machine.specs.Worlds.{Tick}
 use Rattle.exb_network.specs.Networks.{tree_of, world_of}
-use Rattle.exb_schedule.specs.Worlds.{network_of}
 use Rattle.exb_net_run.proofs.Places.{all_written, begins_so_far, one_more_at, still_all}
 use Rattle.exb_net_run.proofs.net.pass_all.Goals as goal
 
@@ -17,7 +16,7 @@ let_pass-requires g c =
     let same = ap (λ zs. length zs) c.deref_mut-node-items.ensures.value in
     let long = c.loop-node.invariant.done.long in
     let inside : i < length ys = omega (arith, c.loop-node-test.true, same, long) in
-    still_all _ xs ys i (λ x. Can (tree_of (network_of x.world)) (world_of (network_of x.world)) (Tick c.args.seconds)) c.node-item.result c.requires.can c.loop-node.invariant.done inside c.node-item.is
+    still_all _ xs ys i (λ x. Can (tree_of x.world) (world_of x.world) (Tick c.args.seconds)) c.node-item.result c.requires.can c.loop-node.invariant.done inside c.node-item.is
 
 pub loop-node-preserved : goal.loop-node-preserved
 loop-node-preserved g c =

@@ -1,5 +1,4 @@
 use Rattle.std.proofs.Common.{◌≤◌}
-use Rattle.exb_schedule.specs.Worlds.{network_of}
 use Rattle.exb_net_run.specs.Nodes.{HasPassed}
 use Rattle.exb_net_run.proofs.Places.{AreSoFar}
 use Rattle.exb_net_run.proofs.net.pass_all.Given as goal
@@ -7,6 +6,6 @@ use Rattle.exb_net_run.proofs.net.pass_all.Given as goal
 -- Those so far are so many seconds on.
 abbrev pub invariant-loop-node : goal.invariant-loop-node
 invariant-loop-node g l = record {
-  done : AreSoFar (λ b x y. HasPassed l.seconds (network_of x.world) (network_of y.world) x.ends.items y.ends.items) l.node-index l.fn.nodes.items l.node-items;
-  falls : AreSoFar (λ b x y. (goal.Fate-dyn g (y.world.fate.vtable, y.world.fate.value)).left y.world.fate.value ≤ (goal.Fate-dyn g (x.world.fate.vtable, x.world.fate.value)).left x.world.fate.value) l.node-index l.fn.nodes.items l.node-items;
+  done : AreSoFar (λ b x y. HasPassed l.seconds x.world y.world x.ends.items y.ends.items) l.node-index l.fn.nodes.items l.node-items;
+  falls : AreSoFar (λ b x y. (goal.Fate-dyn g (y.fate.vtable, y.fate.value)).left y.fate.value ≤ (goal.Fate-dyn g (x.fate.vtable, x.fate.value)).left x.fate.value) l.node-index l.fn.nodes.items l.node-items;
 }

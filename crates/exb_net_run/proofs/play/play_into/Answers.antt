@@ -60,7 +60,7 @@ play_agenda-requires-clause-budget g c =
     let old = S.file c.args.shelf.now in
     let opened : IsToBeOpened S.tells t.1.0 t.1.1.0 c.as_slice-rests.result.now old c.args.checked.now = record { rests_are = c.as_slice-rests.ensures ∙ p.parts_are.rests; read = p.read; checked_are = p.checked_are } in
     let begins = c.in_ok-agenda.ensures.begins t.1.0 t.1.1.0 opened in
-    within_of t.1.0 c.args.parts.now.rests p.parts_are.rests p.read.sound (λ x. (goal.Fate-dyn g (x.world.fate.vtable, x.world.fate.value)).left x.world.fate.value) (λ f. (goal.Fate-dyn g (f.vtable, f.value)).left f.value) c.args.fates.items
+    within_of t.1.0 c.args.parts.now.rests p.parts_are.rests p.read.sound (λ x. (goal.Fate-dyn g (x.fate.vtable, x.fate.value)).left x.fate.value) (λ f. (goal.Fate-dyn g (f.vtable, f.value)).left f.value) c.args.fates.items
     c.in-Ok.net.nodes.items (programmes_in c.in_ok-agenda.agenda) c.requires.fates c.in-Ok.ensures.fates (subst (λ (xs : List NetRest). AreOfRests xs (programmes_in c.in_ok-agenda.agenda)) c.as_slice-rests.ensures c.in_ok-agenda.ensures.rests)
     (λ b q is. (begins.each b q is).taken)
 

@@ -1,7 +1,6 @@
 use Rattle.std.proofs.Common.{◌∙◌, ap, arith}
 use Rattle.std.proofs.lemmas.Result.{on_err_weaker}
 use Rattle.exb_play.proofs.Parts.{begun-so-far, ended-so-far}
-use Rattle.exb_schedule.specs.Worlds.{network_of}
 use Rattle.exb_words.specs.declared.asked.Options.{Options}
 use Rattle.exb_play.specs.Playing.{mode_of}
 use Rattle.exb_outputs.specs.Writing.{pieces_of}
@@ -17,7 +16,7 @@ play_world-requires-clause-opened g c =
     let m = mode_of c.args.schedule in
     let run = c.requires.begins.0 in (
       run,
-      begins-opened S.tells m run c.args.script.now.setup.now c.args.manifest.now (S.file c.args.shelf.now) (S.ids c.args.shelf.now) (network_of c.in-Ok-open.world) c.args.outputs c.args.feed.now.programme c.requires.begins.1
+      begins-opened S.tells m run c.args.script.now.setup.now c.args.manifest.now (S.file c.args.shelf.now) (S.ids c.args.shelf.now) c.in-Ok-open.world c.args.outputs c.args.feed.now.programme c.requires.begins.1
           c.requires.tree (c.in-Ok-open.ensures.plays m) (c.in-Ok-open.ensures.tracing ∙ ap (λ (o : Options). o.trace) c.options.ensures) c.in-Ok.counted c.in-Ok.ensures,
     )
 
@@ -34,7 +33,7 @@ returns-clause-done g c tells =
     if_ok_map c.play_world.result
     (λ line played run b.
     played run
-    (begins-opened S.tells m run c.args.script.now.setup.now c.args.manifest.now (S.file c.args.shelf.now) (S.ids c.args.shelf.now) (network_of c.in-Ok-open.world) c.args.outputs c.args.feed.now.programme b
+    (begins-opened S.tells m run c.args.script.now.setup.now c.args.manifest.now (S.file c.args.shelf.now) (S.ids c.args.shelf.now) c.in-Ok-open.world c.args.outputs c.args.feed.now.programme b
     c.requires.tree (c.in-Ok-open.ensures.plays m) (c.in-Ok-open.ensures.tracing ∙ ap (λ (o : Options). o.trace) c.options.ensures) c.in-Ok.counted c.in-Ok.ensures))
     (c.play_world.ensures.done tells)
 
@@ -45,7 +44,7 @@ returns-clause-never g c tells =
     if_err_map c.play_world.result
     (λ fault never change run b.
     never change run
-    (begins-opened S.tells m run c.args.script.now.setup.now c.args.manifest.now (S.file c.args.shelf.now) (S.ids c.args.shelf.now) (network_of c.in-Ok-open.world) c.args.outputs c.args.feed.now.programme b
+    (begins-opened S.tells m run c.args.script.now.setup.now c.args.manifest.now (S.file c.args.shelf.now) (S.ids c.args.shelf.now) c.in-Ok-open.world c.args.outputs c.args.feed.now.programme b
     c.requires.tree (c.in-Ok-open.ensures.plays m) (c.in-Ok-open.ensures.tracing ∙ ap (λ (o : Options). o.trace) c.options.ensures) c.in-Ok.counted c.in-Ok.ensures))
     (c.play_world.ensures.never tells)
 
@@ -61,7 +60,7 @@ returns-clause-fronts g c tells eager run b =
     let S = g.S.Shelf in
     let m = mode_of c.args.schedule in
     let is =
-    begins-opened S.tells m run c.args.script.now.setup.now c.args.manifest.now (S.file c.args.shelf.now) (S.ids c.args.shelf.now) (network_of c.in-Ok-open.world) c.args.outputs c.args.feed.now.programme b
+    begins-opened S.tells m run c.args.script.now.setup.now c.args.manifest.now (S.file c.args.shelf.now) (S.ids c.args.shelf.now) c.in-Ok-open.world c.args.outputs c.args.feed.now.programme b
     c.requires.tree (c.in-Ok-open.ensures.plays m) (c.in-Ok-open.ensures.tracing ∙ ap (λ (o : Options). o.trace) c.options.ensures) c.in-Ok.counted c.in-Ok.ensures in
     ended_eagerly c.runs_write_fronts.ensures m run c.args.manifest.now (S.file c.play_world.new.shelf) c.play_world.result eager b.timely
     (if_ok_map c.play_world.result (λ line played. played run is) (c.play_world.ensures.done tells))
@@ -79,7 +78,7 @@ returns-clause-so_far g c tells run b =
     let S = g.S.Shelf in
     let m = mode_of c.args.schedule in
     let is =
-    begins-opened S.tells m run c.args.script.now.setup.now c.args.manifest.now (S.file c.args.shelf.now) (S.ids c.args.shelf.now) (network_of c.in-Ok-open.world) c.args.outputs c.args.feed.now.programme b
+    begins-opened S.tells m run c.args.script.now.setup.now c.args.manifest.now (S.file c.args.shelf.now) (S.ids c.args.shelf.now) c.in-Ok-open.world c.args.outputs c.args.feed.now.programme b
     c.requires.tree (c.in-Ok-open.ensures.plays m) (c.in-Ok-open.ensures.tracing ∙ ap (λ (o : Options). o.trace) c.options.ensures) c.in-Ok.counted c.in-Ok.ensures in
     ended-so-far c.runs_tell_so_far.ensures m run c.args.manifest.now (S.file c.play_world.new.shelf) c.play_world.result b.timely
     (if_ok_map c.play_world.result (λ line played. played run is) (c.play_world.ensures.done tells))

@@ -4,7 +4,6 @@ use Rattle.exb_model.specs.declared.event.Event.{Event}
 use Rattle.exb_model.specs.FlatBridge.{Sent}
 use Rattle.exb_model.specs.Traces.{TraceLine}
 use Rattle.exb_boxes.specs.declared.log.Left.{Left}
-use Rattle.exb_schedule.specs.Worlds.{network_of}
 use Rattle.exb_shelf.specs.Files.{Files}
 use Rattle.exb_text.specs.declared.output.Output.{Output}
 use Rattle.exb_outputs.specs.Sent.{HasSent}
@@ -20,7 +19,7 @@ pub returns-clause-texts : goal.returns-clause-texts
 returns-clause-texts g c = λ t.
     let manifest = c.args.manifest.now in
     let S = g.S.Shelf in
-    let n = network_of c.args.world.now in
+    let n = c.args.world.now in
     let P = λ (es : List Event) (xs : List Left) (ls : List TraceLine). OnOk c.write_told.result ((orig : Files) (text : Output → List ℕ) → HasTexts manifest (pieces_of c.args.outputs.now) orig (S.file c.args.shelf.now) text
     → HasTexts manifest (pieces_of c.write_told.new.outputs) orig (S.file c.write_told.new.shelf) (with_told text es xs ls)) in
     let one : P n.log.events c.left.result.now c.trace.result.now = subst (λ (es : List Event). P es c.left.result.now c.trace.result.now) c.events.ensures (c.write_told.ensures.texts t) in
@@ -31,7 +30,7 @@ pub returns-clause-cut : goal.returns-clause-cut
 returns-clause-cut g c = λ t.
     let manifest = c.args.manifest.now in
     let S = g.S.Shelf in
-    let n = network_of c.args.world.now in
+    let n = c.args.world.now in
     let P = λ (es : List Event) (xs : List Left) (ls : List TraceLine). OnErr c.write_told.result ((orig : Files) (text : Output → List ℕ) → HasTexts manifest (pieces_of c.args.outputs.now) orig (S.file c.args.shelf.now) text
     → AreCut manifest orig (S.file c.write_told.new.shelf) (with_told text es xs ls)) in
     let one : P n.log.events c.left.result.now c.trace.result.now = subst (λ (es : List Event). P es c.left.result.now c.trace.result.now) c.events.ensures (c.write_told.ensures.cut t) in

@@ -3,9 +3,9 @@ use Rattle.exb_schedule.proofs.Giving.{given_first, given_on}
 use Rattle.exb_schedule.proofs.arriving.let_arrive.Goals as goal
 
 pub loop-arrival-init : goal.loop-arrival-init
-loop-arrival-init c = given_first Arrive c.args.arrivals.now c.args.motion.now c.requires
+loop-arrival-init c = given_first Arrive c.args.arrivals.now c.args.world.now c.requires
 
 pub loop-arrival-preserved : goal.loop-arrival-preserved
 loop-arrival-preserved c =
-    given_on Arrive c.args.arrivals.now c.loop-arrival.arrival-index c.arrival-item.result c.args.motion.now c.loop-arrival.motion c.step.new.self c.loop-arrival-test.true c.arrival-item.is
+    given_on Arrive c.args.arrivals.now c.loop-arrival.arrival-index c.arrival-item.result c.args.world.now c.loop-arrival.world c.step.new.self c.loop-arrival-test.true c.arrival-item.is
     c.loop-arrival.invariant c.in_ok-step.ensures.ok c.in_ok-step.ensures.may

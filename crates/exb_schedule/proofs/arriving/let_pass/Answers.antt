@@ -8,12 +8,12 @@ use Rattle.exb_schedule.proofs.arriving.let_pass.Goals as goal
 
 pub returns-then-seconds-eq0-clause-ok : goal.returns-then-seconds-eq0-clause-ok
 returns-then-seconds-eq0-clause-ok c =
-    let old = c.args.motion.now in
-    subst (λ (zs : List Step). HasRun zs old old) (sym (tick_none c.args.seconds c.if-seconds-eq0.true)) (run_nothing c.args.motion.now)
+    let old = c.args.world.now in
+    subst (λ (zs : List Step). HasRun zs old old) (sym (tick_none c.args.seconds c.if-seconds-eq0.true)) (run_nothing c.args.world.now)
 
 pub returns-clause-ok : goal.returns-clause-ok
 returns-clause-ok c =
-    let old = c.args.motion.now in
+    let old = c.args.world.now in
     on_ok_two c.step.result
     (λ made may.
     subst (λ (zs : List Step). HasRun zs old c.step.new.self) (sym (tick_some c.args.seconds c.if-seconds-eq0.false)) (run_step (Tick c.args.seconds) old c.step.new.self made may))

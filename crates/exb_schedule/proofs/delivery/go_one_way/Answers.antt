@@ -4,12 +4,11 @@ use Rattle.exb_machine.specs.Stepping.{words_on}
 use Rattle.exb_network.specs.Networks.{Network, tree_of, world_of}
 use Rattle.exb_network.specs.Steps.{way_of}
 use Rattle.exb_network.specs.Turns.{order_of, IsTurn}
-use Rattle.exb_schedule.specs.Worlds.{network_of}
 use Rattle.exb_schedule.proofs.Going.{none_after, none_between, those_first, those_next}
 use Rattle.exb_schedule.proofs.delivery.go_one_way.Goals as goal
 
 pub directions-init : goal.directions-init
-directions-init g c = record { those = those_first (way_of c.args.way) _ (network_of c.args.world.now); low = omega arith; falls = omega arith }
+directions-init g c = record { those = those_first (way_of c.args.way) _ c.args.world.now; low = omega arith; falls = omega arith }
 
 pub directions-preserved : goal.directions-preserved
 directions-preserved g c =
@@ -19,8 +18,8 @@ directions-preserved g c =
     let falls = c.in_ok-go_through.ensures.falls in
     let before = c.directions.invariant.falls in
     record {
-      those = those_next (way_of c.args.way) _ _ _ (network_of c.args.world.now) (network_of c.directions.world) (network_of c.go_through.new.world) turn.place turn.link is.at
-          (none_between (way_of c.args.way) _ _ (network_of c.args.world.now) (network_of c.directions.world) c.directions.from turn.place is.from is.before c.directions.invariant.those) c.in_ok-go_through.ensures.ok;
+      those = those_next (way_of c.args.way) _ _ _ c.args.world.now c.directions.world c.go_through.new.world turn.place turn.link is.at
+          (none_between (way_of c.args.way) _ _ c.args.world.now c.directions.world c.directions.from turn.place is.from is.before c.directions.invariant.those) c.in_ok-go_through.ensures.ok;
       low = omega (arith, low);
       falls = omega (arith, falls, before);
     }
@@ -30,4 +29,4 @@ returns-clause-ok g c =
     let way = way_of c.args.way in
     let none =
     subst (λ (n : Network). (k m : ℕ) → c.directions.from ≤ k → slice_get (order_of (tree_of n) way) k ≡ Some m → words_on m way (world_of n) ≡ []) c.network.ensures c.in_default.ensures.none in
-    none_after way _ _ (network_of c.args.world.now) (network_of c.directions.world) c.directions.from none c.directions.invariant.those
+    none_after way _ _ c.args.world.now c.directions.world c.directions.from none c.directions.invariant.those

@@ -1,16 +1,15 @@
 use Rattle.std.proofs.Common.{◌-◌, ◌≤◌}
 use Rattle.exb_network.specs.Steps.{way_of}
-use Rattle.exb_schedule.specs.Worlds.{network_of}
 use Rattle.exb_schedule.proofs.Going.{ThoseFrom}
 use Rattle.exb_schedule.proofs.delivery.go_one_way.Given as goal
 
 -- Of the whole the directions from this place on are still to be gone through.
 abbrev pub invariant-directions : goal.invariant-directions
 invariant-directions g l = record {
-  those : ThoseFrom (way_of l.way) ((goal.Fate-dyn g (l.fn.world.fate.vtable, l.fn.world.fate.value)).left l.fn.world.fate.value)
-      ((goal.Fate-dyn g (l.world.fate.vtable, l.world.fate.value)).left l.world.fate.value) (network_of l.fn.world) (network_of l.world) l.from;
+  those : ThoseFrom (way_of l.way) ((goal.Fate-dyn g l.fn.fate.now).left l.fn.fate.now.1)
+      ((goal.Fate-dyn g l.fate.now).left l.fate.now.1) l.fn.world l.world l.from;
   low : l.from ≤ 64;
-  falls : (goal.Fate-dyn g (l.world.fate.vtable, l.world.fate.value)).left l.world.fate.value ≤ (goal.Fate-dyn g (l.fn.world.fate.vtable, l.fn.world.fate.value)).left l.fn.world.fate.value;
+  falls : (goal.Fate-dyn g l.fate.now).left l.fate.now.1 ≤ (goal.Fate-dyn g l.fn.fate.now).left l.fn.fate.now.1;
 }
 
 abbrev pub decreases-directions : goal.decreases-directions

@@ -1,13 +1,12 @@
 use Rattle.std.proofs.Common.{arith}
 use Rattle.exb_network.specs.Steps.{way_of}
-use Rattle.exb_schedule.specs.Worlds.{network_of}
 use Rattle.exb_schedule.proofs.Passing.{there_still, through_first, through_last}
 use Rattle.exb_schedule.proofs.delivery.go_through.Goals as goal
 
 pub words-init : goal.words-init
 words-init g c =
     record {
-      whole = through_first c.args.link (way_of c.args.way) _ (network_of c.args.world.now) _ _ c.counts-counts.ensures.frames c.counts-counts.ensures.control;
+      whole = through_first c.args.link (way_of c.args.way) _ c.args.world.now _ _ c.counts-counts.ensures.frames c.counts-counts.ensures.control;
       low = omega arith;
       falls = omega arith;
     }

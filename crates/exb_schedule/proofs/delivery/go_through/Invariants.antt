@@ -3,17 +3,16 @@ use Rattle.exb_machine.specs.Settling.{direction}
 use Rattle.exb_network.specs.Networks.{world_of, tree_of, bounds_of}
 use Rattle.exb_network.specs.Steps.{way_of}
 use Rattle.exb_schedule.specs.Rounds.{goes_along, GoesThrough}
-use Rattle.exb_schedule.specs.Worlds.{network_of}
 use Rattle.exb_schedule.proofs.delivery.go_through.Given as goal
 
 -- Of the whole the words that are left are still to be looked at.
 abbrev pub invariant-words : goal.invariant-words
 invariant-words g l = record {
-  whole : GoesThrough l.link (way_of l.way) (goes_along (tree_of (network_of l.fn.world)) (bounds_of (network_of l.fn.world)) (direction (way_of l.way) l.link) (world_of (network_of l.fn.world)))
-      ((goal.Fate-dyn g (l.fn.world.fate.vtable, l.fn.world.fate.value)).left l.fn.world.fate.value) ((goal.Fate-dyn g (l.world.fate.vtable, l.world.fate.value)).left l.world.fate.value)
-      (network_of l.fn.world) (network_of l.world) l.rest;
+  whole : GoesThrough l.link (way_of l.way) (goes_along (tree_of l.fn.world) (bounds_of l.fn.world) (direction (way_of l.way) l.link) (world_of l.fn.world))
+      ((goal.Fate-dyn g l.fn.fate.now).left l.fn.fate.now.1) ((goal.Fate-dyn g l.fate.now).left l.fate.now.1)
+      l.fn.world l.world l.rest;
   low : l.rest.place + l.rest.control < 2 ^ 64;
-  falls : (goal.Fate-dyn g (l.world.fate.vtable, l.world.fate.value)).left l.world.fate.value ≤ (goal.Fate-dyn g (l.fn.world.fate.vtable, l.fn.world.fate.value)).left l.fn.world.fate.value;
+  falls : (goal.Fate-dyn g l.fate.now).left l.fate.now.1 ≤ (goal.Fate-dyn g l.fn.fate.now).left l.fn.fate.now.1;
 }
 
 abbrev pub decreases-words : goal.decreases-words

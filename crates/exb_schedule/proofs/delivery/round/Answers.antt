@@ -1,6 +1,5 @@
 use Rattle.std.proofs.Common.{arith}
 use Rattle.exb_bridge.proofs.Coming.{on_ok_two}
-use Rattle.exb_schedule.specs.Worlds.{network_of}
 use Rattle.exb_schedule.proofs.Going.{has_round}
 use Rattle.exb_schedule.proofs.delivery.round.Goals as goal
 
@@ -8,6 +7,6 @@ pub returns-clause-ok : goal.returns-clause-ok
 returns-clause-ok g c =
     on_ok_two c.step.result
     (λ made may.
-    has_round _ _ _ _ (network_of c.args.world.now) (network_of c.go_one_way.new.world) (network_of c.go_one_way-2.new.world) c.step.new.self c.in_ok-go_one_way.ensures.ok c.in_ok-go_one_way-2.ensures.ok made may
+    has_round _ _ _ _ c.args.world.now c.go_one_way.new.world c.go_one_way-2.new.world c.step.new.self c.in_ok-go_one_way.ensures.ok c.in_ok-go_one_way-2.ensures.ok made may
     (omega arith))
     c.step.ensures.ok c.step.ensures.may

@@ -1,10 +1,9 @@
 use Rattle.exb_machine.specs.Worlds.{Control}
 use Rattle.exb_network.specs.Steps.{way_of}
 use Rattle.exb_bridge.proofs.Coming.{on_ok_two}
-use Rattle.exb_schedule.specs.Worlds.{network_of}
 use Rattle.exb_schedule.proofs.Drawing.{keeps_by}
 use Rattle.exb_schedule.proofs.drawn.deliver_at.Goals as goal
 
 pub returns-clause-ok : goal.returns-clause-ok
-returns-clause-ok g c =
-    on_ok_two c.step.result (λ made may. keeps_by _ (Control c.args.link (way_of c.args.way) c.args.place c.args.keep) (network_of c.args.world.now) c.step.new.self c.deliver-2.ensures tt made may) c.step.ensures.ok c.step.ensures.may
+returns-clause-ok c =
+    on_ok_two c.step.result (λ made may. keeps_by _ (Control c.args.link (way_of c.args.way) c.args.place c.args.keep) c.args.world.now c.step.new.self c.deliver-2.ensures tt made may) c.step.ensures.ok c.step.ensures.may

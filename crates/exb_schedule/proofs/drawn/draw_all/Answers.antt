@@ -1,5 +1,4 @@
 use Rattle.std.proofs.Common.{refl, arith}
-use Rattle.exb_schedule.specs.Worlds.{network_of}
 use Rattle.exb_schedule.proofs.drawn.draw_all.Goals as goal
 
 pub draws-init : goal.draws-init
@@ -9,7 +8,7 @@ pub draws-preserved : goal.draws-preserved
 draws-preserved g c =
     let before = c.draws.invariant.few in
     let fate = c.in_ok-draw.ensures.fate in
-    record { on = λ all k. c.in_ok-draw.ensures.ok all (network_of c.args.world.now) (c.draws.invariant.on all k); few = omega (arith, before, fate); failed = (let r = c.requires.drawn in (c.in_ok-draw.ensures.ok r.0 (network_of c.args.world.now) (c.draws.invariant.on r.0 r.1)).made.moved.same.failed) }
+    record { on = λ all k. c.in_ok-draw.ensures.ok all c.args.world.now (c.draws.invariant.on all k); few = omega (arith, before, fate); failed = (let r = c.requires.drawn in (c.in_ok-draw.ensures.ok r.0 c.args.world.now (c.draws.invariant.on r.0 r.1)).made.moved.same.failed) }
 
 pub draw-requires-clause-whole : goal.draw-requires-clause-whole
 draw-requires-clause-whole g c = (let r = c.requires.drawn in (c.draws.invariant.on r.0 r.1).whole)

@@ -1,17 +1,16 @@
 use Rattle.std.proofs.Common.{◌≡◌, ℕ, ◌+◌, ◌≤◌, drop}
 use Rattle.exb_schedule.specs.Drawing.{HasDrawn}
 use Rattle.exb_schedule.specs.Playing.{letters_in}
-use Rattle.exb_schedule.specs.Worlds.{network_of}
 use Rattle.exb_schedule.proofs.drawn.draw_all.Given as goal
 
 -- Of the segment this was drawn.
 abbrev pub invariant-draws : goal.invariant-draws
 invariant-draws g l = record {
-  on : (all : ℕ) → HasDrawn all l.commands l.arrivals l.fn.rest.seconds l.fn.rest.taken l.fn.rest.given.items (network_of l.fn.world) (network_of l.fn.world)
-      → HasDrawn all l.commands l.arrivals l.rest.seconds l.rest.taken l.rest.given.items (network_of l.fn.world) (network_of l.world);
-  few : (goal.Fate-dyn g (l.world.fate.vtable, l.world.fate.value)).left l.world.fate.value + letters_in (drop l.rest.taken l.commands)
-      ≤ (goal.Fate-dyn g (l.fn.world.fate.vtable, l.fn.world.fate.value)).left l.fn.world.fate.value + letters_in (drop l.fn.rest.taken l.commands);
-  failed : (network_of l.world).failed ≡ (network_of l.fn.world).failed;
+  on : (all : ℕ) → HasDrawn all l.commands l.arrivals l.fn.rest.seconds l.fn.rest.taken l.fn.rest.given.items l.fn.world l.fn.world
+      → HasDrawn all l.commands l.arrivals l.rest.seconds l.rest.taken l.rest.given.items l.fn.world l.world;
+  few : (goal.Fate-dyn g l.fate.now).left l.fate.now.1 + letters_in (drop l.rest.taken l.commands)
+      ≤ (goal.Fate-dyn g l.fn.fate.now).left l.fn.fate.now.1 + letters_in (drop l.fn.rest.taken l.commands);
+  failed : l.world.failed ≡ l.fn.world.failed;
 }
 
 abbrev pub decreases-draws : goal.decreases-draws

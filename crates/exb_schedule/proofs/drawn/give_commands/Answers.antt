@@ -1,6 +1,5 @@
 use Rattle.std.proofs.Common.{◌∙◌, refl, ap, sym, arith, drop}
 use Rattle.exb_schedule.specs.Playing.{letters_in}
-use Rattle.exb_schedule.specs.Worlds.{network_of}
 use Rattle.exb_schedule.proofs.Drawing.{order_can}
 use Rattle.exb_schedule.proofs.drawn.give_commands.Goals as goal
 
@@ -22,7 +21,7 @@ commands-preserved g c =
 pub command-requires-clause-can : goal.command-requires-clause-can
 command-requires-clause-can g c x is =
     let r = c.requires.drawn in
-    order_can r.0 c.args.commands.now c.args.arrivals.now _ _ _ r.1 (network_of c.commands.world) (network_of c.commands.world) (c.commands.invariant.on r.0 r.1 r.2) x c.commands-test.true is
+    order_can r.0 c.args.commands.now c.args.arrivals.now _ _ _ r.1 c.commands.world c.commands.world (c.commands.invariant.on r.0 r.1 r.2) x c.commands-test.true is
 
 pub command-requires-clause-few : goal.command-requires-clause-few
 command-requires-clause-few g c =

@@ -1,17 +1,16 @@
 use Rattle.std.proofs.Common.{◌≡◌, ◌+◌, ◌-◌, ◌≤◌, drop, length}
 use Rattle.exb_schedule.specs.Drawing.{GoesOn}
 use Rattle.exb_schedule.specs.Playing.{letters_in}
-use Rattle.exb_schedule.specs.Worlds.{network_of}
 use Rattle.exb_schedule.proofs.drawn.give_commands.Given as goal
 
 -- Some of them were given.
 abbrev pub invariant-commands : goal.invariant-commands
 invariant-commands g l = record {
-  on : GoesOn l.commands l.arrivals l.fn.rest l.rest (network_of l.fn.world) (network_of l.world);
-  few : (goal.Fate-dyn g (l.world.fate.vtable, l.world.fate.value)).left l.world.fate.value + letters_in (drop l.rest.taken l.commands)
-      ≤ (goal.Fate-dyn g (l.fn.world.fate.vtable, l.fn.world.fate.value)).left l.fn.world.fate.value + letters_in (drop l.fn.rest.taken l.commands);
+  on : GoesOn l.commands l.arrivals l.fn.rest l.rest l.fn.world l.world;
+  few : (goal.Fate-dyn g l.fate.now).left l.fate.now.1 + letters_in (drop l.rest.taken l.commands)
+      ≤ (goal.Fate-dyn g l.fn.fate.now).left l.fn.fate.now.1 + letters_in (drop l.fn.rest.taken l.commands);
   seconds : l.rest.seconds ≡ l.fn.rest.seconds;
-  failed : (network_of l.world).failed ≡ (network_of l.fn.world).failed;
+  failed : l.world.failed ≡ l.fn.world.failed;
 }
 
 abbrev pub decreases-commands : goal.decreases-commands

@@ -4,12 +4,11 @@ use Rattle.exb_machine.specs.Allowing.{Can}
 use Rattle.exb_machine.specs.Worlds.{Arrive}
 use Rattle.exb_network.specs.Networks.{world_of, tree_of}
 use Rattle.exb_model.specs.declared.arrival.Arrival.{Arrival}
-use Rattle.exb_schedule.specs.Worlds.{network_of}
 use Rattle.exb_schedule.proofs.rest.can_come.Goals as goal
 
 pub returns : goal.returns
-returns g c can a is =
-    let now = network_of c.args.world.now in
+returns c can a is =
+    let now = c.args.world.now in
     let same = c.index-arrivals-at.is ∙ (get_or_default c.args.arrivals.now c.args.at c.index-arrivals-at.result a c.requires ∙ sym is) in
     let here = subst (Can (tree_of now) (world_of now)) c.arrive.ensures (c.can.ensures.may can) in
     subst (λ (x : Arrival). Can (tree_of now) (world_of now) (Arrive x)) same here

@@ -1,5 +1,4 @@
 use Rattle.exb_bridge.proofs.Coming.{on_ok_two}
-use Rattle.exb_schedule.specs.Worlds.{network_of}
 use Rattle.exb_schedule.proofs.Segments.{has_ended, stays_settled}
 use Rattle.exb_schedule.proofs.segment.end.Goals as goal
 
@@ -7,11 +6,11 @@ pub returns-clause-ok : goal.returns-clause-ok
 returns-clause-ok g c =
     on_ok_two c.set_mark.result
     (λ made may.
-    has_ended _ (network_of c.args.world.now) (network_of c.settle.new.world) c.set_mark.new.motion c.in_ok-settle.ensures.ok.gone c.in_ok-settle.ensures.settled made may)
+    has_ended _ c.args.world.now c.settle.new.world c.set_mark.new.world c.in_ok-settle.ensures.ok.gone c.in_ok-settle.ensures.settled made may)
     c.set_mark.ensures.ok c.set_mark.ensures.may
 
 pub returns-clause-settled : goal.returns-clause-settled
 returns-clause-settled g c =
     on_ok_two c.set_mark.result
-    (λ made may. stays_settled (network_of c.settle.new.world) c.set_mark.new.motion c.in_ok-settle.ensures.settled made)
+    (λ made may. stays_settled c.settle.new.world c.set_mark.new.world c.in_ok-settle.ensures.settled made)
     c.set_mark.ensures.ok c.set_mark.ensures.may

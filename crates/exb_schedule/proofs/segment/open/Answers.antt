@@ -1,16 +1,12 @@
-use Rattle.std.proofs.Common.{◌∙◌, ap, arith}
+use Rattle.std.proofs.Common.{◌∙◌, ap}
 use Rattle.exb_bridge.specs.Sites.{Site, limits_in}
-use Rattle.exb_schedule.specs.Worlds.{network_of}
 use Rattle.exb_schedule.proofs.Segments.{opened}
 use Rattle.exb_schedule.proofs.segment.open.Goals as goal
-
-pub open_armed-requires : goal.open_armed-requires
-open_armed-requires g c = omega (arith, c.requires.few, c.in_ok-world.ensures.fate)
 
 pub returns-in-Ok-clause-plays : goal.returns-in-Ok-clause-plays
 returns-in-Ok-clause-plays g c = λ m i is.
     let first = c.in_ok-world.ensures in
-    opened m i c.args.setup.now (network_of c.in_ok-world.world) (network_of c.open_armed.new.world) is c.requires.valid c.new.ensures.vids first.world first.tree first.limits first.quiet c.in-Ok.ensures.ended
+    opened m i c.args.setup.now c.in_ok-world.world c.open_armed.new.world is c.requires.valid c.new.ensures.vids first.world first.tree first.limits first.quiet c.in-Ok.ensures.ended
 
 pub returns-in-Ok-clause-settled : goal.returns-in-Ok-clause-settled
 returns-in-Ok-clause-settled g c = c.in-Ok.ensures.settled
@@ -26,6 +22,3 @@ returns-in-Ok-clause-awake g c = c.in-Ok.ensures.ended.made.moved.same.failed �
 
 pub returns-in-Ok-clause-tracing : goal.returns-in-Ok-clause-tracing
 returns-in-Ok-clause-tracing g c = c.in-Ok.ensures.ended.made.moved.same.tracing ∙ c.in_ok-world.ensures.tracing
-
-pub returns-in-Ok-clause-fate : goal.returns-in-Ok-clause-fate
-returns-in-Ok-clause-fate g c = omega (arith, c.in-Ok.ensures.fate, c.in_ok-world.ensures.fate)

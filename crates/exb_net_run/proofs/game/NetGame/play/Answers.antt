@@ -18,7 +18,7 @@ pub open-requires : goal.open-requires
 open-requires g c =
     let t = c.requires.begins in
     record {
-      few = within_few (λ x. (goal.Fate-dyn g (x.world.fate.vtable, x.world.fate.value)).left x.world.fate.value) c.args.self.now.net.nodes.items (programmes_in c.args.agenda.now)
+      few = within_few (λ x. (goal.Fate-dyn g (x.fate.vtable, x.fate.value)).left x.fate.value) c.args.self.now.net.nodes.items (programmes_in c.args.agenda.now)
           (let all = t.1.begun.holds.count in let same = t.1.begins.count in omega (arith, all, same)) c.requires.budget;
     }
 
@@ -61,8 +61,8 @@ play_on-requires-clause-going g c =
 pub play_on-requires-clause-budget : goal.play_on-requires-clause-budget
 play_on-requires-clause-budget g c =
     let ok = sym c.is_err.ensures.value ∙ c.if-is_err.false in
-    falls_within (λ x. (goal.Fate-dyn g (x.world.fate.vtable, x.world.fate.value)).left x.world.fate.value) c.open.new.self.nodes.items c.note.new.self.net.nodes.items (programmes_in c.args.agenda.now) c.in_ok-note.ensures.fates
-    (falls_within (λ x. (goal.Fate-dyn g (x.world.fate.vtable, x.world.fate.value)).left x.world.fate.value) c.args.self.now.net.nodes.items c.open.new.self.nodes.items (programmes_in c.args.agenda.now) (when_ok c.open.result ok c.open.ensures.fates)
+    falls_within (λ x. (goal.Fate-dyn g (x.fate.vtable, x.fate.value)).left x.fate.value) c.open.new.self.nodes.items c.note.new.self.net.nodes.items (programmes_in c.args.agenda.now) c.in_ok-note.ensures.fates
+    (falls_within (λ x. (goal.Fate-dyn g (x.fate.vtable, x.fate.value)).left x.fate.value) c.args.self.now.net.nodes.items c.open.new.self.nodes.items (programmes_in c.args.agenda.now) (when_ok c.open.result ok c.open.ensures.fates)
     c.requires.budget)
 
 pub returns-clause-done : goal.returns-clause-done

@@ -70,7 +70,7 @@ turn-requires g c =
                   (c.agendas_stay.ensures.reads (S.ids c.events.shelf) c.events.agenda inv.agenda) c.next_due.ensures.reads order (ap second_of c.moment-second.ensures) c.seconds_since-seconds.ensures,
               (
                 rests-on c.args.rests.now old d ps comes inv.rests,
-                within-paid c.events.self.net.nodes.items (λ x. (goal.Fate-dyn g (x.world.fate.vtable, x.world.fate.value)).left x.world.fate.value) c.args.rests.now old d ps comes inv.rests inv.budget,
+                within-paid c.events.self.net.nodes.items (λ x. (goal.Fate-dyn g (x.fate.vtable, x.fate.value)).left x.fate.value) c.args.rests.now old d ps comes inv.rests inv.budget,
               ),
             ),
           ),
@@ -100,7 +100,7 @@ events-preserved g c =
           (is-due S.tells r (S.file c.events.shelf) (S.file c.next_due.new.shelf) (S.ids c.events.shelf) (S.ids c.next_due.new.shelf) c.events.last c.events.self old d ps c.seconds_since-seconds.result second (inv.going r start) comes
           (c.agendas_stay.ensures.reads (S.ids c.events.shelf) c.events.agenda inv.agenda) c.next_due.ensures.reads order (ap second_of c.moment-second.ensures) c.seconds_since-seconds.ensures) of;
       budget = c.in_ok-turn.ensures.budget ps
-          (within-paid c.events.self.net.nodes.items (λ x. (goal.Fate-dyn g (x.world.fate.vtable, x.world.fate.value)).left x.world.fate.value) c.args.rests.now old d ps comes inv.rests inv.budget);
+          (within-paid c.events.self.net.nodes.items (λ x. (goal.Fate-dyn g (x.fate.vtable, x.fate.value)).left x.fate.value) c.args.rests.now old d ps comes inv.rests inv.budget);
       same = comes.ids ∙ inv.same;
       manifests = c.turn.ensures.manifests ∙ inv.manifests;
       only =

@@ -15,7 +15,7 @@ invariant-events g l =
       agenda : IsAgenda (S.ids l.shelf) l.agenda;
       rests : AreOfRests l.rests (programmes_in l.agenda);
       going : (r : NetRun) → IsGoing S.tells r (S.file l.fn.shelf) (S.ids l.fn.shelf) None l.fn.self (programmes_in l.fn.agenda) → IsGoing S.tells r (S.file l.shelf) (S.ids l.shelf) l.last l.self (programmes_in l.agenda);
-      budget : IsWithin l.self.net.nodes.items (λ x. (goal.Fate-dyn g (x.world.fate.vtable, x.world.fate.value)).left x.world.fate.value) (programmes_in l.agenda);
+      budget : IsWithin l.self.net.nodes.items (λ x. (goal.Fate-dyn g (x.fate.vtable, x.fate.value)).left x.fate.value) (programmes_in l.agenda);
       same : all_ids (programmes_in l.agenda) ≡ all_ids (programmes_in l.fn.agenda);
       manifests : manifests_in l.self.desks.items ≡ manifests_in l.fn.self.desks.items;
       only : OnlyGoesOnAll S.tells (manifests_in l.fn.self.desks.items) (all_ids (programmes_in l.fn.agenda)) (S.file l.fn.shelf) (S.file l.shelf) (S.ids l.fn.shelf) (S.ids l.shelf);

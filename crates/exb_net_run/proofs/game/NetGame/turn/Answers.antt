@@ -48,9 +48,9 @@ give-requires-clause-fates g c =
     let dones = p.going.dones in
     let passes = when_ok c.tick.result ok c.tick.ensures.ok t.0.net dones dones p.going.is.playing in
     let long = nodes-few S.tells t.0 (S.file c.args.shelf.now) (S.ids c.args.shelf.now) c.args.seconds t.1.0 c.args.self.now c.args.due t.1.1.0 p c.args.rests.now t.1.1.1.1.0 c.tick.new.self passes c.seconds_pass.ensures in
-    let paid = falls_paid (λ x. (goal.Fate-dyn g (x.world.fate.vtable, x.world.fate.value)).left x.world.fate.value) c.args.self.now.net.nodes.items c.tick.new.self.nodes.items c.args.rests.now c.args.due t.1.1.0
+    let paid = falls_paid (λ x. (goal.Fate-dyn g (x.fate.vtable, x.fate.value)).left x.fate.value) c.args.self.now.net.nodes.items c.tick.new.self.nodes.items c.args.rests.now c.args.due t.1.1.0
     (when_ok c.tick.result ok c.tick.ensures.fates) t.1.1.1.1.1 in
-    paid_few (λ x. (goal.Fate-dyn g (x.world.fate.vtable, x.world.fate.value)).left x.world.fate.value) c.tick.new.self.nodes.items c.args.rests.now c.args.due t.1.1.0 long paid
+    paid_few (λ x. (goal.Fate-dyn g (x.fate.vtable, x.fate.value)).left x.fate.value) c.tick.new.self.nodes.items c.args.rests.now c.args.due t.1.1.0 long paid
 
 pub give-requires-clause-pays : goal.give-requires-clause-pays
 give-requires-clause-pays g c x is =
@@ -61,9 +61,9 @@ give-requires-clause-pays g c x is =
     let dones = p.going.dones in
     let passes = when_ok c.tick.result ok c.tick.ensures.ok t.0.net dones dones p.going.is.playing in
     let long = nodes-few S.tells t.0 (S.file c.args.shelf.now) (S.ids c.args.shelf.now) c.args.seconds t.1.0 c.args.self.now c.args.due t.1.1.0 p c.args.rests.now t.1.1.1.1.0 c.tick.new.self passes c.seconds_pass.ensures in
-    let paid = falls_paid (λ x. (goal.Fate-dyn g (x.world.fate.vtable, x.world.fate.value)).left x.world.fate.value) c.args.self.now.net.nodes.items c.tick.new.self.nodes.items c.args.rests.now c.args.due t.1.1.0
+    let paid = falls_paid (λ x. (goal.Fate-dyn g (x.fate.vtable, x.fate.value)).left x.fate.value) c.args.self.now.net.nodes.items c.tick.new.self.nodes.items c.args.rests.now c.args.due t.1.1.0
     (when_ok c.tick.result ok c.tick.ensures.fates) t.1.1.1.1.1 in
-    paid_at (λ x. (goal.Fate-dyn g (x.world.fate.vtable, x.world.fate.value)).left x.world.fate.value) c.tick.new.self.nodes.items c.args.rests.now c.args.due t.1.1.0 long paid c.args.due.bridge x is
+    paid_at (λ x. (goal.Fate-dyn g (x.fate.vtable, x.fate.value)).left x.fate.value) c.tick.new.self.nodes.items c.args.rests.now c.args.due t.1.1.0 long paid c.args.due.bridge x is
 
 pub note-requires-clause-ready : goal.note-requires-clause-ready
 note-requires-clause-ready g c = c.requires.due.1.1.1.0.ready
@@ -110,9 +110,9 @@ returns-clause-budget g c =
     (λ get ps paid.
     let ok = sym c.is_err.ensures.value ∙ c.if-is_err.false in
     let given = sym c.is_err-2.ensures.value ∙ c.if-is_err-2.false in
-    falls_within (λ x. (goal.Fate-dyn g (x.world.fate.vtable, x.world.fate.value)).left x.world.fate.value) c.give.new.net.nodes.items c.note.new.self.net.nodes.items ps (get _ c.note.ensures.fates)
-    (given_within (λ x. (goal.Fate-dyn g (x.world.fate.vtable, x.world.fate.value)).left x.world.fate.value) c.tick.new.self.nodes.items c.give.new.net.nodes.items c.args.rests.now c.args.due ps (when_ok c.give.result given c.give.ensures.fates)
-    (falls_paid (λ x. (goal.Fate-dyn g (x.world.fate.vtable, x.world.fate.value)).left x.world.fate.value) c.args.self.now.net.nodes.items c.tick.new.self.nodes.items c.args.rests.now c.args.due ps (when_ok c.tick.result ok c.tick.ensures.fates) paid)))
+    falls_within (λ x. (goal.Fate-dyn g (x.fate.vtable, x.fate.value)).left x.fate.value) c.give.new.net.nodes.items c.note.new.self.net.nodes.items ps (get _ c.note.ensures.fates)
+    (given_within (λ x. (goal.Fate-dyn g (x.fate.vtable, x.fate.value)).left x.fate.value) c.tick.new.self.nodes.items c.give.new.net.nodes.items c.args.rests.now c.args.due ps (when_ok c.give.result given c.give.ensures.fates)
+    (falls_paid (λ x. (goal.Fate-dyn g (x.fate.vtable, x.fate.value)).left x.fate.value) c.args.self.now.net.nodes.items c.tick.new.self.nodes.items c.args.rests.now c.args.due ps (when_ok c.tick.result ok c.tick.ensures.fates) paid)))
 
 pub returns-then-is_err-clause-cut : goal.returns-then-is_err-clause-cut
 returns-then-is_err-clause-cut g c = λ t r second ps p of. cut-noted g.S.Shelf.tells r (g.S.Shelf.file c.args.shelf.now) p.given p.last c.args.self.now p.old t p.going

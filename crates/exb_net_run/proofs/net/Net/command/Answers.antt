@@ -27,5 +27,5 @@ returns-in-Ok-clause-fates g c =
     let nodes = c.args.self.now.nodes.items in
     let i = c.args.bridge in
     let is = at_place nodes i c.index_mut.result.now c.requires.here c.index_mut.ensures.value in
-    each_set (λ b x y. (goal.Fate-dyn g (y.world.fate.vtable, y.world.fate.value)).left y.world.fate.value ≤ (goal.Fate-dyn g (x.world.fate.vtable, x.world.fate.value)).left x.world.fate.value + (if b == i then length c.args.command.now.fate else 0)) nodes i c.index_mut.result.now c.order.new.node is
+    each_set (λ b x y. (goal.Fate-dyn g (y.fate.vtable, y.fate.value)).left y.fate.value ≤ (goal.Fate-dyn g (x.fate.vtable, x.fate.value)).left x.fate.value + (if b == i then length c.args.command.now.fate else 0)) nodes i c.index_mut.result.now c.order.new.node is
     (rw (eq-eqb i i refl) c.order.ensures.fate) (λ k z ne. more _ _)

@@ -3,7 +3,6 @@ use Rattle.exb_model.specs.declared.event.Event.{Event}
 use Rattle.exb_model.specs.Texts.{with_left}
 use Rattle.exb_boxes.specs.declared.log.Left.{Left}
 use Rattle.exb_bridge.specs.Worlds.{all_left}
-use Rattle.exb_schedule.specs.Worlds.{network_of}
 use Rattle.exb_text.specs.Tallies.{counts_of}
 use Rattle.exb_writers.specs.Counts.{CanCount}
 use Rattle.exb_writers.proofs.Counting.{count_events}
@@ -11,7 +10,7 @@ use Rattle.exb_play.proofs.game.Game.note.Goals as goal
 
 pub note-requires : goal.note-requires
 note-requires g c =
-    let n = network_of c.args.self.now.world in
+    let n = c.args.self.now.world in
     let counted = c.args.self.now.counted in
     let count : ℕ = c.count_left.result in
     let same : length (all_left n.log.left) ≡ count = sym (c.count_left.ensures ∙ ap (λ (xs : List Left). length (all_left xs)) c.left.ensures) in
@@ -27,7 +26,7 @@ overflow_cast-count_left g c =
 
 pub returns-clause-tally : goal.returns-clause-tally
 returns-clause-tally g c =
-    let n = network_of c.args.self.now.world in
+    let n = c.args.self.now.world in
     let counts = counts_of c.args.self.now.counted.tally in
     c.note.ensures.tally
     ∙ ap (λ (es : List Event). with_left c.count_left.result (count_events counts es)) c.events.ensures

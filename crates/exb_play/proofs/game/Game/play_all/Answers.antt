@@ -7,7 +7,6 @@ use Rattle.exb_model.specs.Texts.{Counts}
 use Rattle.exb_model.specs.declared.setup.Timed.{Timed}
 use Rattle.exb_merge.specs.Replays.{ids_in, HasPort, standings}
 use Rattle.exb_schedule.specs.Playing.{letters_in}
-use Rattle.exb_schedule.specs.Worlds.{network_of}
 use Rattle.exb_play.specs.Playing.{mode_of}
 use Rattle.exb_inputs.specs.Answers.{fault_of}
 use Rattle.exb_inputs.specs.Shelving.{OnlyReads}
@@ -30,7 +29,7 @@ seconds_since-seconds-requires g c =
     let run = c.requires.playing.0 in
     let got = some_at _ c.in_ok-second.field-0 c.in-Some.second c.in-Some.is c.in_ok-second.ensures.gathered in
     seconds-fit S.tells (mode_of c.args.schedule) run c.args.manifest.now (S.file c.events.shelf) (S.file c.gather.new.shelf) (S.ids c.events.shelf) (S.ids c.gather.new.shelf)
-    (network_of c.events.self.world) c.events.self.counted c.events.self.outputs c.events.last c.events.feed.programme c.in-Some.second c.gather.new.self (c.events.invariant.goes_on run c.requires.playing.1) got c.in_ok-second.ensures.feed.programme
+    c.events.self.world c.events.self.counted c.events.self.outputs c.events.last c.events.feed.programme c.in-Some.second c.gather.new.self (c.events.invariant.goes_on run c.requires.playing.1) got c.in_ok-second.ensures.feed.programme
 
 pub go_on-requires-clause-ready : goal.go_on-requires-clause-ready
 go_on-requires-clause-ready g c =
@@ -47,7 +46,7 @@ go_on-requires-clause-playing g c =
       (
         c.in-Some.second,
         can-go-on S.tells (mode_of c.args.schedule) run c.args.manifest.now (S.file c.events.shelf) (S.file c.gather.new.shelf) (S.ids c.events.shelf) (S.ids c.gather.new.shelf)
-            (network_of c.events.self.world) c.events.self.counted c.events.self.outputs c.events.last c.events.feed.programme _ _ c.in-Some.second c.gather.new.self (c.events.invariant.goes_on run c.requires.playing.1) got c.gather.ensures.reads
+            c.events.self.world c.events.self.counted c.events.self.outputs c.events.last c.events.feed.programme _ _ c.in-Some.second c.gather.new.self (c.events.invariant.goes_on run c.requires.playing.1) got c.gather.ensures.reads
             c.events.invariant.taken c.seconds_since-seconds.ensures,
       ),
     )
@@ -73,7 +72,7 @@ events-preserved g c =
       goes_on = λ run start.
           c.in_ok-go_on.ensures.told run c.in-Some.second
           (can-go-on S.tells (mode_of c.args.schedule) run c.args.manifest.now (S.file c.events.shelf) (S.file c.gather.new.shelf) (S.ids c.events.shelf) (S.ids c.gather.new.shelf)
-          (network_of c.events.self.world) c.events.self.counted c.events.self.outputs c.events.last c.events.feed.programme _ _ c.in-Some.second c.gather.new.self (inv.goes_on run start) got c.gather.ensures.reads
+          c.events.self.world c.events.self.counted c.events.self.outputs c.events.last c.events.feed.programme _ _ c.in-Some.second c.gather.new.self (inv.goes_on run start) got c.gather.ensures.reads
           inv.taken c.seconds_since-seconds.ensures);
       taken = c.taken-taken-in-Some.ensures;
       budget = c.in_ok-go_on.ensures.budget;
@@ -103,7 +102,7 @@ pub returns-clause-few : goal.returns-clause-few
 returns-clause-few g c =
     let run = c.requires.playing.0 in
     let p = c.events.invariant.goes_on run c.requires.playing.1 in
-    let few = arrivals-low (mode_of c.args.schedule) run.input p.so_far (network_of c.events.self.world) p.is.told p.is.passed p.is.gone p.is.lines c.runs_are_few.ensures
+    let few = arrivals-low (mode_of c.args.schedule) run.input p.so_far c.events.self.world p.is.told p.is.passed p.is.gone p.is.lines c.runs_are_few.ensures
     (let most = p.next.few_bytes in omega (arith, most)) p.is.played in
     let relayed = ap (λ (x : Counts). x.relayed) p.is.counted.tally in
     let ignored = ap (λ (x : Counts). x.ignored) p.is.counted.tally in
@@ -119,20 +118,20 @@ returns-clause-sent g c =
     let run = c.requires.playing.0 in
     let p = c.events.invariant.goes_on run c.requires.playing.1 in
     counted_of c.args.manifest.now c.events.self.outputs (λ q. left_at q p.is.gone)
-    (sizes-fit (mode_of c.args.schedule) run.input p.so_far (network_of c.events.self.world) p.is.told p.is.passed p.is.gone p.is.lines c.runs_are_few.ensures c.runs_are_under_way.ensures
+    (sizes-fit (mode_of c.args.schedule) run.input p.so_far c.events.self.world p.is.told p.is.passed p.is.gone p.is.lines c.runs_are_few.ensures c.runs_are_under_way.ensures
     (let most = p.next.few_bytes in omega (arith, most)) p.is.played) p.is.sent
 
 pub returns-clause-told : goal.returns-clause-told
 returns-clause-told g c t run start =
     let S = g.S.Shelf in
-    all-played S.tells (mode_of c.args.schedule) run c.args.manifest.now (S.file c.events.shelf) (S.file c.gather.new.shelf) (S.ids c.events.shelf) (network_of c.events.self.world) c.events.self.counted c.events.self.outputs c.events.last
+    all-played S.tells (mode_of c.args.schedule) run c.args.manifest.now (S.file c.events.shelf) (S.file c.gather.new.shelf) (S.ids c.events.shelf) c.events.self.world c.events.self.counted c.events.self.outputs c.events.last
     c.events.feed.programme t (c.events.invariant.goes_on run start) (none_at c.in_ok-second.field-0 c.in_default.is (c.in_ok-second.ensures.end t)) c.gather.ensures.reads.files
     c.runs_are_few.ensures c.runs_are_under_way.ensures
 
 pub returns-clause-kept : goal.returns-clause-kept
 returns-clause-kept g c t run start =
     let S = g.S.Shelf in
-    all-kept S.tells (mode_of c.args.schedule) run c.args.manifest.now (S.file c.events.shelf) (S.ids c.events.shelf) (network_of c.events.self.world) c.events.self.counted c.events.self.outputs c.events.last
+    all-kept S.tells (mode_of c.args.schedule) run c.args.manifest.now (S.file c.events.shelf) (S.ids c.events.shelf) c.events.self.world c.events.self.counted c.events.self.outputs c.events.last
     c.events.feed.programme t (c.events.invariant.goes_on run start) (none_at c.in_ok-second.field-0 c.in_default.is (c.in_ok-second.ensures.end t))
 
 pub returns-in_err-second-clause-cut : goal.returns-in_err-second-clause-cut
@@ -141,7 +140,7 @@ returns-in_err-second-clause-cut g c = λ t.
     rw e.1
     (λ run start.
     let S = g.S.Shelf in
-    cut-reading S.tells (mode_of c.args.schedule) run c.args.manifest.now (S.file c.events.shelf) (S.file c.gather.new.shelf) (S.ids c.events.shelf) (network_of c.events.self.world) c.events.self.counted c.events.self.outputs c.events.last
+    cut-reading S.tells (mode_of c.args.schedule) run c.args.manifest.now (S.file c.events.shelf) (S.file c.gather.new.shelf) (S.ids c.events.shelf) c.events.self.world c.events.self.counted c.events.self.outputs c.events.last
     c.events.feed.programme t (c.events.invariant.goes_on run start) c.gather.ensures.reads.files)
 
 pub returns-in_err-go_on-clause-cut : goal.returns-in_err-go_on-clause-cut
@@ -153,7 +152,7 @@ returns-in_err-go_on-clause-cut g c = λ t.
     let got = some_at _ c.in_ok-second.field-0 c.in-Some.second c.in-Some.is c.in_ok-second.ensures.gathered in
     c.in_err-go_on.ensures.cut t run c.in-Some.second
     (can-go-on S.tells (mode_of c.args.schedule) run c.args.manifest.now (S.file c.events.shelf) (S.file c.gather.new.shelf) (S.ids c.events.shelf) (S.ids c.gather.new.shelf)
-    (network_of c.events.self.world) c.events.self.counted c.events.self.outputs c.events.last c.events.feed.programme _ _ c.in-Some.second c.gather.new.self (c.events.invariant.goes_on run start) got c.gather.ensures.reads
+    c.events.self.world c.events.self.counted c.events.self.outputs c.events.last c.events.feed.programme _ _ c.in-Some.second c.gather.new.self (c.events.invariant.goes_on run start) got c.gather.ensures.reads
     c.events.invariant.taken c.seconds_since-seconds.ensures))
 
 pub returns-in_err-second-clause-never : goal.returns-in_err-second-clause-never

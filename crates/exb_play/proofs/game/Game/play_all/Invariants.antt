@@ -2,7 +2,6 @@ use Rattle.std.proofs.Common.{◌≡◌, ◌<◌, ◌+◌, ◌^◌, None, drop, 
 use Rattle.exb_merge.specs.Programmes.{left_of}
 use Rattle.exb_merge.specs.Replays.{ids_in, HasPort, standings}
 use Rattle.exb_schedule.specs.Playing.{letters_in}
-use Rattle.exb_schedule.specs.Worlds.{network_of}
 use Rattle.exb_shelf.specs.Shelf.{NoFewer}
 use Rattle.exb_play.specs.Playing.{Run, mode_of}
 use Rattle.exb_play.specs.Shelving.{OnlyGoesOn}
@@ -17,10 +16,10 @@ invariant-events g l =
     record {
       ready : IsReady l.manifest (S.ids l.shelf) l.self.outputs;
       feed : CanFeed (S.ids l.shelf) l.feed;
-      goes_on : (run : Run) → IsPlaying S.tells m run l.manifest (S.file l.fn.shelf) (S.ids l.fn.shelf) (network_of l.fn.self.world) l.fn.self.counted l.fn.self.outputs None l.fn.feed.programme →
-          IsPlaying S.tells m run l.manifest (S.file l.shelf) (S.ids l.shelf) (network_of l.self.world) l.self.counted l.self.outputs l.last l.feed.programme;
+      goes_on : (run : Run) → IsPlaying S.tells m run l.manifest (S.file l.fn.shelf) (S.ids l.fn.shelf) l.fn.self.world l.fn.self.counted l.fn.self.outputs None l.fn.feed.programme →
+          IsPlaying S.tells m run l.manifest (S.file l.shelf) (S.ids l.shelf) l.self.world l.self.counted l.self.outputs l.last l.feed.programme;
       taken : l.taken ≡ l.feed.programme.taken;
-      budget : (goal.Fate-dyn g (l.self.world.fate.vtable, l.self.world.fate.value)).left l.self.world.fate.value + letters_in (drop l.feed.programme.taken l.feed.programme.commands.now) < 2 ^ 57;
+      budget : (goal.Fate-dyn g (l.self.fate.vtable, l.self.fate.value)).left l.self.fate.value + letters_in (drop l.feed.programme.taken l.feed.programme.commands.now) < 2 ^ 57;
       same : ids_in l.feed.programme.captures ≡ ids_in l.fn.feed.programme.captures;
       only : OnlyGoesOn S.tells l.manifest (ids_in l.fn.feed.programme.captures) (S.file l.fn.shelf) (S.file l.shelf) (S.ids l.fn.shelf) (S.ids l.shelf);
       ports : (q : ℕ) → HasPort q (standings l.feed.programme.captures) → HasPort q (standings l.fn.feed.programme.captures);

@@ -5,7 +5,6 @@ use Rattle.exb_merge.specs.Replays.{HasPort, standings}
 use Rattle.exb_inputs.proofs.ShelvingLemmas.{counts_from}
 use Rattle.exb_model.specs.History.{◌then◌}
 use Rattle.exb_model.specs.Texts.{summary_line}
-use Rattle.exb_schedule.specs.Worlds.{network_of}
 use Rattle.exb_text.specs.Tallies.{counts_of}
 use Rattle.exb_outputs.specs.Manifests.{output_name, kind_at, output_count}
 use Rattle.exb_writers.specs.Texts.{output_text, text_so_far}
@@ -25,7 +24,7 @@ returns-clause-done g c tells =
     let S = g.S.Shelf in
     let manifest = c.args.manifest.now in
     let m = mode_of c.args.schedule in
-    let n = network_of c.play_all.new.self.world in
+    let n = c.play_all.new.self.world in
     if_ok_both c.end.result (λ line says texts run timely start.
     let i = run.input in
     let all = c.in_ok-play_all.ensures.told tells run start in
@@ -61,7 +60,7 @@ pub returns-clause-cut : goal.returns-clause-cut
 returns-clause-cut g c = λ t. on_err_weaker c.end.result
     (λ cut run start.
     let S = g.S.Shelf in
-    cut_at_end S.tells (mode_of c.args.schedule) run c.args.manifest.now (S.file c.play_all.new.shelf) (S.file c.end.new.shelf) (network_of c.play_all.new.self.world) c.play_all.new.self.counted c.play_all.new.self.outputs t
+    cut_at_end S.tells (mode_of c.args.schedule) run c.args.manifest.now (S.file c.play_all.new.shelf) (S.file c.end.new.shelf) c.play_all.new.self.world c.play_all.new.self.counted c.play_all.new.self.outputs t
     (c.in_ok-play_all.ensures.told t run start).is c.play_all.new.self.counted.ports cut)
     (c.end.ensures.cut t)
 

@@ -3,7 +3,6 @@ use Rattle.std.proofs.lemmas.Result.{err_from_is_err_and, on_err_weaker}
 use Rattle.exb_outputs.proofs.ShelvingLemmas.{fault_counts, fault_no_change, fault_plays, is_writing, writing-port}
 use Rattle.exb_merge.specs.Replays.{HasPort, standings}
 use Rattle.exb_model.specs.Input.{segments}
-use Rattle.exb_schedule.specs.Worlds.{network_of}
 use Rattle.exb_play.specs.Playing.{mode_of}
 use Rattle.exb_writers.specs.Texts.{text_so_far}
 use Rattle.exb_play.specs.UnderWay.{CanFollow}
@@ -23,7 +22,7 @@ use Rattle.exb_play.proofs.game.Game.play_opened.Goals as goal
 
 pub note-requires-clause-frames : goal.note-requires-clause-frames
 note-requires-clause-frames g c =
-    let n = network_of c.args.self.now.world in
+    let n = c.args.self.now.world in
     let i = c.requires.opened.0.input in
     let is = c.requires.opened.1 in
     frames-fit (mode_of c.args.schedule) i c.args.manifest.now [] n n.log.events n.log.passed [] n.log.left n.log.lines c.runs_are_under_way.ensures is.tree c.is_tree.ensures tt is.played
@@ -31,7 +30,7 @@ note-requires-clause-frames g c =
 pub note-requires-clause-can : goal.note-requires-clause-can
 note-requires-clause-can g c =
     let m = mode_of c.args.schedule in
-    let n = network_of c.args.self.now.world in
+    let n = c.args.self.now.world in
     let i = c.requires.opened.0.input in
     let is = c.requires.opened.1 in
     let follows : CanFollow i [] = record { kept = tt; few_arrivals = omega arith; few_commands = omega arith } in
@@ -47,8 +46,8 @@ play_on-requires-clause-playing g c =
     let note = c.in_ok-note.ensures in
     let run = c.requires.opened.0 in (
       run,
-      opened-playing S.tells (mode_of c.args.schedule) run c.args.manifest.now (S.file c.args.shelf.now) (S.ids c.args.shelf.now) (network_of c.args.self.now.world) c.args.self.now.counted c.args.self.now.outputs c.args.feed.now.programme c.requires.opened.1
-          (S.file c.note.new.shelf) (S.ids c.note.new.shelf) (network_of c.note.new.self.world) c.note.new.self.counted c.note.new.self.outputs note.world note.same note.quiet note.tally note.ports note.texts note.sent
+      opened-playing S.tells (mode_of c.args.schedule) run c.args.manifest.now (S.file c.args.shelf.now) (S.ids c.args.shelf.now) c.args.self.now.world c.args.self.now.counted c.args.self.now.outputs c.args.feed.now.programme c.requires.opened.1
+          (S.file c.note.new.shelf) (S.ids c.note.new.shelf) c.note.new.self.world c.note.new.self.counted c.note.new.self.outputs note.world note.same note.quiet note.tally note.ports note.texts note.sent
           note.only.others note.only.kept c.told_by_types.ensures.numbers c.told_by_types.ensures.bytes,
     )
 
@@ -58,8 +57,8 @@ returns-clause-done g c tells = if_ok_map c.play_on.result
     let S = g.S.Shelf in
     let note = c.in_ok-note.ensures in
     played run is.timely
-    (opened-playing S.tells (mode_of c.args.schedule) run c.args.manifest.now (S.file c.args.shelf.now) (S.ids c.args.shelf.now) (network_of c.args.self.now.world) c.args.self.now.counted c.args.self.now.outputs c.args.feed.now.programme is
-    (S.file c.note.new.shelf) (S.ids c.note.new.shelf) (network_of c.note.new.self.world) c.note.new.self.counted c.note.new.self.outputs note.world note.same note.quiet note.tally note.ports note.texts note.sent
+    (opened-playing S.tells (mode_of c.args.schedule) run c.args.manifest.now (S.file c.args.shelf.now) (S.ids c.args.shelf.now) c.args.self.now.world c.args.self.now.counted c.args.self.now.outputs c.args.feed.now.programme is
+    (S.file c.note.new.shelf) (S.ids c.note.new.shelf) c.note.new.self.world c.note.new.self.counted c.note.new.self.outputs note.world note.same note.quiet note.tally note.ports note.texts note.sent
     note.only.others note.only.kept c.told_by_types.ensures.numbers c.told_by_types.ensures.bytes))
     (c.play_on.ensures.done tells)
 
@@ -71,7 +70,7 @@ returns-in_err-note-clause-cut g c = λ t.
     let S = g.S.Shelf in
     let manifest = c.args.manifest.now in
     let m = mode_of c.args.schedule in
-    let n = network_of c.args.self.now.world in
+    let n = c.args.self.now.world in
     cut_amid m run manifest (S.file c.note.new.shelf) [] (segments m run.input) n [] n.log.events n.log.passed [] n.log.left [] n.log.lines is.tree refl is.tracing is.played
     (c.in_err-note.ensures.cut t run.before (text_so_far [] [] [] [])
     (kinds_same manifest run.before (S.file c.args.shelf.now) (pieces_of c.args.self.now.outputs) first_text (text_so_far [] [] [] []) text-first (is.texts t))))
@@ -82,8 +81,8 @@ returns-clause-cut g c = λ t. on_err_weaker c.play_on.result
     let S = g.S.Shelf in
     let note = c.in_ok-note.ensures in
     cut run
-    (opened-playing S.tells (mode_of c.args.schedule) run c.args.manifest.now (S.file c.args.shelf.now) (S.ids c.args.shelf.now) (network_of c.args.self.now.world) c.args.self.now.counted c.args.self.now.outputs c.args.feed.now.programme is
-    (S.file c.note.new.shelf) (S.ids c.note.new.shelf) (network_of c.note.new.self.world) c.note.new.self.counted c.note.new.self.outputs note.world note.same note.quiet note.tally note.ports note.texts note.sent
+    (opened-playing S.tells (mode_of c.args.schedule) run c.args.manifest.now (S.file c.args.shelf.now) (S.ids c.args.shelf.now) c.args.self.now.world c.args.self.now.counted c.args.self.now.outputs c.args.feed.now.programme is
+    (S.file c.note.new.shelf) (S.ids c.note.new.shelf) c.note.new.self.world c.note.new.self.counted c.note.new.self.outputs note.world note.same note.quiet note.tally note.ports note.texts note.sent
     note.only.others note.only.kept c.told_by_types.ensures.numbers c.told_by_types.ensures.bytes))
     (c.play_on.ensures.cut t)
 
@@ -93,8 +92,8 @@ returns-clause-never g c tells = if_err_map c.play_on.result
     let S = g.S.Shelf in
     let note = c.in_ok-note.ensures in
     never change run
-    (opened-playing S.tells (mode_of c.args.schedule) run c.args.manifest.now (S.file c.args.shelf.now) (S.ids c.args.shelf.now) (network_of c.args.self.now.world) c.args.self.now.counted c.args.self.now.outputs c.args.feed.now.programme is
-    (S.file c.note.new.shelf) (S.ids c.note.new.shelf) (network_of c.note.new.self.world) c.note.new.self.counted c.note.new.self.outputs note.world note.same note.quiet note.tally note.ports note.texts note.sent
+    (opened-playing S.tells (mode_of c.args.schedule) run c.args.manifest.now (S.file c.args.shelf.now) (S.ids c.args.shelf.now) c.args.self.now.world c.args.self.now.counted c.args.self.now.outputs c.args.feed.now.programme is
+    (S.file c.note.new.shelf) (S.ids c.note.new.shelf) c.note.new.self.world c.note.new.self.counted c.note.new.self.outputs note.world note.same note.quiet note.tally note.ports note.texts note.sent
     note.only.others note.only.kept c.told_by_types.ensures.numbers c.told_by_types.ensures.bytes))
     (c.play_on.ensures.never tells)
 

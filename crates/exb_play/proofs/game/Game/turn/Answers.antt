@@ -4,7 +4,6 @@ use Rattle.std.proofs.lemmas.Result.{on_err_weaker}
 use Rattle.exb_legal.specs.Spelled.{HasBytes}
 use Rattle.exb_legal.specs.TextLaws.{IsOfNumbers}
 use Rattle.exb_bridge.specs.Worlds.{all_left}
-use Rattle.exb_schedule.specs.Worlds.{network_of}
 use Rattle.exb_play.specs.Playing.{mode_of}
 use Rattle.exb_writers.specs.Texts.{text_so_far}
 use Rattle.exb_outputs.specs.Writing.{pieces_of}
@@ -23,12 +22,12 @@ use Rattle.exb_play.proofs.game.Game.turn.Goals as goal
 pub note-requires-clause-frames : goal.note-requires-clause-frames
 note-requires-clause-frames g c =
     let m = mode_of c.args.schedule in
-    let n = network_of c.args.self.now.world in
+    let n = c.args.self.now.world in
     let i = c.requires.playable.0.input in
     let can = c.requires.playable.1 in
     let is = can.is in
     let ok = sym c.is_err.ensures.value ∙ c.if-is_err.false in
-    let v = network_of c.play_segment.new.world in
+    let v = c.play_segment.new.world in
     let after = when_ok c.play_segment.result ok c.play_segment.ensures.plays i can.so_far can.next is.told is.passed is.gone is.lines can.segment (quiet-played m i can.so_far n is.told is.passed is.gone is.lines is.quiet is.played) in
     frames-fit m i c.args.manifest.now (can.so_far ++ can.next ∷ []) v (is.told ++ v.log.events) (is.passed ++ v.log.passed) is.gone v.log.left (is.lines ++ v.log.lines)
     c.runs_are_under_way.ensures is.tree c.is_tree.ensures can.follows.kept after
@@ -36,12 +35,12 @@ note-requires-clause-frames g c =
 pub note-requires-clause-can : goal.note-requires-clause-can
 note-requires-clause-can g c =
     let m = mode_of c.args.schedule in
-    let n = network_of c.args.self.now.world in
+    let n = c.args.self.now.world in
     let i = c.requires.playable.0.input in
     let can = c.requires.playable.1 in
     let is = can.is in
     let ok = sym c.is_err.ensures.value ∙ c.if-is_err.false in
-    let v = network_of c.play_segment.new.world in
+    let v = c.play_segment.new.world in
     let after = when_ok c.play_segment.result ok c.play_segment.ensures.plays i can.so_far can.next is.told is.passed is.gone is.lines can.segment (quiet-played m i can.so_far n is.told is.passed is.gone is.lines is.quiet is.played) in
     can-count m i c.args.manifest.now (can.so_far ++ can.next ∷ []) v c.args.self.now.counted is.told v.log.events is.passed v.log.passed is.gone v.log.left (is.lines ++ v.log.lines)
     c.steps_tell_passed.ensures c.runs_are_few.ensures can.follows after is.counted (played_together c.steps_tell_passed.ensures m i can.so_far n is.told is.passed is.gone is.lines is.played)
@@ -50,10 +49,10 @@ pub returns-clause-told : goal.returns-clause-told
 returns-clause-told g c = on_ok_by c.note.result (λ get run so_far s segment is.
     let S = g.S.Shelf in
     let m = mode_of c.args.schedule in
-    let n = network_of c.args.self.now.world in
+    let n = c.args.self.now.world in
     let manifest = c.args.manifest.now in
     let ok = sym c.is_err.ensures.value ∙ c.if-is_err.false in
-    let v = network_of c.play_segment.new.world in
+    let v = c.play_segment.new.world in
     let more = v.log.events in
     let left = v.log.left in
     let new = v.log.lines in
@@ -64,7 +63,7 @@ returns-clause-told g c = on_ok_by c.note.result (λ get run so_far s segment is
       passed = is.passed ++ v.log.passed;
       gone = is.gone ++ all_left left;
       lines = is.lines ++ new;
-      played = cleared-played m run.input (so_far ++ s ∷ []) v (network_of c.note.new.self.world) (is.told ++ more) (is.passed ++ v.log.passed) (is.gone ++ all_left left) (is.lines ++ new)
+      played = cleared-played m run.input (so_far ++ s ∷ []) v c.note.new.self.world (is.told ++ more) (is.passed ++ v.log.passed) (is.gone ++ all_left left) (is.lines ++ new)
           (get _ c.note.ensures.world) (get _ c.note.ensures.same) after;
       tracing = (get _ c.note.ensures.same).tracing ∙ (when_ok c.play_segment.result ok c.play_segment.ensures.same).tracing ∙ is.tracing;
       numbers = All-append IsOfNumbers is.told more is.numbers c.told_by_types.ensures.numbers;
@@ -81,16 +80,16 @@ returns-clause-told g c = on_ok_by c.note.result (λ get run so_far s segment is
 
 pub returns-then-is_err-clause-cut : goal.returns-then-is_err-clause-cut
 returns-then-is_err-clause-cut g c = λ t run so_far rest s segments_are segment is.
-    cut_before g.S.Shelf.tells (mode_of c.args.schedule) run c.args.manifest.now (g.S.Shelf.file c.args.shelf.now) (network_of c.args.self.now.world) c.args.self.now.counted c.args.self.now.outputs so_far (s ∷ rest) t is segments_are
+    cut_before g.S.Shelf.tells (mode_of c.args.schedule) run c.args.manifest.now (g.S.Shelf.file c.args.shelf.now) c.args.self.now.world c.args.self.now.counted c.args.self.now.outputs so_far (s ∷ rest) t is segments_are
 
 pub returns-clause-cut : goal.returns-clause-cut
 returns-clause-cut g c = λ t. on_err_weaker c.note.result
     (λ cut run so_far rest s segments_are segment is.
     let m = mode_of c.args.schedule in
-    let n = network_of c.args.self.now.world in
+    let n = c.args.self.now.world in
     let manifest = c.args.manifest.now in
     let ok = sym c.is_err.ensures.value ∙ c.if-is_err.false in
-    let v = network_of c.play_segment.new.world in
+    let v = c.play_segment.new.world in
     let after = when_ok c.play_segment.result ok c.play_segment.ensures.plays run.input so_far s is.told is.passed is.gone is.lines segment (quiet-played m run.input so_far n is.told is.passed is.gone is.lines is.quiet is.played) in
     cut_amid m run manifest (g.S.Shelf.file c.note.new.shelf) (so_far ++ s ∷ []) rest v is.told v.log.events (is.passed ++ v.log.passed) is.gone v.log.left is.lines v.log.lines is.tree
     (segments_are ∙ sym (append_assoc so_far (s ∷ []) rest)) ((when_ok c.play_segment.result ok c.play_segment.ensures.same).tracing ∙ is.tracing) after (cut run.before (text_so_far is.told is.gone is.lines []) (is.texts t)))
