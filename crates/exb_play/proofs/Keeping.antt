@@ -1,5 +1,5 @@
 -- What stays of a run under way, while captures are read and outputs are written.
-use Rattle.std.proofs.Common.{◌≡◌, ℕ, ◌-◌, List, refl, sym, subst, ◌∙◌}
+use Rattle.std.proofs.Common.{◌≡◌, ℕ, List, refl, sym, subst, ◌∙◌}
 use Rattle.std.specs.Prelude.{Option}
 use Rattle.exb_model.specs.Input.{Input, Segment, Mode}
 use Rattle.exb_merge.specs.declared.programme.Programme.{Programme}

@@ -1,5 +1,5 @@
 -- Counts by port of a run so far: all of them fit.
-use Rattle.std.proofs.Common.{ℕ, ◌+◌, ◌^◌, ◌<◌, ◌≤◌, Bool, List, ◌++◌, length, ap, sym, subst, arith}
+use Rattle.std.proofs.Common.{ℕ, ◌^◌, ◌<◌, ◌≤◌, Bool, List, ◌++◌, length, ap, sym, subst, arith}
 use Rattle.exb_model.specs.declared.event.Event.{Event}
 use Rattle.exb_model.specs.Input.{Input, Mode, Segment}
 use Rattle.exb_model.specs.Traces.{TraceLine}

@@ -1,4 +1,4 @@
-use Rattle.std.proofs.Common.{◌∙◌, ap, arith}
+use Rattle.std.proofs.Common.{◌∙◌, ap}
 use Rattle.std.proofs.lemmas.Result.{on_err_weaker}
 use Rattle.exb_play.proofs.Parts.{begun-so-far, ended-so-far}
 use Rattle.exb_words.specs.declared.asked.Options.{Options}
@@ -19,12 +19,6 @@ play_world-requires-clause-opened g c =
       begins-opened S.tells m run c.args.script.now.setup.now c.args.manifest.now (S.file c.args.shelf.now) (S.ids c.args.shelf.now) c.in-Ok-open.world c.args.outputs c.args.feed.now.programme c.requires.begins.1
           c.requires.tree (c.in-Ok-open.ensures.plays m) (c.in-Ok-open.ensures.tracing ∙ ap (λ (o : Options). o.trace) c.options.ensures) c.in-Ok.counted c.in-Ok.ensures,
     )
-
-pub play_world-requires-clause-budget : goal.play_world-requires-clause-budget
-play_world-requires-clause-budget g c =
-    let spent = c.in-Ok-open.ensures.fate in
-    let low = c.requires.budget in
-    omega (arith, spent, low)
 
 pub returns-clause-done : goal.returns-clause-done
 returns-clause-done g c tells =
