@@ -18,4 +18,3 @@ pub mod UnderWay
 pub mod Shelving
 pub mod Setting
 pub mod Reopening
-pub mod Fates

@@ -18,7 +18,6 @@ ghost use Rattle.exb_net_run.specs.Desks.{AllGoTogether, AreAllFronts, AreMore, 
 ghost use Rattle.exb_net_run.specs.Shelving.{AreOthersAll, IsNetChange, IsOfCaptures, OnlyGoesOnAll};
 ghost use Rattle.exb_net_run.specs.Summing.{added};
 ghost use Rattle.exb_net_run.specs.UnderWay.{AreOfRests, CanBegin, CanGive, HasWritten, IsAllTold, IsCutOff, IsDue, IsGoing, IsPaid, IsWithin, NetRun, came_by, letters_at};
-ghost use Rattle.exb_net_run.specs.Fates.{fate_in};
 
 use crate::Net;
 use crate::desk::{Desk, Room, add, finish, note};
@@ -102,11 +101,11 @@ fn give(
     buffer: &mut Vec<u8>,
 ) -> Result<(), WorldFault>
     requires can { (n : Wired) × ((s : Dones) × ((told : Dones) × CanGive n s told rests.now due net.old)) }
-    requires fates { All (λ x. left (fate_in x) < 2 ^ 57) net.old.nodes.items }
-    requires pays { (x : _) → slice_get net.old.nodes.items due.bridge ≡ Some x → left (fate_in x) + letters_at rests.now due due.bridge < 2 ^ 57 }
+    requires fates { All (λ x. left x.fate < 2 ^ 57) net.old.nodes.items }
+    requires pays { (x : _) → slice_get net.old.nodes.items due.bridge ≡ Some x → left x.fate + letters_at rests.now due due.bridge < 2 ^ 57 }
     ensures ok { OnOk result ((n : Wired) (s told : Dones) (can : CanGive n s told rests.now due net.old) → Handled n due.bridge can.step s told net.new) }
     ensures came { OnOk result (net.new.came ≡ net.old.came + came_by due.next) }
-    ensures fates { OnOk result (AreEach (λ b x y. left (fate_in y) ≤ left (fate_in x) + letters_at rests.now due b) net.old.nodes.items net.new.nodes.items) }
+    ensures fates { OnOk result (AreEach (λ b x y. left y.fate ≤ left x.fate + letters_at rests.now due b) net.old.nodes.items net.new.nodes.items) }
 {
     let bridge = due.bridge;
     match due.next {
@@ -197,7 +196,7 @@ impl NetGame {
             → AreNoted S.tells (S.file shelf.old) self.old.desks.items told → AreAllFronts (manifests_in self.old.desks.items) (S.file shelf.new) dones) }
         ensures playing { OnOk result ((n : Wired) (s told : Dones) → IsPlaying n s told self.old.net → IsPlaying n s s self.new.net) }
         ensures came { OnOk result (self.new.net.came ≡ self.old.net.came) }
-        ensures fates { OnOk result (AreEach (λ b x y. left (fate_in y) ≤ left (fate_in x)) self.old.net.nodes.items self.new.net.nodes.items) }
+        ensures fates { OnOk result (AreEach (λ b x y. left y.fate ≤ left x.fate) self.old.net.nodes.items self.new.net.nodes.items) }
         ensures only { OnlyWritesAll S.tells (manifests_in self.old.desks.items) (S.file shelf.old) (S.file shelf.new) (S.ids shelf.old) (S.ids shelf.new) }
         ensures faults { CountsWrites result (S.faults shelf.old) (S.faults shelf.new) }
     {
@@ -215,11 +214,11 @@ impl NetGame {
         due: NetNext,
         buffer: &mut Vec<u8>,
     ) -> Result<(), ShelfFault>
-        requires due { (r : NetRun) × ((second : ℕ) × ((ps : List Programme) × (IsDue S.tells r (S.file shelf.old) (S.ids shelf.old) seconds second self.old due ps × (AreOfRests rests.now ps × IsPaid self.old.net.nodes.items (λ x. left (fate_in x)) rests.now due ps)))) }
+        requires due { (r : NetRun) × ((second : ℕ) × ((ps : List Programme) × (IsDue S.tells r (S.file shelf.old) (S.ids shelf.old) seconds second self.old due ps × (AreOfRests rests.now ps × IsPaid self.old.net.nodes.items (λ x. left x.fate) rests.now due ps)))) }
         ensures manifests { manifests_in self.new.desks.items ≡ manifests_in self.old.desks.items }
         ensures told { OnOk result ((r : NetRun) (second : ℕ) (ps : List Programme) → IsDue S.tells r (S.file shelf.old) (S.ids shelf.old) seconds second self.old due ps → AreOfRests rests.now ps
             → IsGoing S.tells r (S.file shelf.new) (S.ids shelf.new) (Some second) self.new ps) }
-        ensures budget { OnOk result ((ps : List Programme) → IsPaid self.old.net.nodes.items (λ x. left (fate_in x)) rests.now due ps → IsWithin self.new.net.nodes.items (λ x. left (fate_in x)) ps) }
+        ensures budget { OnOk result ((ps : List Programme) → IsPaid self.old.net.nodes.items (λ x. left x.fate) rests.now due ps → IsWithin self.new.net.nodes.items (λ x. left x.fate) ps) }
         ensures cut { S.tells → OnErr result ((r : NetRun) (second : ℕ) (ps : List Programme) → IsDue S.tells r (S.file shelf.old) (S.ids shelf.old) seconds second self.old due ps → AreOfRests rests.now ps
             → IsCutOff r (S.file shelf.new)) }
         ensures only { OnlyWritesAll S.tells (manifests_in self.old.desks.items) (S.file shelf.old) (S.file shelf.new) (S.ids shelf.old) (S.ids shelf.new) }
@@ -249,7 +248,7 @@ impl NetGame {
         requires agenda { IsAgenda (S.ids shelf.old) agenda.old }
         requires rests { AreOfRests rests.now (programmes_in agenda.old) }
         requires going { (r : NetRun) × IsGoing S.tells r (S.file shelf.old) (S.ids shelf.old) None self.old (programmes_in agenda.old) }
-        requires budget { IsWithin self.old.net.nodes.items (λ x. left (fate_in x)) (programmes_in agenda.old) }
+        requires budget { IsWithin self.old.net.nodes.items (λ x. left x.fate) (programmes_in agenda.old) }
         ensures manifests { manifests_in self.new.desks.items ≡ manifests_in self.old.desks.items }
         ensures ready { OnOk result (AreReady (S.ids shelf.new) self.new.desks.items) }
         ensures can { OnOk result (CanEndAll self.new.desks.items) }
@@ -303,7 +302,7 @@ impl NetGame {
         requires agenda { IsAgenda (S.ids shelf.old) agenda.old }
         requires rests { AreOfRests rests.now (programmes_in agenda.old) }
         requires going { (r : NetRun) × IsGoing S.tells r (S.file shelf.old) (S.ids shelf.old) None self.old (programmes_in agenda.old) }
-        requires budget { IsWithin self.old.net.nodes.items (λ x. left (fate_in x)) (programmes_in agenda.old) }
+        requires budget { IsWithin self.old.net.nodes.items (λ x. left x.fate) (programmes_in agenda.old) }
         ensures done { S.tells → IfOk result (λ line. (r : NetRun) → IsGoing S.tells r (S.file shelf.old) (S.ids shelf.old) None self.old (programmes_in agenda.old)
             → HasWritten r (S.file shelf.new) (string_bytes line)) }
         ensures says { IfOk result (λ line. IsSummary (string_bytes line)) }
@@ -333,7 +332,7 @@ impl NetGame {
         requires agenda { IsAgenda (S.ids shelf.old) agenda.old }
         requires rests { AreOfRests rests.now (programmes_in agenda.old) }
         requires begins { (r : NetRun) × CanBegin S.tells r (S.file shelf.old) (S.ids shelf.old) self.old (programmes_in agenda.old) }
-        requires budget { IsWithin self.old.net.nodes.items (λ x. left (fate_in x)) (programmes_in agenda.old) }
+        requires budget { IsWithin self.old.net.nodes.items (λ x. left x.fate) (programmes_in agenda.old) }
         ensures done { S.tells → IfOk result (λ line. (r : NetRun) → CanBegin S.tells r (S.file shelf.old) (S.ids shelf.old) self.old (programmes_in agenda.old)
             → HasWritten r (S.file shelf.new) (string_bytes line)) }
         ensures says { IfOk result (λ line. IsSummary (string_bytes line)) }

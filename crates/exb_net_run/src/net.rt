@@ -9,7 +9,6 @@ ghost use Rattle.exb_net_run.specs.Lists.{AreEach};
 ghost use Rattle.exb_net_run.specs.Marks.{AreQuietBut, AreQuietFrom, AreSameBut};
 ghost use Rattle.exb_net_run.specs.Nodes.{HasDone, HasForgotten, HasPassed};
 ghost use Rattle.exb_net_run.specs.Turns.{Turn, IsTurn, HasDelivered, IsComing, Begins, HasPlayed};
-ghost use Rattle.exb_net_run.specs.Fates.{fate_in};
 
 use crate::crossing::Crossing;
 use crate::making::make_all;
@@ -45,9 +44,9 @@ pub struct Net {
 
 /// Opens each bridge: it settles and is marked.
 fn open_all(nodes: &mut Vec<Node>) -> Result<(), WorldFault>
-    requires few { All (λ x. left (fate_in x) < 2 ^ 57) nodes.old.items }
+    requires few { All (λ x. left x.fate < 2 ^ 57) nodes.old.items }
     ensures ok { OnOk result (AreEach (λ b x y. HasDone [] x.world y.world x.ends.items y.ends.items) nodes.old.items nodes.new.items) }
-    ensures fates { OnOk result (AreEach (λ b x y. left (fate_in y) ≤ left (fate_in x)) nodes.old.items nodes.new.items) }
+    ensures fates { OnOk result (AreEach (λ b x y. left y.fate ≤ left x.fate) nodes.old.items nodes.new.items) }
 {
     for node in nodes.iter_mut() {
         open_one(node)?;
@@ -59,7 +58,7 @@ fn open_all(nodes: &mut Vec<Node>) -> Result<(), WorldFault>
 fn pass_all(nodes: &mut Vec<Node>, seconds: u32) -> Result<(), WorldFault>
     requires can { All (λ x. Can (tree_of x.world) (world_of x.world) (Tick seconds)) nodes.old.items }
     ensures ok { OnOk result (AreEach (λ b x y. HasPassed seconds x.world y.world x.ends.items y.ends.items) nodes.old.items nodes.new.items) }
-    ensures fates { OnOk result (AreEach (λ b x y. left (fate_in y) ≤ left (fate_in x)) nodes.old.items nodes.new.items) }
+    ensures fates { OnOk result (AreEach (λ b x y. left y.fate ≤ left x.fate) nodes.old.items nodes.new.items) }
 {
     for node in nodes.iter_mut() {
         let_pass(node, seconds)?;
@@ -71,7 +70,7 @@ fn pass_all(nodes: &mut Vec<Node>, seconds: u32) -> Result<(), WorldFault>
 fn clear_all(nodes: &mut Vec<Node>, touched: Marks)
     requires { AreQuietBut touched nodes.old.items }
     ensures forgotten { AreEach (λ b x y. HasForgotten x.world y.world x.ends.items y.ends.items) nodes.old.items nodes.new.items }
-    ensures fates { AreEach (λ b x y. left (fate_in y) ≤ left (fate_in x)) nodes.old.items nodes.new.items }
+    ensures fates { AreEach (λ b x y. left y.fate ≤ left x.fate) nodes.old.items nodes.new.items }
 {
     let mut from = 0;
     'clearing: while let Some(bridge) = touched.first_from(from) {
@@ -91,10 +90,10 @@ fn deliver(
     queue: &mut VecDeque<Crossing>,
 ) -> Result<(), NoMemory>
     requires turn { (m : Turn) × ((k : ℕ) × (IsTurn m × (HasDelivered m k nodes.old.items (crossing ∷ queue.old.items) × (k < length m.net.wires)))) }
-    requires few { All (λ x. left (fate_in x) < 2 ^ 57) nodes.old.items }
+    requires few { All (λ x. left x.fate < 2 ^ 57) nodes.old.items }
     ensures ok { OnOk result ((m : Turn) (k : ℕ) → IsTurn m → HasDelivered m k nodes.old.items (crossing ∷ queue.old.items) → k < length m.net.wires → HasDelivered m (k + 1) nodes.new.items queue.new.items) }
     ensures others { (b : ℕ) → b ≢ crossing.to.bridge → slice_get nodes.new.items b ≡ slice_get nodes.old.items b }
-    ensures fates { OnOk result (AreEach (λ b x y. left (fate_in y) ≤ left (fate_in x)) nodes.old.items nodes.new.items) }
+    ensures fates { OnOk result (AreEach (λ b x y. left y.fate ≤ left x.fate) nodes.old.items nodes.new.items) }
 {
     deliveries_end_soon();
     bridges_handle();
@@ -113,11 +112,11 @@ fn deliver_all(
     queue: &mut VecDeque<Crossing>,
 ) -> Result<Marks, NoMemory>
     requires turn { (m : Turn) × (IsTurn m × (HasDelivered m 0 nodes.old.items queue.old.items × (wires ≡ length m.net.wires))) }
-    requires few { All (λ x. left (fate_in x) < 2 ^ 57) nodes.old.items }
+    requires few { All (λ x. left x.fate < 2 ^ 57) nodes.old.items }
     ensures ok { OnOk result ((m : Turn) → IsTurn m → HasDelivered m 0 nodes.old.items queue.old.items → wires ≡ length m.net.wires
         → HasPlayed m.net m.bridge m.arrival m.dones m.told nodes.new.items queue.new.items) }
     ensures others { IfOk result (λ touched. AreSameBut touched nodes.old.items nodes.new.items) }
-    ensures fates { OnOk result (AreEach (λ b x y. left (fate_in y) ≤ left (fate_in x)) nodes.old.items nodes.new.items) }
+    ensures fates { OnOk result (AreEach (λ b x y. left y.fate ≤ left x.fate) nodes.old.items nodes.new.items) }
 {
     deliveries_end_soon();
     let mut touched = Marks::none();
@@ -140,11 +139,11 @@ fn begin(
     arrival: &Arrival,
 ) -> Result<(), NoMemory>
     requires can { (n : Wired) × ((s : Dones) × ((told : Dones) × IsComing n bridge arrival.now s told nodes.old.items queue.old.items)) }
-    requires few { All (λ x. left (fate_in x) < 2 ^ 57) nodes.old.items }
+    requires few { All (λ x. left x.fate < 2 ^ 57) nodes.old.items }
     ensures ok { OnOk result ((n : Wired) (s told : Dones) → IsComing n bridge arrival.now s told nodes.old.items queue.old.items
         → Begins n bridge arrival.now s told nodes.new.items queue.new.items) }
     ensures others { (b : ℕ) → b ≢ bridge → slice_get nodes.new.items b ≡ slice_get nodes.old.items b }
-    ensures fates { OnOk result (AreEach (λ b x y. left (fate_in y) ≤ left (fate_in x)) nodes.old.items nodes.new.items) }
+    ensures fates { OnOk result (AreEach (λ b x y. left y.fate ≤ left x.fate) nodes.old.items nodes.new.items) }
 {
     bridges_handle();
     enter(alloc, &mut nodes[bridge as usize], arrival, queue)
@@ -160,11 +159,11 @@ fn play_arrival(
     arrival: &Arrival,
 ) -> Result<Marks, NoMemory>
     requires can { (n : Wired) × ((s : Dones) × ((told : Dones) × (IsComing n bridge arrival.now s told nodes.old.items queue.old.items × (wires ≡ length n.wires)))) }
-    requires few { All (λ x. left (fate_in x) < 2 ^ 57) nodes.old.items }
+    requires few { All (λ x. left x.fate < 2 ^ 57) nodes.old.items }
     ensures ok { OnOk result ((n : Wired) (s told : Dones) → IsComing n bridge arrival.now s told nodes.old.items queue.old.items → wires ≡ length n.wires
         → HasPlayed n bridge arrival.now s told nodes.new.items queue.new.items) }
     ensures others { IfOk result (λ touched. AreSameBut touched nodes.old.items nodes.new.items) }
-    ensures fates { OnOk result (AreEach (λ b x y. left (fate_in y) ≤ left (fate_in x)) nodes.old.items nodes.new.items) }
+    ensures fates { OnOk result (AreEach (λ b x y. left y.fate ≤ left x.fate) nodes.old.items nodes.new.items) }
 {
     begin(alloc, nodes, queue, bridge, arrival)?;
     let mut touched = deliver_all(alloc, nodes, wires, queue)?;
@@ -207,12 +206,12 @@ impl Net {
     /// Opens all bridges: the extenders of each are heard and opened, and each of its ports goes up, or is refused that; settled and
     /// marked.
     pub fn open(&mut self) -> Result<(), WorldFault>
-        requires few { All (λ x. left (fate_in x) < 2 ^ 57) self.old.nodes.items }
+        requires few { All (λ x. left x.fate < 2 ^ 57) self.old.nodes.items }
         ensures ok { OnOk result ((n : Wired) → IsBegun n self.old → Opens n self.new) }
         ensures failed { (result ≡ Err WorldFault.Failed) ↔ (self.old.failed ≡ true) }
         ensures memory { OnErr result (self.new.failed ≡ true) }
         ensures came { OnOk result (self.new.came ≡ self.old.came) }
-        ensures fates { OnOk result (AreEach (λ b x y. left (fate_in y) ≤ left (fate_in x)) self.old.nodes.items self.new.nodes.items) }
+        ensures fates { OnOk result (AreEach (λ b x y. left y.fate ≤ left x.fate) self.old.nodes.items self.new.nodes.items) }
     {
         opened_nets_run();
         if self.failed {
@@ -236,7 +235,7 @@ impl Net {
         ensures failed { (result ≡ Err WorldFault.Failed) ↔ (self.old.failed ≡ true) }
         ensures memory { OnErr result (self.new.failed ≡ true) }
         ensures came { OnOk result (self.new.came ≡ self.old.came) }
-        ensures fates { OnOk result (AreEach (λ b x y. left (fate_in y) ≤ left (fate_in x)) self.old.nodes.items self.new.nodes.items) }
+        ensures fates { OnOk result (AreEach (λ b x y. left y.fate ≤ left x.fate) self.old.nodes.items self.new.nodes.items) }
     {
         seconds_pass();
         if self.failed {
@@ -262,12 +261,12 @@ impl Net {
         requires here { bridge < length self.old.nodes.items }
         requires can { (x : _) → slice_get self.old.nodes.items bridge ≡ Some x → Can (tree_of x.world) (world_of x.world) (Arrive arrival.now) }
         requires few { self.old.came < 2 ^ 62 }
-        requires fates { All (λ x. left (fate_in x) < 2 ^ 57) self.old.nodes.items }
+        requires fates { All (λ x. left x.fate < 2 ^ 57) self.old.nodes.items }
         ensures ok { OnOk result ((n : Wired) (s told : Dones) → IsPlaying n s told self.old → is_wired n.wires bridge arrival.now.port ≡ false → Handled n bridge (Arrive arrival.now) s told self.new) }
         ensures failed { (result ≡ Err WorldFault.Failed) ↔ (self.old.failed ≡ true) }
         ensures memory { OnErr result (self.new.failed ≡ true) }
         ensures came { OnOk result (self.new.came ≡ self.old.came + 1) }
-        ensures fates { OnOk result (AreEach (λ b x y. left (fate_in y) ≤ left (fate_in x)) self.old.nodes.items self.new.nodes.items) }
+        ensures fates { OnOk result (AreEach (λ b x y. left y.fate ≤ left x.fate) self.old.nodes.items self.new.nodes.items) }
     {
         if self.failed {
             return Err(WorldFault::Failed);
@@ -293,12 +292,12 @@ impl Net {
         requires opened { IsOpen self.old }
         requires here { bridge < length self.old.nodes.items }
         requires can { (x : _) → slice_get self.old.nodes.items bridge ≡ Some x → Can (tree_of x.world) (world_of x.world) (Order command.now.command) }
-        requires fate { (x : _) → slice_get self.old.nodes.items bridge ≡ Some x → left (fate_in x) + length command.now.fate < 2 ^ 57 }
+        requires fate { (x : _) → slice_get self.old.nodes.items bridge ≡ Some x → left x.fate + length command.now.fate < 2 ^ 57 }
         ensures ok { OnOk result ((n : Wired) (s told : Dones) → IsPlaying n s told self.old → Handled n bridge (Order command.now.command) s told self.new) }
         ensures failed { (result ≡ Err WorldFault.Failed) ↔ (self.old.failed ≡ true) }
         ensures memory { OnErr result (self.new.failed ≡ true) }
         ensures came { OnOk result (self.new.came ≡ self.old.came) }
-        ensures fates { OnOk result (AreEach (λ b x y. left (fate_in y) ≤ left (fate_in x) + (if b == bridge then length command.now.fate else 0)) self.old.nodes.items self.new.nodes.items) }
+        ensures fates { OnOk result (AreEach (λ b x y. left y.fate ≤ left x.fate + (if b == bridge then length command.now.fate else 0)) self.old.nodes.items self.new.nodes.items) }
     {
         bridges_handle();
         if self.failed {
@@ -343,7 +342,7 @@ impl Net {
         ensures ok { (n : Wired) (s told : Dones) → IsPlaying n s told self.old → IsPlaying n s s self.new }
         ensures failed { self.new.failed ≡ self.old.failed }
         ensures came { self.new.came ≡ self.old.came }
-        ensures fates { AreEach (λ b x y. left (fate_in y) ≤ left (fate_in x)) self.old.nodes.items self.new.nodes.items }
+        ensures fates { AreEach (λ b x y. left y.fate ≤ left x.fate) self.old.nodes.items self.new.nodes.items }
     {
         clear_all(&mut self.nodes, self.touched);
         self.touched = Marks::none();

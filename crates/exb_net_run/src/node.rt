@@ -10,7 +10,6 @@ ghost use Rattle.exb_network.specs.Networks.{bounds_of, tree_of, world_of, IsQui
 ghost use Rattle.exb_schedule.specs.Segments.{IsPlayedOut};
 ghost use Rattle.exb_net_run.specs.Ends.{ends_over, next_in, with_next};
 ghost use Rattle.exb_net_run.specs.Nodes.{HasDone, HasEntered, HasForgotten, HasPassed, come_as};
-ghost use Rattle.exb_net_run.specs.Fates.{fate_in};
 
 use crate::crossing::{Crossing, send};
 use crate::ends::{WiredEnd, ends_of, next_at, set_next};
@@ -74,10 +73,10 @@ impl Node {
 /// A frame arrives at a bridge, which settles and is marked.
 fn take_in(node: &mut Node, arrival: &Arrival) -> Result<(), NoMemory>
     requires can { Can (tree_of node.old.world) (world_of node.old.world) (Arrive arrival.now) }
-    requires few { left (fate_in node.old) < 2 ^ 57 }
+    requires few { left node.old.fate < 2 ^ 57 }
     ensures ok { OnOk result (IsPlayedOut (Arrive arrival.now ∷ []) node.old.world node.new.world) }
     ensures ends { node.new.ends ≡ node.old.ends }
-    ensures fate { left (fate_in node.new) ≤ left (fate_in node.old) }
+    ensures fate { left node.new.fate ≤ left node.old.fate }
 {
     let fate = &mut *node.fate;
     match eager(&mut node.world, fate, 0, &[], slice::from_ref(arrival)) {
@@ -88,9 +87,9 @@ fn take_in(node: &mut Node, arrival: &Arrival) -> Result<(), NoMemory>
 
 /// A bridge is opened: it settles and is marked.
 pub(crate) fn open_one(node: &mut Node) -> Result<(), WorldFault>
-    requires { left (fate_in node.old) < 2 ^ 57 }
+    requires { left node.old.fate < 2 ^ 57 }
     ensures ok { OnOk result (HasDone [] node.old.world node.new.world node.old.ends.items node.new.ends.items) }
-    ensures fate { left (fate_in node.new) ≤ left (fate_in node.old) }
+    ensures fate { left node.new.fate ≤ left node.old.fate }
 {
     eager(&mut node.world, &mut *node.fate, 0, &[], &[])
 }
@@ -99,7 +98,7 @@ pub(crate) fn open_one(node: &mut Node) -> Result<(), WorldFault>
 pub(crate) fn let_pass(node: &mut Node, seconds: u32) -> Result<(), WorldFault>
     requires { Can (tree_of node.old.world) (world_of node.old.world) (Tick seconds) }
     ensures ok { OnOk result (HasPassed seconds node.old.world node.new.world node.old.ends.items node.new.ends.items) }
-    ensures fate { left (fate_in node.new) ≤ left (fate_in node.old) }
+    ensures fate { left node.new.fate ≤ left node.old.fate }
 {
     node.world.step(&Step::Tick { seconds })
 }
@@ -107,7 +106,7 @@ pub(crate) fn let_pass(node: &mut Node, seconds: u32) -> Result<(), WorldFault>
 /// A bridge forgets what was told and has left.
 pub(crate) fn forget(node: &mut Node)
     ensures forgotten { HasForgotten node.old.world node.new.world node.old.ends.items node.new.ends.items }
-    ensures fate { left (fate_in node.new) ≤ left (fate_in node.old) }
+    ensures fate { left node.new.fate ≤ left node.old.fate }
 {
     node.world.clear();
 }
@@ -115,9 +114,9 @@ pub(crate) fn forget(node: &mut Node)
 /// A command is given to a bridge, which settles and is marked.
 pub fn order(node: &mut Node, command: &Timed) -> Result<(), WorldFault>
     requires can { Can (tree_of node.old.world) (world_of node.old.world) (Order command.now.command) }
-    requires few { left (fate_in node.old) + length command.now.fate < 2 ^ 57 }
+    requires few { left node.old.fate + length command.now.fate < 2 ^ 57 }
     ensures ok { OnOk result (HasDone (Order command.now.command ∷ []) node.old.world node.new.world node.old.ends.items node.new.ends.items) }
-    ensures fate { left (fate_in node.new) ≤ left (fate_in node.old) + length command.now.fate }
+    ensures fate { left node.new.fate ≤ left node.old.fate + length command.now.fate }
 {
     let fate = &mut *node.fate;
     eager(&mut node.world, fate, 0, slice::from_ref(command), &[])
@@ -131,10 +130,10 @@ pub fn enter(
     queue: &mut VecDeque<Crossing>,
 ) -> Result<(), NoMemory>
     requires can { Can (tree_of node.old.world) (world_of node.old.world) (Arrive arrival.now) }
-    requires few { left (fate_in node.old) < 2 ^ 57 }
+    requires few { left node.old.fate < 2 ^ 57 }
     ensures ok { OnOk result (HasEntered arrival.now node.old.ends.items node.old.world node.new.world queue.old.items queue.new.items) }
     ensures ends { node.new.ends ≡ node.old.ends }
-    ensures fate { left (fate_in node.new) ≤ left (fate_in node.old) }
+    ensures fate { left node.new.fate ≤ left node.old.fate }
 {
     let before = count_left(node.world.left());
     take_in(node, arrival)?;
@@ -150,10 +149,10 @@ pub fn let_come(
     queue: &mut VecDeque<Crossing>,
 ) -> Result<(), NoMemory>
     requires can { Can (tree_of node.old.world) (world_of node.old.world) (Arrive (come_as node.old.ends.items crossing)) }
-    requires few { left (fate_in node.old) < 2 ^ 57 }
+    requires few { left node.old.fate < 2 ^ 57 }
     ensures ok { OnOk result (HasEntered (come_as node.old.ends.items crossing) node.old.ends.items node.old.world node.new.world queue.old.items queue.new.items) }
     ensures ends { node.new.ends.items ≡ map (with_next crossing.to.port (next_in node.old.ends.items crossing.to.port + 1)) node.old.ends.items }
-    ensures fate { left (fate_in node.new) ≤ left (fate_in node.old) }
+    ensures fate { left node.new.fate ≤ left node.old.fate }
 {
     let port = crossing.to.port;
     let index = next_at(node.ends.as_slice(), port);

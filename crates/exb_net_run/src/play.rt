@@ -21,7 +21,6 @@ ghost use Rattle.exb_net_run.specs.Outputs.{AreNetFronts, IsNetPlayed};
 ghost use Rattle.exb_net_run.specs.Setting.{CanPlay, IsPrepared, run_of};
 ghost use Rattle.exb_net_run.specs.Shelving.{IsNetChange, IsOfCaptures, OnlyGoesOnAll};
 ghost use Rattle.exb_net_run.specs.UnderWay.{AreOfRests, HasWritten, IsCutOff, IsWithin, NetRun};
-ghost use Rattle.exb_net_run.specs.Fates.{fate_in};
 
 use crate::Net;
 use crate::desk::{Desk, Room};
@@ -52,7 +51,7 @@ fn play_agenda<S: Shelf>(
     requires agenda { IsAgenda (S.ids shelf.old) agenda.old }
     requires rests { AreOfRests rests.now (programmes_in agenda.old) }
     requires can { (r : NetRun) × CanPlay S.tells r (S.file shelf.old) (S.ids shelf.old) net desks.items (programmes_in agenda.old) }
-    requires budget { IsWithin net.nodes.items (λ x. left (fate_in x)) (programmes_in agenda.old) }
+    requires budget { IsWithin net.nodes.items (λ x. left x.fate) (programmes_in agenda.old) }
     ensures done { S.tells → IfOk result (λ line. (r : NetRun) → CanPlay S.tells r (S.file shelf.old) (S.ids shelf.old) net desks.items (programmes_in agenda.old)
         → HasWritten r (S.file shelf.new) (string_bytes line)) }
     ensures says { IfOk result (λ line. IsSummary (string_bytes line)) }
