@@ -8,7 +8,8 @@ binary tree in six levels, and 4,094 VLANs of three of their ports each. The com
     bench/commands.py --clock     the share of the time of each function, of a run with 20,000 commands
 
 A count is the difference of two runs under callgrind, one with more commands than the other, divided by how many more: what opening
-and ending take falls out. What waits for memory is seen by the clock alone: --clock takes samples by perf. The program is the one that
+and ending take falls out. glibc is told to copy by its loops whatever the length: callgrind counts an instruction for each byte of a copy
+by `rep movsb`, which glibc takes for long ones, and whether a table is copied where it grows is chance. What waits for memory is seen by the clock alone: --clock takes samples by perf. The program is the one that
 ./exbr runs, or the one that is named by EXBR=FILE. --count and --profile need valgrind, and --clock perf (Debian's linux-perf); a run by
 valgrind takes minutes, so they go side by side (--jobs). It works in a folder of its own under the system's folder for such, which it
 takes away at the end.
@@ -30,6 +31,7 @@ import frames
 
 KINDS = ("down", "up", "isolate", "member", "unmember", "vlan", "static")
 FEW, MANY = 200, 600
+COPIES_BY_LOOPS = {"GLIBC_TUNABLES": "glibc.cpu.x86_rep_movsb_threshold=4294967295:glibc.cpu.x86_non_temporal_threshold=4294967295"}
 VLANS = 4094
 
 
@@ -124,7 +126,7 @@ def by_function(kinds, folder):
     """The instructions of a run by function."""
     written(kinds, folder)
     subprocess.run(["valgrind", "--tool=callgrind", "--callgrind-out-file=costs", frames.PROGRAM, "run", "topology.toml"],
-                   cwd=folder, capture_output=True, check=True)
+                   cwd=folder, env=os.environ | COPIES_BY_LOOPS, capture_output=True, check=True)
     text = subprocess.run(["callgrind_annotate", "--threshold=100", f"{folder}/costs"], capture_output=True, text=True, check=True).stdout
     found = {}
     for line in text.splitlines():
