@@ -18,10 +18,9 @@ use exb_model::arrival::Arrival;
 use exb_model::memory::NoMemory;
 use exb_model::setup::{Setup, Timed};
 use exb_nets::wires::Wire;
-use exb_schedule::{Step, World, WorldFault, count_left, eager};
+use exb_schedule::{World, WorldFault, count_left, eager};
 use std::alloc::Global;
 use std::collections::VecDeque;
-use std::marker::PhantomData;
 use std::slice;
 
 /// A bridge of a net: its world, the fate of its control words, and its wired ports in port order.
@@ -30,8 +29,6 @@ pub struct Node {
     pub world: World,
     pub fate: Box<dyn Fate>,
     pub ends: Vec<WiredEnd>,
-    /// Names the types of a step, for functions that make one.
-    steps: PhantomData<Step<'static>>,
 }
 
 impl Node {
@@ -59,7 +56,6 @@ impl Node {
                 world,
                 fate,
                 ends,
-                steps: PhantomData,
             }),
             Err(_) => {
                 // By a call, since a block's end is far longer to prove where it lets a world go.
@@ -100,7 +96,7 @@ pub(crate) fn let_pass(node: &mut Node, seconds: u32) -> Result<(), WorldFault>
     ensures ok { OnOk result (HasPassed seconds node.old.world node.new.world node.old.ends.items node.new.ends.items) }
     ensures fate { left node.new.fate ≤ left node.old.fate }
 {
-    node.world.step(&Step::Tick { seconds })
+    node.world.tick(seconds)
 }
 
 /// A bridge forgets what was told and has left.

@@ -1,15 +1,19 @@
 -- The lines of a step: what comes in, then the journal, then what goes out.
-use Rattle.std.proofs.Common.{◌≡◌, ℕ, ◌+◌, ◌/◌, ◌%◌, ◌<◌, Bool, true, false, List, [], ◌∷◌, ◌++◌, length, get_or, map, take, drop, refl, ap, sym, ◌∙◌, inl, inr, arith}
+use Rattle.std.proofs.Common.{◌≡◌, ℕ, ◌+◌, ◌/◌, ◌%◌, ◌<◌, ◌≤◌, ◌^◌, Bool, true, false, List, [], ◌∷◌, ◌++◌, length, get_or, map, take, drop, refl, ap, sym, subst, ◌∙◌, inl, inr, arith}
 use Rattle.std.proofs.lemmas.Bool.{cases_lt, false≢true, lt-ltb, le-ltb}
-use Rattle.std.proofs.lemmas.List.{append-nil, append_assoc, map-append, take_more}
+use Rattle.std.proofs.lemmas.List.{append-nil, append_assoc, length-append, map-append, take_more}
 use Rattle.exb_model.specs.declared.event.Event.{Event}
 use Rattle.exb_model.specs.Traces.{TraceLine, In}
+use Rattle.exb_machine.specs.Allowing.{Can}
 use Rattle.exb_machine.specs.Effects.{Effect}
+use Rattle.exb_machine.specs.Runs.Laws.{HasBytes}
 use Rattle.exb_machine.specs.Stepping.{done_by, line_at, lines_in, stepped}
 use Rattle.exb_machine.specs.Telling.{all_told, told}
 use Rattle.exb_machine.specs.Worlds.{Line, Journal, Step}
 use Rattle.exb_boxes.specs.declared.log.Log.{Log}
 use Rattle.exb_network.specs.declared.site.Core.{Core}
+use Rattle.exb_network.specs.Lines.{IsBegun, IsTold}
+use Rattle.exb_network.specs.Live.{Makes, StaysLive}
 use Rattle.exb_network.specs.Networks.{IsStepped, network_of}
 use Rattle.exb_bridge.specs.Sites.{Site, limits_in}
 use Rattle.exb_boxes.specs.Logs.{if_tracing}
@@ -55,23 +59,6 @@ journal_more events i x old to new few is before after =
     ∙ ap (λ xs. old ++ xs) (sym lines)
 
 -- ---- a step
--- its first lines are told, and it is to be made
-pub record IsBegun (ins : List Line) (old begun : Log) : Type 0 where
-  pub events : begun.events ≡ old.events
-  pub passed : begun.passed ≡ old.passed
-  pub left : begun.left ≡ old.left
-  pub outs : begun.outs.items ≡ []
-  pub lines : begun.lines ≡ old.lines ++ if_tracing old.tracing (all_told ins)
-  pub tracing : begun.tracing ≡ old.tracing
-
--- it was made, and its other lines are told
-pub record IsTold (those : List Event) (done new : Log) : Type 0 where
-  pub events : new.events ≡ done.events
-  pub passed : new.passed ≡ done.passed
-  pub left : new.left ≡ done.left
-  pub lines : new.lines ≡ done.lines ++ if_tracing done.tracing (all_told (map Journal those) ++ done.outs.items)
-  pub tracing : new.tracing ≡ done.tracing
-
 lines_on : (old ins journal outs begun done new sent : List TraceLine) (a b c : Bool) → a ≡ true → b ≡ true → c ≡ true → begun ≡ old ++ if_tracing a ins → done ≡ begun → sent ≡ if_tracing b outs →
     new ≡ done ++ if_tracing c (journal ++ sent) → new ≡ old ++ (ins ++ (journal ++ outs))
 lines_on old ins journal outs begun done new sent a b c on_a on_b on_c first same goes last =
@@ -102,43 +89,41 @@ parts_told ins events outs =
     ∙ ap (λ xs. xs ++ all_told outs) (map-append told ins (map Journal events))
     ∙ append_assoc (all_told ins) (all_told (map Journal events)) (all_told outs)
 
-pub stepped_is : (s : Site) (c d : Core) (step : Step) (old begun done new : Log) (f : Bool) (events : List Event) → IsBegun (lines_in s.tree step (world_in c)) old begun →
-    Does (done_by s.tree (limits_in s) step (world_in c)) s d begun done → events ≡ drop (length old.events) done.events → IsTold events done new →
-    IsStepped step (network_of s c old f) (network_of s d new f)
+pub stepped_is : (s : Site) (c d : Core) (step : Step) (old begun done new : Log) (f : Bool) (from : ℕ) → IsBegun (all_told (lines_in s.tree step (world_in c))) from old begun →
+    Does (done_by s.tree (limits_in s) step (world_in c)) s d begun done → IsTold (drop from done.events) done new → IsStepped step (network_of s c old f) (network_of s d new f)
 unfolding stepped
-stepped_is s c d step old begun done new f events first does behind last =
+stepped_is s c d step old begun done new f from first does last =
     let e : Effect = done_by s.tree (limits_in s) step (world_in c) in
     let happened : done.events ≡ old.events ++ e.events = does.events ∙ ap (λ xs. xs ++ e.events) first.events in
-    let these : events ≡ e.events = behind ∙ told_in old.events done.events e.events happened in
-    let sent : done.outs.items ≡ if_tracing begun.tracing (all_told e.outs) = does.outs ∙ ap (λ xs. xs ++ if_tracing begun.tracing (all_told e.outs)) first.outs in
-    let ended : new.lines ≡ done.lines ++ if_tracing done.tracing (all_told (map Journal e.events) ++ done.outs.items) =
-    last.lines ∙ ap (λ (es : List Event). done.lines ++ if_tracing done.tracing (all_told (map Journal es) ++ done.outs.items)) these in
     record {
       world = does.world;
       events = last.events ∙ happened;
       passed = last.passed ∙ does.passed ∙ ap (λ xs. xs ++ e.passed) first.passed;
       left = ap all_left last.left ∙ does.left ∙ ap (λ xs. all_left xs ++ e.left) first.left;
       lines = λ on.
+          let these : drop from done.events ≡ e.events = ap (λ (n : ℕ). drop n done.events) (first.before on) ∙ told_in old.events done.events e.events happened in
+          let sent : done.outs.items ≡ if_tracing begun.tracing (all_told e.outs) = does.outs ∙ ap (λ xs. xs ++ if_tracing begun.tracing (all_told e.outs)) (first.outs on) in
+          let ended : new.lines ≡ done.lines ++ if_tracing done.tracing (all_told (map Journal e.events) ++ done.outs.items) =
+          last.lines ∙ ap (λ (es : List Event). done.lines ++ if_tracing done.tracing (all_told (map Journal es) ++ done.outs.items)) these in
           lines_on old.lines (all_told (lines_in s.tree step (world_in c))) (all_told (map Journal e.events)) (all_told e.outs) begun.lines done.lines new.lines done.outs.items old.tracing begun.tracing
           done.tracing on (first.tracing ∙ on) (does.tracing ∙ first.tracing ∙ on) first.lines does.lines sent ended
           ∙ ap (λ xs. old.lines ++ xs) (sym (parts_told (lines_in s.tree step (world_in c)) e.events e.outs));
       silent = λ off.
-          lines_off old.lines (all_told (lines_in s.tree step (world_in c))) (all_told (map Journal e.events) ++ done.outs.items) begun.lines done.lines new.lines old.tracing done.tracing off
-          (does.tracing ∙ first.tracing ∙ off) first.lines does.lines ended;
+          lines_off old.lines (all_told (lines_in s.tree step (world_in c))) (all_told (map Journal (drop from done.events)) ++ done.outs.items) begun.lines done.lines new.lines old.tracing done.tracing off
+          (does.tracing ∙ first.tracing ∙ off) first.lines does.lines last.lines;
       same = record { site = refl; failed = refl; tracing = last.tracing ∙ does.tracing ∙ first.tracing };
     }
 
--- no trace is kept
-pub stepped_silently : (s : Site) (c d : Core) (step : Step) (old new : Log) (f : Bool) → old.tracing ≡ false → Does (done_by s.tree (limits_in s) step (world_in c)) s d old new →
-    IsStepped step (network_of s c old f) (network_of s d new f)
-unfolding stepped
-stepped_silently s c d step old new f off does =
-    record {
-      world = does.world;
-      events = does.events;
-      passed = does.passed;
-      left = does.left;
-      lines = λ on. absurd (false≢true (sym off ∙ on));
-      silent = λ isnt. does.lines;
-      same = record { site = refl; failed = refl; tracing = does.tracing };
-    }
+-- there are as many events at its end
+enough_with : (from : ℕ) (old es more : List Event) → from ≤ length old → es ≡ old ++ more → from ≤ length es
+enough_with from old es more few is = subst (λ (xs : List Event). from ≤ length xs) (sym is) (subst (λ n. from ≤ n) (sym (length-append old more)) (omega (arith, few)))
+
+pub enough : (s : Site) (c d : Core) (e : Effect) (ins : List TraceLine) (from : ℕ) (old begun done : Log) → IsBegun ins from old begun → Does e s d begun done → from ≤ length done.events
+enough s c d e ins from old begun done first does = enough_with from old.events done.events e.events first.few (does.events ∙ ap (λ xs. xs ++ e.events) first.events)
+
+-- and it is live behind it
+pub makes : (s : Site) (c d : Core) (step : Step) (old begun done new : Log) (from : ℕ) → StaysLive s c → Can s.tree (world_in c) step → HasBytes step →
+    (d.bridge.control.failed ≡ false → (n : ℕ) → ((world_in d).control.askers n).serial < 2 ^ 40) → IsBegun (all_told (lines_in s.tree step (world_in c))) from old begun →
+    Does (done_by s.tree (limits_in s) step (world_in c)) s d begun done → IsTold (drop from done.events) done new → Makes step s c d old new
+makes s c d step old begun done new from stays can bytes low first does last =
+    record { live = stays step d begun done can bytes (low does.at.awake) does; made = λ failed. stepped_is s c d step old begun done new failed from first does last }

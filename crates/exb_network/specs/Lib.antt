@@ -5,3 +5,5 @@ pub mod Worlds
 pub mod Networks
 pub mod Leaving
 pub mod Idle
+pub mod Lines
+pub mod Live

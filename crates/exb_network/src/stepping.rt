@@ -224,10 +224,11 @@ pub(crate) fn repeat(
 /// The control word at a position is lost.
 pub(crate) fn lose(site: &Site, number: u8, way: Way, place: u64, core: &mut Core)
     requires at { IsAt site.now core.old }
-    requires known { IsNumber number }
+    requires there { is_extender site.now.tree number ≡ true }
     ensures world { world_in core.new ≡ (done_by site.now.tree (limits_in site.now) (Lose number (way_of way) place) (world_in core.old)).world }
     ensures at { IsAt site.now core.new }
 {
+    site.has_low_number(number);
     let _ = pull_control(site, number, way, place, core);
 }
 

@@ -1,21 +1,22 @@
-//! The lines of a step in a trace: what comes in, then the journal, then what goes out.
-ghost use Rattle.std.specs.Prelude.{◌≡◌, ◌++◌, ◌∷◌, [], true, OnOk, map};
+//! The lines of a step in a trace: what comes in, then the journal, then what goes out. Where no trace is kept none is told.
+ghost use Rattle.std.specs.Prelude.{◌≡◌, ◌++◌, ◌≤◌, ◌∷◌, [], true, OnOk, IfOk, drop, length, map};
 ghost use Rattle.std.specs.Option.{option_copied};
 ghost use Rattle.exb_model.specs.Traces.{line_by};
 ghost use Rattle.exb_model.specs.Tree.{is_extender};
-ghost use Rattle.exb_machine.specs.Allowing.{Can};
-ghost use Rattle.exb_machine.specs.Stepping.{line_at, line_of, line_of_any, lines_in};
+ghost use Rattle.exb_machine.specs.Stepping.{control_at, first_data, line_at, line_of_any, words_on};
 ghost use Rattle.exb_machine.specs.Telling.{all_told, told};
-ghost use Rattle.exb_machine.specs.Worlds.{Journal};
-ghost use Rattle.exb_network.specs.Networks.{step_of};
+ghost use Rattle.exb_machine.specs.Worlds.{BeatLine, Journal};
+ghost use Rattle.exb_network.specs.Lines.{IsBegun, IsTold};
 ghost use Rattle.exb_network.specs.Steps.{way_of};
 ghost use Rattle.exb_network.specs.Worlds.{world_in};
 
 use crate::site::Core;
-use crate::step::{Step, Way};
+use crate::step::Way;
 use crate::world::link_of;
+use exb_boxes::{Log, Post};
 use exb_bridge::Site;
 use exb_link::BoxedWord;
+use exb_model::arrival::Arrival;
 use exb_model::bytes::Bytes;
 use exb_model::event::Event;
 use exb_model::list::List;
@@ -45,87 +46,136 @@ fn put(
     })
 }
 
-/// A frame comes in by a port.
-fn put_at(
-    alloc: Global,
-    port: PortId,
-    frame: &[u8],
-    to: &mut List<TraceLine>,
-) -> Result<(), NoMemory>
-    ensures { OnOk result (to.new ≡ to.old ++ told (line_at port frame.now) ∷ []) }
+/// A step begins, and a trace is kept: nothing has gone out in it yet. It gives how many events were told before it.
+fn begin(log: &mut Log) -> usize
+    ensures { IsBegun [] result log.old log.new }
 {
-    put(
-        alloc,
+    log.outs.clear();
+    log.events.as_slice().len()
+}
+
+/// A step begins in which something comes in, and a trace is kept.
+#[cold]
+#[inline(never)]
+fn begin_in(
+    way: TraceWay,
+    who: u8,
+    side: u8,
+    bytes: &[u8],
+    post: &mut Post,
+) -> Result<usize, NoMemory>
+    requires { post.old.log.tracing ≡ true }
+    ensures { IfOk result (λ from. IsBegun (line_by way who side bytes.now ∷ []) from post.old.log post.new.log) }
+{
+    let from = begin(&mut post.log);
+    put(post.alloc, way, who, side, bytes, &mut post.log.lines)?;
+    Ok(from)
+}
+
+/// A step begins in which a frame comes in by a port, and a trace is kept.
+fn begin_at(port: PortId, frame: &[u8], post: &mut Post) -> Result<usize, NoMemory>
+    requires { post.old.log.tracing ≡ true }
+    ensures { IfOk result (λ from. IsBegun (told (line_at port frame.now) ∷ []) from post.old.log post.new.log) }
+{
+    begin_in(
         TraceWay::In,
         port.device(),
         port.place() + 1,
         frame,
-        to,
+        post,
     )
 }
 
-/// A word comes in at the end of its direction.
-fn put_word(
-    alloc: Global,
-    site: &Site,
-    number: u8,
-    way: Way,
-    frame: &[u8],
-    to: &mut List<TraceLine>,
-) -> Result<(), NoMemory>
-    requires { is_extender site.now.tree number ≡ true }
-    ensures { OnOk result (to.new ≡ to.old ++ told (line_of site.now.tree number (way_of way) frame.now) ∷ []) }
-{
-    match way {
-        Way::Up => put_at(alloc, site.on(number), frame, to),
-        Way::Down => put(alloc, TraceWay::In, number, 0, frame, to),
-    }
-}
-
-/// A word that may be there comes in at the end of its direction.
-fn put_any(
-    alloc: Global,
+/// A step begins in which a word, if there is one, comes in at the end of its direction, and a trace is kept.
+fn begin_word(
     site: &Site,
     number: u8,
     way: Way,
     word: Option<&BoxedWord>,
-    to: &mut List<TraceLine>,
-) -> Result<(), NoMemory>
-    requires { is_extender site.now.tree number ≡ true }
-    ensures { OnOk result (to.new ≡ to.old ++ all_told (line_of_any site.now.tree number (way_of way) (option_copied word.entry))) }
+    post: &mut Post,
+) -> Result<usize, NoMemory>
+    requires there { is_extender site.now.tree number ≡ true }
+    requires tracing { post.old.log.tracing ≡ true }
+    ensures { IfOk result (λ from. IsBegun (all_told (line_of_any site.now.tree number (way_of way) (option_copied word.entry))) from post.old.log post.new.log) }
 {
-    match word {
-        None => Ok(()),
-        Some(word) => put_word(alloc, site, number, way, word.bytes(), to),
+    let Some(word) = word else {
+        return Ok(begin(&mut post.log));
+    };
+    match way {
+        Way::Up => begin_at(site.on(number), word.bytes(), post),
+        Way::Down => begin_in(TraceWay::In, number, 0, word.bytes(), post),
     }
 }
 
-/// Tells what comes in by a step.
-pub(crate) fn tell_ins(
-    alloc: Global,
-    site: &Site,
-    step: &Step<'_>,
-    core: &Core,
-    to: &mut List<TraceLine>,
-) -> Result<(), NoMemory>
-    requires { Can site.now.tree (world_in core.now) (step_of step.now) }
-    ensures { OnOk result (to.new ≡ to.old ++ all_told (lines_in site.now.tree (step_of step.now) (world_in core.now))) }
+/// A step begins in which nothing comes in. Like all that tell a beginning it gives how many events were told before it, where a
+/// trace is kept.
+#[inline(always)]
+pub(crate) fn tell_nothing(log: &mut Log) -> usize
+    ensures { IsBegun [] result log.old log.new }
 {
-    match step {
-        Step::Arrive { arrival } => put_at(alloc, arrival.port, arrival.bytes.as_slice(), to),
-        Step::Carry { link, way } => {
-            site.has_low_number(*link);
-            let word = link_of(core, *link, *way).first_data();
-            put_any(alloc, site, *link, *way, word, to)
-        }
-        Step::Control { link, way, at, .. } => {
-            site.has_low_number(*link);
-            let word = link_of(core, *link, *way).control_at(*at);
-            put_any(alloc, site, *link, *way, word, to)
-        }
-        Step::Beat => put(alloc, TraceWay::Beat, 0, 0, &[], to),
-        Step::Lose { .. } | Step::Tick { .. } | Step::Command { .. } | Step::Mark => Ok(()),
+    if log.tracing { begin(log) } else { 0 }
+}
+
+/// A step begins in which a frame arrives.
+#[inline(always)]
+pub(crate) fn tell_arrival(arrival: &Arrival, post: &mut Post) -> Result<usize, NoMemory>
+    ensures { IfOk result (λ from. IsBegun (told (line_at arrival.now.port arrival.now.bytes) ∷ []) from post.old.log post.new.log) }
+{
+    if !post.log.tracing {
+        return Ok(0);
     }
+    begin_at(arrival.port, arrival.bytes.as_slice(), post)
+}
+
+/// A step begins in which the first data word of a direction is taken.
+#[inline(always)]
+pub(crate) fn tell_data(
+    site: &Site,
+    number: u8,
+    way: Way,
+    core: &Core,
+    post: &mut Post,
+) -> Result<usize, NoMemory>
+    requires { is_extender site.now.tree number ≡ true }
+    ensures { IfOk result (λ from. IsBegun (all_told (line_of_any site.now.tree number (way_of way) (first_data (words_on number (way_of way) (world_in core.now))))) from post.old.log post.new.log) }
+{
+    if !post.log.tracing {
+        return Ok(0);
+    }
+    site.has_low_number(number);
+    let word = link_of(core, number, way).first_data();
+    begin_word(site, number, way, word, post)
+}
+
+/// A step begins in which the control word at a position of a direction is taken.
+pub(crate) fn tell_control(
+    site: &Site,
+    number: u8,
+    way: Way,
+    at: u64,
+    core: &Core,
+    post: &mut Post,
+) -> Result<usize, NoMemory>
+    requires { is_extender site.now.tree number ≡ true }
+    ensures { IfOk result (λ from. IsBegun (all_told (line_of_any site.now.tree number (way_of way) (control_at (words_on number (way_of way) (world_in core.now)) at))) from post.old.log post.new.log) }
+{
+    if !post.log.tracing {
+        return Ok(0);
+    }
+    site.has_low_number(number);
+    let word = link_of(core, number, way).control_at(at);
+    begin_word(site, number, way, word, post)
+}
+
+/// A beat begins.
+#[inline(always)]
+pub(crate) fn tell_beat(post: &mut Post) -> Result<usize, NoMemory>
+    ensures { IfOk result (λ from. IsBegun (told BeatLine ∷ []) from post.old.log post.new.log) }
+{
+    if !post.log.tracing {
+        return Ok(0);
+    }
+    begin_in(TraceWay::Beat, 0, 0, &[], post)
 }
 
 /// A line of the journal.
@@ -160,15 +210,30 @@ fn put_outs(outs: Vec<TraceLine>, to: &mut List<TraceLine>) -> Result<(), NoMemo
     Ok(())
 }
 
-/// Tells what happened in a step, and what went out.
-pub(crate) fn tell_outs(
-    alloc: Global,
-    events: &[Event],
-    outs: &mut Vec<TraceLine>,
-    to: &mut List<TraceLine>,
-) -> Result<(), NoMemory>
-    ensures { OnOk result (to.new ≡ to.old ++ (all_told (map Journal events.now) ++ outs.old.items)) }
+/// Tells the events from a place on, and what went out.
+#[cold]
+#[inline(never)]
+fn end(from: usize, post: &mut Post) -> Result<(), NoMemory>
+    requires few { from ≤ length post.old.log.events }
+    requires tracing { post.old.log.tracing ≡ true }
+    ensures { OnOk result (IsTold (drop from post.old.log.events) post.old.log post.new.log) }
 {
-    put_events(alloc, events, to)?;
-    put_outs(mem::replace(outs, Vec::new(alloc)), to)
+    let alloc = post.alloc;
+    let log = &mut post.log;
+    let (_, events) = log.events.as_slice().split_at(from);
+    put_events(alloc, events, &mut log.lines)?;
+    put_outs(mem::replace(&mut log.outs, Vec::new(alloc)), &mut log.lines)
+}
+
+/// A step ends: the events from a place on, which happened in it, and what went out are told.
+#[inline(always)]
+pub(crate) fn tell_rest(from: usize, post: &mut Post) -> Result<(), NoMemory>
+    requires { from ≤ length post.old.log.events }
+    ensures { OnOk result (IsTold (drop from post.old.log.events) post.old.log post.new.log) }
+{
+    if post.log.tracing {
+        end(from, post)
+    } else {
+        Ok(())
+    }
 }

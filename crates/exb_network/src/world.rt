@@ -1,39 +1,29 @@
 //! The network as one value, and its calls.
-ghost use Rattle.std.specs.Prelude.{◌≡◌, ◌↔◌, ◌<◌, ◌≤◌, Bool, ℕ, [], true, false, IfNone, IfOk, IfSome, IsTrue, OnErr, OnOk, Some, drop, length, filter, slice_get};
+ghost use Rattle.std.specs.Prelude.{◌≡◌, ◌↔◌, ◌<◌, ◌≤◌, ℕ, [], true, false, IfNone, IfOk, IfSome, IsTrue, OnErr, OnOk, Some, length, filter, slice_get};
 ghost use Rattle.exb_model.specs.Setup.{IsValid, limits_of, shape_of, start_of};
 ghost use Rattle.exb_model.specs.Tree.{is_extender};
 ghost use Rattle.exb_link.specs.Words.{is_control, is_data, leading};
 ghost use Rattle.exb_changing.specs.Counting.{planned};
 ghost use Rattle.exb_changing.specs.Deciding.{decide};
 ghost use Rattle.exb_machine.specs.Allowing.{Can, IsSettled};
-ghost use Rattle.exb_machine.specs.Stepping.{done_by, words_on};
-ghost use Rattle.exb_machine.specs.Worlds.{Arrive, Beat, Carry, Mark, first_world};
-ghost use Rattle.exb_machine.specs.Runs.Asks.{AsksWell};
-ghost use Rattle.exb_machine.specs.Runs.Laws.{HasBytes};
+ghost use Rattle.exb_machine.specs.Stepping.{words_on};
+ghost use Rattle.exb_machine.specs.Worlds.{Arrive, Beat, Carry, Control, Lose, Mark, Order, Tick, first_world};
 ghost use Rattle.exb_network.specs.Idle.{IsIdle};
-ghost use Rattle.exb_network.specs.Networks.{network_of, step_of, IsLive, IsStepped};
 ghost use Rattle.exb_boxes.specs.Numbers.{IsNumber};
-ghost use Rattle.exb_bridge.specs.Sites.{limits_in};
 ghost use Rattle.exb_network.specs.Steps.{way_of};
 ghost use Rattle.exb_network.specs.Turns.{order_of, IsTurn};
-ghost use Rattle.exb_network.specs.Worlds.{world_in, IsAt, Does};
+ghost use Rattle.exb_network.specs.Worlds.{world_in, IsAt};
 
-use crate::bridging::{order, tick};
 use crate::busy::Turn;
 use crate::site::Core;
 use crate::step::{Step, Way};
-use crate::stepping::{arrive, carry, deliver, lose, mark, repeat};
-use crate::telling::{tell_ins, tell_outs};
-use crate::{allowing, beating, busy};
+use crate::{allowing, busy, live};
 use exb_boxes::Left;
 use exb_bridge::{Room, Site};
 use exb_link::{Counts, Link};
-use exb_machine::laws::{
-    asks_can_be_sent, begins_written, runs_stay_sound, setups_begin_sound, steps_stay_written,
-    written_are_short,
-};
+use exb_machine::laws::{begins_written, setups_begin_sound};
 use exb_model::arrival::Arrival;
-use exb_model::bytes::are_bytes;
+use exb_model::command::Command;
 use exb_model::event::Event;
 use exb_model::memory::NoMemory;
 use exb_model::setup::Setup;
@@ -110,11 +100,11 @@ impl World {
         !self.failed && allowing::can(&self.site, &self.core, step)
     }
 
-    /// Makes a step. It is put into the place of its call, where the kind of the step is known: so no step is looked at twice.
+    /// A frame of at most 262,144 bytes arrives at an external port. Like each kind of step it is put into the place of its call.
     #[inline(always)]
-    pub fn step(&mut self, step: &Step<'_>) -> Result<(), WorldFault>
-        requires { Can (tree_of self.old) (world_of self.old) (step_of step.now) }
-        ensures ok { OnOk result (IsStepped (step_of step.now) self.old self.new) }
+    pub fn arrive(&mut self, arrival: &Arrival) -> Result<(), WorldFault>
+        requires { Can (tree_of self.old) (world_of self.old) (Arrive arrival.now) }
+        ensures ok { OnOk result (IsStepped (Arrive arrival.now) self.old self.new) }
         ensures failed { (result ≡ Err WorldFault.Failed) ↔ (self.old.failed ≡ true) }
         ensures memory { OnErr result (self.new.failed ≡ true) }
     {
@@ -122,7 +112,175 @@ impl World {
             return Err(WorldFault::Failed);
         }
         let site = &self.site;
-        match make_told(site, step, &mut self.room, &mut self.core) {
+        match live::arrive(site, arrival, &mut self.room, &mut self.core) {
+            Ok(()) => Ok(()),
+            Err(_) => {
+                self.failed = true;
+                Err(WorldFault::Memory)
+            }
+        }
+    }
+
+    /// The first data word of a direction is taken.
+    #[inline(always)]
+    pub fn carry(&mut self, link: u8, way: Way) -> Result<(), WorldFault>
+        requires { Can (tree_of self.old) (world_of self.old) (Carry link (way_of way)) }
+        ensures ok { OnOk result (IsStepped (Carry link (way_of way)) self.old self.new) }
+        ensures failed { (result ≡ Err WorldFault.Failed) ↔ (self.old.failed ≡ true) }
+        ensures memory { OnErr result (self.new.failed ≡ true) }
+    {
+        if self.failed {
+            return Err(WorldFault::Failed);
+        }
+        let site = &self.site;
+        match live::carry(site, link, way, &mut self.room, &mut self.core) {
+            Ok(()) => Ok(()),
+            Err(_) => {
+                self.failed = true;
+                Err(WorldFault::Memory)
+            }
+        }
+    }
+
+    /// The control word at a position, before which no data word is left, is delivered.
+    #[inline(always)]
+    pub fn deliver(&mut self, link: u8, way: Way, at: u64) -> Result<(), WorldFault>
+        requires { Can (tree_of self.old) (world_of self.old) (Control link (way_of way) at false) }
+        ensures ok { OnOk result (IsStepped (Control link (way_of way) at false) self.old self.new) }
+        ensures failed { (result ≡ Err WorldFault.Failed) ↔ (self.old.failed ≡ true) }
+        ensures memory { OnErr result (self.new.failed ≡ true) }
+    {
+        if self.failed {
+            return Err(WorldFault::Failed);
+        }
+        let site = &self.site;
+        match live::deliver(site, link, way, at, &mut self.room, &mut self.core) {
+            Ok(()) => Ok(()),
+            Err(_) => {
+                self.failed = true;
+                Err(WorldFault::Memory)
+            }
+        }
+    }
+
+    /// The control word at a position, before which no data word is left, is delivered, and stays on the link too.
+    #[inline(always)]
+    pub fn repeat(&mut self, link: u8, way: Way, at: u64) -> Result<(), WorldFault>
+        requires { Can (tree_of self.old) (world_of self.old) (Control link (way_of way) at true) }
+        ensures ok { OnOk result (IsStepped (Control link (way_of way) at true) self.old self.new) }
+        ensures failed { (result ≡ Err WorldFault.Failed) ↔ (self.old.failed ≡ true) }
+        ensures memory { OnErr result (self.new.failed ≡ true) }
+    {
+        if self.failed {
+            return Err(WorldFault::Failed);
+        }
+        let site = &self.site;
+        match live::repeat(site, link, way, at, &mut self.room, &mut self.core) {
+            Ok(()) => Ok(()),
+            Err(_) => {
+                self.failed = true;
+                Err(WorldFault::Memory)
+            }
+        }
+    }
+
+    /// The control word at a position is lost.
+    #[inline(always)]
+    pub fn lose(&mut self, link: u8, way: Way, at: u64) -> Result<(), WorldFault>
+        requires { Can (tree_of self.old) (world_of self.old) (Lose link (way_of way) at) }
+        ensures ok { OnOk result (IsStepped (Lose link (way_of way) at) self.old self.new) }
+        ensures failed { (result ≡ Err WorldFault.Failed) ↔ (self.old.failed ≡ true) }
+        ensures memory { OnErr result (self.new.failed ≡ true) }
+    {
+        if self.failed {
+            return Err(WorldFault::Failed);
+        }
+        let site = &self.site;
+        match live::lose(site, link, way, at, &mut self.room, &mut self.core) {
+            Ok(()) => Ok(()),
+            Err(_) => {
+                self.failed = true;
+                Err(WorldFault::Memory)
+            }
+        }
+    }
+
+    /// A beat passes at all ends.
+    #[inline(always)]
+    pub fn beat(&mut self) -> Result<(), WorldFault>
+        requires { Can (tree_of self.old) (world_of self.old) Beat }
+        ensures ok { OnOk result (IsStepped Beat self.old self.new) }
+        ensures failed { (result ≡ Err WorldFault.Failed) ↔ (self.old.failed ≡ true) }
+        ensures memory { OnErr result (self.new.failed ≡ true) }
+    {
+        if self.failed {
+            return Err(WorldFault::Failed);
+        }
+        let site = &self.site;
+        match live::beat(site, &mut self.room, &mut self.core) {
+            Ok(()) => Ok(()),
+            Err(_) => {
+                self.failed = true;
+                Err(WorldFault::Memory)
+            }
+        }
+    }
+
+    /// The clock goes on, by at least one second. It stays below 2^63.
+    #[inline(always)]
+    pub fn tick(&mut self, seconds: u32) -> Result<(), WorldFault>
+        requires { Can (tree_of self.old) (world_of self.old) (Tick seconds) }
+        ensures ok { OnOk result (IsStepped (Tick seconds) self.old self.new) }
+        ensures failed { (result ≡ Err WorldFault.Failed) ↔ (self.old.failed ≡ true) }
+        ensures memory { OnErr result (self.new.failed ≡ true) }
+    {
+        if self.failed {
+            return Err(WorldFault::Failed);
+        }
+        let site = &self.site;
+        match live::tick(site, seconds, &mut self.room, &mut self.core) {
+            Ok(()) => Ok(()),
+            Err(_) => {
+                self.failed = true;
+                Err(WorldFault::Memory)
+            }
+        }
+    }
+
+    /// A command is given.
+    #[inline(always)]
+    pub fn order(&mut self, command: &Command) -> Result<(), WorldFault>
+        requires { Can (tree_of self.old) (world_of self.old) (Order command.now) }
+        ensures ok { OnOk result (IsStepped (Order command.now) self.old self.new) }
+        ensures failed { (result ≡ Err WorldFault.Failed) ↔ (self.old.failed ≡ true) }
+        ensures memory { OnErr result (self.new.failed ≡ true) }
+    {
+        if self.failed {
+            return Err(WorldFault::Failed);
+        }
+        let site = &self.site;
+        match live::order(site, command, &mut self.room, &mut self.core) {
+            Ok(()) => Ok(()),
+            Err(_) => {
+                self.failed = true;
+                Err(WorldFault::Memory)
+            }
+        }
+    }
+
+    /// Nothing is left to be done, and that is marked.
+    #[inline(always)]
+    pub fn mark(&mut self) -> Result<(), WorldFault>
+        requires { Can (tree_of self.old) (world_of self.old) Mark }
+        ensures ok { OnOk result (IsStepped Mark self.old self.new) }
+        ensures failed { (result ≡ Err WorldFault.Failed) ↔ (self.old.failed ≡ true) }
+        ensures memory { OnErr result (self.new.failed ≡ true) }
+    {
+        if self.failed {
+            return Err(WorldFault::Failed);
+        }
+        let site = &self.site;
+        match live::mark(site, &mut self.room, &mut self.core) {
             Ok(()) => Ok(()),
             Err(_) => {
                 self.failed = true;
@@ -240,205 +398,6 @@ impl World {
         ensures quiet { IsQuiet self.new }
     {
         self.room.post.log.clear(&mut self.room.post.store);
-    }
-}
-
-/// That what a step brings is bytes, as a fact for whoever calls it. It does nothing.
-fn brings_bytes(step: &Step<'_>)
-    ensures { HasBytes (step_of step.now) }
-{
-    if let Step::Arrive { arrival } = step {
-        are_bytes(arrival.bytes.as_slice());
-    }
-}
-
-/// Makes a step, and tells its lines where a trace is kept.
-#[inline(always)]
-fn make_told(site: &Site, step: &Step<'_>, room: &mut Room, core: &mut Core) -> Result<(), NoMemory>
-    requires live { IsLive site.now core.old }
-    requires can { Can site.now.tree (world_in core.old) (step_of step.now) }
-    ensures live { OnOk result (IsLive site.now core.new) }
-    ensures made { OnOk result ((failed : Bool) → IsStepped (step_of step.now) (network_of site.now core.old room.old.post.log failed) (network_of site.now core.new room.new.post.log failed)) }
-{
-    if room.post.log.tracing {
-        traced(site, step, room, core)
-    } else {
-        make_live(site, step, room, core)
-    }
-}
-
-/// Makes a step, and tells its lines. Those steps of which each frame has some are made anew from their parts, out of line: so they have no place in
-/// memory where no trace is kept.
-#[inline(always)]
-fn traced(site: &Site, step: &Step<'_>, room: &mut Room, core: &mut Core) -> Result<(), NoMemory>
-    requires live { IsLive site.now core.old }
-    requires can { Can site.now.tree (world_in core.old) (step_of step.now) }
-    requires tracing { room.old.post.log.tracing ≡ true }
-    ensures live { OnOk result (IsLive site.now core.new) }
-    ensures made { OnOk result ((failed : Bool) → IsStepped (step_of step.now) (network_of site.now core.old room.old.post.log failed) (network_of site.now core.new room.new.post.log failed)) }
-{
-    match step {
-        Step::Arrive { arrival } => traced_arrive(site, *arrival, room, core),
-        Step::Carry { link, way } => traced_carry(site, *link, *way, room, core),
-        Step::Beat => traced_beat(site, room, core),
-        Step::Mark => traced_mark(site, room, core),
-        _ => make_traced(site, step, room, core),
-    }
-}
-
-/// A frame arrives, and its lines are told.
-#[cold]
-#[inline(never)]
-fn traced_arrive(
-    site: &Site,
-    arrival: &Arrival,
-    room: &mut Room,
-    core: &mut Core,
-) -> Result<(), NoMemory>
-    requires live { IsLive site.now core.old }
-    requires can { Can site.now.tree (world_in core.old) (Arrive arrival.now) }
-    requires tracing { room.old.post.log.tracing ≡ true }
-    ensures live { OnOk result (IsLive site.now core.new) }
-    ensures made { OnOk result ((failed : Bool) → IsStepped (Arrive arrival.now) (network_of site.now core.old room.old.post.log failed) (network_of site.now core.new room.new.post.log failed)) }
-{
-    make_traced(site, &Step::Arrive { arrival }, room, core)
-}
-
-/// A data word is taken, and its lines are told.
-#[cold]
-#[inline(never)]
-fn traced_carry(
-    site: &Site,
-    link: u8,
-    way: Way,
-    room: &mut Room,
-    core: &mut Core,
-) -> Result<(), NoMemory>
-    requires live { IsLive site.now core.old }
-    requires can { Can site.now.tree (world_in core.old) (Carry link (way_of way)) }
-    requires tracing { room.old.post.log.tracing ≡ true }
-    ensures live { OnOk result (IsLive site.now core.new) }
-    ensures made { OnOk result ((failed : Bool) → IsStepped (Carry link (way_of way)) (network_of site.now core.old room.old.post.log failed) (network_of site.now core.new room.new.post.log failed)) }
-{
-    make_traced(site, &Step::Carry { link, way }, room, core)
-}
-
-/// A beat passes, and its lines are told.
-#[cold]
-#[inline(never)]
-fn traced_beat(site: &Site, room: &mut Room, core: &mut Core) -> Result<(), NoMemory>
-    requires live { IsLive site.now core.old }
-    requires can { Can site.now.tree (world_in core.old) Beat }
-    requires tracing { room.old.post.log.tracing ≡ true }
-    ensures live { OnOk result (IsLive site.now core.new) }
-    ensures made { OnOk result ((failed : Bool) → IsStepped Beat (network_of site.now core.old room.old.post.log failed) (network_of site.now core.new room.new.post.log failed)) }
-{
-    make_traced(site, &Step::Beat, room, core)
-}
-
-/// All is marked, and its line is told.
-#[cold]
-#[inline(never)]
-fn traced_mark(site: &Site, room: &mut Room, core: &mut Core) -> Result<(), NoMemory>
-    requires live { IsLive site.now core.old }
-    requires can { Can site.now.tree (world_in core.old) Mark }
-    requires tracing { room.old.post.log.tracing ≡ true }
-    ensures live { OnOk result (IsLive site.now core.new) }
-    ensures made { OnOk result ((failed : Bool) → IsStepped Mark (network_of site.now core.old room.old.post.log failed) (network_of site.now core.new room.new.post.log failed)) }
-{
-    make_traced(site, &Step::Mark, room, core)
-}
-
-/// Makes a step, and tells its lines.
-#[cold]
-#[inline(never)]
-fn make_traced(
-    site: &Site,
-    step: &Step<'_>,
-    room: &mut Room,
-    core: &mut Core,
-) -> Result<(), NoMemory>
-    requires live { IsLive site.now core.old }
-    requires can { Can site.now.tree (world_in core.old) (step_of step.now) }
-    requires tracing { room.old.post.log.tracing ≡ true }
-    ensures live { OnOk result (IsLive site.now core.new) }
-    ensures made { OnOk result ((failed : Bool) → IsStepped (step_of step.now) (network_of site.now core.old room.old.post.log failed) (network_of site.now core.new room.new.post.log failed)) }
-{
-    let before = room.post.log.events.as_slice().len();
-    room.post.log.outs.clear();
-    tell_ins(room.post.alloc, site, step, core, &mut room.post.log.lines)?;
-    make_live(site, step, room, core)?;
-    let events = room.post.log.events.as_slice();
-    tell_outs(
-        room.post.alloc,
-        behind(events, before),
-        &mut room.post.log.outs,
-        &mut room.post.log.lines,
-    )
-}
-
-/// The events from a place on.
-fn behind(events: &[Event], from: usize) -> &[Event]
-    requires { from ≤ length events.now }
-    ensures { result.now ≡ drop from events.now }
-{
-    &events[from..]
-}
-
-/// Makes a step of a live world, which stays live.
-#[inline(always)]
-fn make_live(site: &Site, step: &Step<'_>, room: &mut Room, core: &mut Core) -> Result<(), NoMemory>
-    requires live { IsLive site.now core.old }
-    requires can { Can site.now.tree (world_in core.old) (step_of step.now) }
-    ensures live { OnOk result (IsLive site.now core.new) }
-    ensures does { OnOk result (Does (done_by site.now.tree (limits_in site.now) (step_of step.now) (world_in core.old)) site.now core.new room.old.post.log room.new.post.log) }
-{
-    asks_can_be_sent();
-    runs_stay_sound();
-    steps_stay_written();
-    written_are_short();
-    core.bridge.control.is_active_config();
-    core.bridge.control.has_low_serials();
-    brings_bytes(step);
-    match make(site, step, room, core) {
-        Ok(()) => {
-            core.bridge.control.has_low_serials();
-            Ok(())
-        }
-        Err(_) => Err(NoMemory),
-    }
-}
-
-/// Makes a step.
-#[inline(always)]
-fn make(site: &Site, step: &Step<'_>, room: &mut Room, core: &mut Core) -> Result<(), NoMemory>
-    requires at { IsAt site.now core.old }
-    requires asks { AsksWell site.now.tree (limits_in site.now) (world_in core.old).control }
-    requires can { Can site.now.tree (world_in core.old) (step_of step.now) }
-    ensures { OnOk result (Does (done_by site.now.tree (limits_in site.now) (step_of step.now) (world_in core.old)) site.now core.new room.old.post.log room.new.post.log) }
-{
-    match step {
-        Step::Arrive { arrival } => arrive(site, *arrival, room, core),
-        Step::Carry { link, way } => carry(site, *link, *way, room, core),
-        Step::Control {
-            link,
-            way,
-            at,
-            keep,
-        } => if *keep {
-            repeat(site, *link, *way, *at, room, core)
-        } else {
-            deliver(site, *link, *way, *at, room, core)
-        },
-        Step::Lose { link, way, at } => {
-            site.has_low_number(*link);
-            lose(site, *link, *way, *at, core);
-            Ok(())
-        }
-        Step::Beat => beating::beat(site, room, core),
-        Step::Tick { seconds } => tick(site, *seconds, room, core),
-        Step::Command { command } => order(site, *command, room, core),
-        Step::Mark => mark(site, core, &mut room.post.log),
     }
 }
 

@@ -350,10 +350,8 @@ these_give i s seconds cs frames steps is k = record {
 }
 
 -- a move gives nothing
-pub keeps_by : (x step : Step) (now new : Network) → x ≡ step → IsMove step → IsStepped x now new → MayTake (tree_of now) (world_of now) x → Keeps now new
-keeps_by x step now new is move made may =
-    λ all cs frames seconds taken given old k.
-    drawn_move all cs frames seconds taken given old now new k step move (subst (λ (s : Step). IsStepped s now new) is made) (subst (MayTake (tree_of now) (world_of now)) is may)
+pub keeps_by : (step : Step) (now new : Network) → IsMove step → IsStepped step now new → MayTake (tree_of now) (world_of now) step → Keeps now new
+keeps_by step now new move made may = λ all cs frames seconds taken given old k. drawn_move all cs frames seconds taken given old now new k step move made may
 
 -- ---- results
 pub on_ok_four : {A E P Q R S T : Type 0} (r : Result A E) → (P → Q → R → S → T) → OnOk r P → OnOk r Q → OnOk r R → OnOk r S → OnOk r T

@@ -1,6 +1,6 @@
 -- Each step leaves a network that a run reaches standing, with clean links, and adds the events of its kind.
 use Rattle.std.proofs.Common.{◌≡◌, ◌↔◌, ◌++◌, true, List, [], ◌∷◌, Result, Ok, Err, sym, ◌∙◌, ap, subst}
-use Rattle.std.specs.Prelude.{OnOk}
+use Rattle.std.specs.Prelude.{OnErr, OnOk}
 use Rattle.std.proofs.lemmas.List.{append_cancel_left}
 use Rattle.exb_model.specs.declared.event.Event.{Event}
 use Rattle.exb_model.specs.declared.setup.Setup.{Setup}
@@ -8,6 +8,8 @@ use Rattle.exb_model.specs.Configuration.{Bridge}
 use Rattle.exb_model.specs.History.{Basis, History, ◌then◌}
 use Rattle.exb_model.specs.Setup.{Limits, limits_of, shape_of, start_of}
 use Rattle.exb_model.specs.Tree.{Shape}
+use Rattle.exb_machine.specs.Allowing.{Can}
+use Rattle.exb_machine.specs.Runs.Laws.{HasBytes}
 use Rattle.exb_machine.specs.Settling.{run}
 use Rattle.exb_machine.specs.Stepping.{stepped}
 use Rattle.exb_machine.specs.Worlds.{World, Step, Left, first_world}
@@ -20,11 +22,11 @@ use Rattle.exb_flying.specs.Promises.{IsClean}
 use Rattle.exb_motion.specs.Events.{TellsOf, StepsTellSo}
 use Rattle.exb_motion.specs.Given.{Given, given_by}
 use Rattle.exb_motion.specs.Going.{SetupsGoOn}
-use Rattle.exb_motion.specs.Kept.{MayStart, MayDo, MayDoAll, Kept, SetupsMayStart, BeginsKept, StepsKeep, KeptStands, KeptIsClean, StandsGoOn, basis_of}
+use Rattle.exb_motion.specs.Kept.{HasVidIn, MayStart, MayDo, MayDoAll, Kept, SetupsMayStart, BeginsKept, StepsKeep, KeptStands, KeptIsClean, StandsGoOn, basis_of}
 use Rattle.exb_motion.specs.Stands.{Stands}
 use Rattle.exb_motion.specs.Runs.Settles.{MayTake, RunsStayLow, beginning, reached_by}
 use Rattle.exb_schedule.specs.Reached.{IsReached}
-use Rattle.exb_schedule.specs.Standing.{HasCleanLinks, IsLeft, SetupsBeginStanding, StepsLeaveStanding}
+use Rattle.exb_schedule.specs.Standing.{HasMade, IsLeft, SetupsBeginStanding, StepsLeaveStanding}
 use Rattle.exb_schedule.proofs.Reaching.{ok_awake}
 use Rattle.exb_schedule.proofs.Runs.{take_then}
 
@@ -101,11 +103,19 @@ steps_leave_standing starts begins keep goes tell clean low ons step old new k m
     (subst (λ (b : Limits). Leaves step t b (world_of old)) (sym k.limits) (subst (Leaves step t l) (sym k.world) here)))
     made
 
--- so a step of the code leaves clean links, or answers an error
-pub clean_on : StepsLeaveStanding → (step : Step) (old new : Network) (r : Result (Unit {0}) WorldFault) → IsReached old → (r ≡ Err fault.Failed) ↔ (old.failed ≡ true) →
-    OnOk r (IsStepped step old new) → OnOk r (MayTake (tree_of old) (world_of old) step) → OnOk r (HasCleanLinks new)
-clean_on law step old new (Ok x) k fails made may = (law step old new (k (ok_awake old x fails)) may made).clean
-clean_on law step old new (Err x) k fails made may = tt
+-- so a step of the code leaves it, or answers an error
+made_here : StepsLeaveStanding → (step : Step) (n m : Network) (r : Result (Unit {0}) WorldFault) → IsReached n → MayTake (tree_of n) (world_of n) step → OnOk r (IsStepped step n m) →
+    (r ≡ Err fault.Failed) ↔ (n.failed ≡ true) → OnErr r (m.failed ≡ true) → HasMade step r n m
+made_here law step n m (Ok x) k may made fails memory =
+    let left : IsLeft step n m = law step n m (k (ok_awake n x fails)) may made in
+    record { ok = made; may = may; failed = fails; memory = memory; stands = left.stands; clean = left.clean; events = left.tells }
+made_here law step n m (Err x) k may made fails memory = record { ok = made; may = tt; failed = fails; memory = memory; stands = tt; clean = tt; events = tt }
+
+pub has_made : StepsLeaveStanding → (step : Step) (a n m : Network) (r : Result (Unit {0}) WorldFault) → n ≡ a → IsReached n → Can (tree_of a) (world_of a) step → HasBytes step → HasVidIn step →
+    OnOk r (IsStepped step n m) → (r ≡ Err fault.Failed) ↔ (n.failed ≡ true) → OnErr r (m.failed ≡ true) → HasMade step r a m
+has_made law step a n m r here k can bytes vid made fails memory =
+    let may : MayTake (tree_of n) (world_of n) step = record { can = subst (λ (b : Network). Can (tree_of b) (world_of b) step) (sym here) can; has = bytes; vid = vid } in
+    subst (λ (b : Network). HasMade step r b m) here (made_here law step n m r k may made fails memory)
 
 -- ---- as it begins
 with_basis : (t : Shape) (l : Limits) (i j : Basis) → i.start ≡ j.start → MayStart t l j → MayStart t l i

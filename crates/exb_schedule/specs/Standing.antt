@@ -1,10 +1,12 @@
 -- What each step leaves of a network: that it stands, that its links are clean, and which events were added.
-use Rattle.std.specs.Prelude.{◌≡◌, ◌++◌, List, [], All}
+use Rattle.std.specs.Prelude.{◌≡◌, ◌↔◌, ◌++◌, true, List, [], All, Result, Err, OnErr, OnOk}
 use Rattle.exb_model.specs.declared.event.Event.{Event}
 use Rattle.exb_model.specs.declared.setup.Setup.{Setup}
 use Rattle.exb_model.specs.History.{Basis, History, ◌then◌}
 use Rattle.exb_model.specs.Setup.{IsValid, limits_of, shape_of, start_of}
 use Rattle.exb_machine.specs.Worlds.{Step, Left, first_world}
+use Rattle.exb_network.specs.declared.world.WorldFault.{WorldFault}
+use Rattle.exb_network.specs.declared.world.WorldFault.TheVariants as fault
 use Rattle.exb_network.specs.Networks.{Network, world_of, tree_of, bounds_of, IsStepped}
 use Rattle.exb_bridge.specs.Worlds.{all_left}
 use Rattle.exb_flying.specs.Promises.{IsClean}
@@ -36,6 +38,16 @@ pub record StaysStanding (step : Step) (old new : Network) : Type 0 where
 -- The events that it added are by its kind.
 pub record TellsByKind (step : Step) (old new : Network) : Type 0 where
   pub tells : (es : List Event) → new.log.events ≡ old.log.events ++ es → TellsOf (tree_of old) (world_of old) step es
+
+-- What a call that makes a step answers: it was made, and this is what it leaves; or memory ran out, in this step or before it.
+pub record HasMade (step : Step) (result : Result (Unit {0}) WorldFault) (old new : Network) : Type 0 where
+  pub ok : OnOk result (IsStepped step old new)
+  pub may : OnOk result (MayTake (tree_of old) (world_of old) step)
+  pub failed : (result ≡ Err fault.Failed) ↔ (old.failed ≡ true)
+  pub memory : OnErr result (new.failed ≡ true)
+  pub stands : OnOk result (StaysStanding step old new)
+  pub clean : OnOk result (HasCleanLinks new)
+  pub events : OnOk result (TellsByKind step old new)
 
 -- ---- the laws
 pub record IsLeft (step : Step) (old new : Network) : Type 0 where

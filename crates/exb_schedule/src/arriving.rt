@@ -5,7 +5,7 @@ ghost use Rattle.exb_schedule.specs.Playing.{arrive, tick, CanAll};
 
 use crate::world::World;
 use exb_model::arrival::Arrival;
-use exb_network::{Step, WorldFault};
+use exb_network::WorldFault;
 
 /// Lets seconds pass, if there are any.
 #[inline(always)]
@@ -18,7 +18,7 @@ pub(crate) fn let_pass(world: &mut World, seconds: u32) -> Result<(), WorldFault
     if seconds == 0 {
         return Ok(());
     }
-    world.step(&Step::Tick { seconds })
+    world.tick(seconds)
 }
 
 /// Lets frames arrive, in order.
@@ -30,7 +30,7 @@ pub(crate) fn let_arrive(world: &mut World, arrivals: &[Arrival]) -> Result<(), 
     ensures memory { OnErr result (world.new.failed ≡ true) }
 {
     for arrival in arrivals {
-        world.step(&Step::Arrive { arrival })?;
+        world.arrive(arrival)?;
     }
     Ok(())
 }

@@ -10,11 +10,10 @@ ghost use Rattle.exb_network.specs.Steps.{way_of};
 ghost use Rattle.exb_schedule.specs.Rounds.{goes_along, goes_one_way, AreNext, GoesThrough, HasAsked, HasTaken};
 
 use crate::remaining::Remaining;
-use crate::steps::{deliver, lose};
 use crate::world::World;
 use exb_fate::Fate;
 use exb_model::setup::Verdict;
-use exb_network::{Step, Way, WorldFault};
+use exb_network::{Way, WorldFault};
 
 /// Asks the fate of a control word that is free, and does what it says: the word is delivered, lost, delivered and kept, or left.
 /// Answers the place of the next one.
@@ -37,15 +36,15 @@ pub(crate) fn take_control(
 {
     match fate.next() {
         Verdict::Pass => {
-            world.step(&deliver(link, way, place, false))?;
+            world.deliver(link, way, place)?;
             Ok(place)
         }
         Verdict::Lose => {
-            world.step(&lose(link, way, place))?;
+            world.lose(link, way, place)?;
             Ok(place)
         }
         Verdict::Twice => {
-            world.step(&deliver(link, way, place, true))?;
+            world.repeat(link, way, place)?;
             Ok(place + 1)
         }
         Verdict::Later => Ok(place + 1),
@@ -79,7 +78,7 @@ fn take_next(
         Ok(())
     } else {
         rest.frames -= 1;
-        world.step(&Step::Carry { link, way })
+        world.carry(link, way)
     }
 }
 
@@ -134,5 +133,5 @@ pub fn round(world: &mut World, fate: &mut dyn Fate) -> Result<(), WorldFault>
 {
     go_one_way(world, fate, Way::Up)?;
     go_one_way(world, fate, Way::Down)?;
-    world.step(&Step::Beat)
+    world.beat()
 }

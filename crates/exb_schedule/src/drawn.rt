@@ -17,7 +17,7 @@ use exb_fate::Fate;
 use exb_model::arrival::Arrival;
 use exb_model::memory::NoMemory;
 use exb_model::setup::{Timed, Verdict};
-use exb_network::{Step, Way, WorldFault};
+use exb_network::{Way, WorldFault};
 use rand_pcg::Lcg64Xsh32;
 
 /// Takes the first data word of a direction.
@@ -29,25 +29,31 @@ fn take_data(world: &mut World, link: u8, way: Way) -> Result<(), WorldFault>
     if !world.can(&carry(link, way)) {
         return Ok(());
     }
-    world.step(&carry(link, way))
+    world.carry(link, way)
 }
 
-/// Delivers a control word, and may keep it.
-fn deliver_at(
-    world: &mut World,
-    link: u8,
-    way: Way,
-    place: u64,
-    keep: bool,
-) -> Result<(), WorldFault>
+/// Delivers a control word.
+fn deliver_at(world: &mut World, link: u8, way: Way, place: u64) -> Result<(), WorldFault>
     requires { ⊤ }
     ensures ok { OnOk result (Keeps world.old world.new) }
     ensures failed { result ≡ Err WorldFault.Failed → world.old.failed ≡ true }
 {
-    if !world.can(&deliver(link, way, place, keep)) {
+    if !world.can(&deliver(link, way, place, false)) {
         return Ok(());
     }
-    world.step(&deliver(link, way, place, keep))
+    world.deliver(link, way, place)
+}
+
+/// Delivers a control word, and keeps it on its link.
+fn repeat_at(world: &mut World, link: u8, way: Way, place: u64) -> Result<(), WorldFault>
+    requires { ⊤ }
+    ensures ok { OnOk result (Keeps world.old world.new) }
+    ensures failed { result ≡ Err WorldFault.Failed → world.old.failed ≡ true }
+{
+    if !world.can(&deliver(link, way, place, true)) {
+        return Ok(());
+    }
+    world.repeat(link, way, place)
 }
 
 /// Loses a control word.
@@ -59,7 +65,7 @@ fn lose_at(world: &mut World, link: u8, way: Way, place: u64) -> Result<(), Worl
     if !world.can(&lose(link, way, place)) {
         return Ok(());
     }
-    world.step(&lose(link, way, place))
+    world.lose(link, way, place)
 }
 
 /// A beat passes.
@@ -68,7 +74,7 @@ fn beat_once(world: &mut World) -> Result<(), WorldFault>
     ensures ok { OnOk result (Keeps world.old world.new) }
     ensures failed { result ≡ Err WorldFault.Failed → world.old.failed ≡ true }
 {
-    world.step(&Step::Beat)
+    world.beat()
 }
 
 /// Asks the fate of a control word, and does what it says.
@@ -85,9 +91,9 @@ fn ask_fate(
     ensures fate { left fate.new ≤ left fate.old }
 {
     match fate.next() {
-        Verdict::Pass => deliver_at(world, link, way, place, false),
+        Verdict::Pass => deliver_at(world, link, way, place),
         Verdict::Lose => lose_at(world, link, way, place),
-        Verdict::Twice => deliver_at(world, link, way, place, true),
+        Verdict::Twice => repeat_at(world, link, way, place),
         Verdict::Later => Ok(()),
     }
 }

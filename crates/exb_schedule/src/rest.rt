@@ -68,9 +68,7 @@ pub(crate) fn pass(world: &mut World, rest: &mut Rest) -> Result<(), WorldFault>
     if rest.seconds == 0 {
         return Ok(());
     }
-    world.step(&Step::Tick {
-        seconds: rest.seconds,
-    })?;
+    world.tick(rest.seconds)?;
     rest.seconds = 0;
     Ok(())
 }
@@ -117,7 +115,7 @@ pub(crate) fn come(
     if rest.given[at] {
         return Ok(());
     }
-    world.step(&arrive(&arrivals[at]))?;
+    world.arrive(&arrivals[at])?;
     rest.given[at] = true;
     Ok(())
 }

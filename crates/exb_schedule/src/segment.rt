@@ -18,7 +18,7 @@ use exb_fate::Fate;
 use exb_model::arrival::Arrival;
 use exb_model::memory::NoMemory;
 use exb_model::setup::{Setup, Timed, Verdict};
-use exb_network::{Step, WorldFault};
+use exb_network::WorldFault;
 use std::alloc::Global;
 
 /// Marks what is settled.
@@ -30,7 +30,7 @@ fn set_mark(world: &mut World) -> Result<(), WorldFault>
     ensures failed { (result ≡ Err WorldFault.Failed) ↔ (world.old.failed ≡ true) }
     ensures memory { OnErr result (world.new.failed ≡ true) }
 {
-    world.step(&Step::Mark)
+    world.mark()
 }
 
 /// Settles and marks.
@@ -108,9 +108,7 @@ pub(crate) fn give_one(
     ensures fate { left fate.new ≤ left fate.old + length command.now.fate }
 {
     match fate.arm(command.fate.as_slice()) {
-        Ok(()) => world.step(&Step::Command {
-            command: &command.command,
-        }),
+        Ok(()) => world.order(&command.command),
         Err(_) => Err(WorldFault::Memory),
     }
 }

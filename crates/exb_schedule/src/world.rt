@@ -1,5 +1,5 @@
 //! The world: a network that a setup began, as schedules move it.
-ghost use Rattle.std.specs.Prelude.{⊤, ◌≡◌, ◌≢◌, ◌↔◌, ◌+◌, ◌<◌, ◌≤◌, ◌^◌, true, false, All, IfOk, IsTrue, OnErr, OnOk, length, filter};
+ghost use Rattle.std.specs.Prelude.{⊤, ◌≡◌, ◌↔◌, ◌<◌, true, false, All, IfOk, IsTrue, length, filter};
 ghost use Rattle.exb_model.specs.Setup.{IsValid, limits_of, shape_of, start_of};
 ghost use Rattle.exb_model.specs.Tree.{is_extender};
 ghost use Rattle.exb_changing.specs.Counting.{planned};
@@ -7,17 +7,19 @@ ghost use Rattle.exb_changing.specs.Deciding.{decide};
 ghost use Rattle.exb_link.specs.Words.{is_control, is_data, leading};
 ghost use Rattle.exb_machine.specs.Allowing.{Can, IsSettled};
 ghost use Rattle.exb_machine.specs.Stepping.{words_on};
-ghost use Rattle.exb_machine.specs.Worlds.{first_world};
+ghost use Rattle.exb_machine.specs.Worlds.{Arrive, Beat, Carry, Control, Lose, Mark, Order, Tick, first_world};
 ghost use Rattle.exb_motion.specs.Kept.{HasVid};
-ghost use Rattle.exb_network.specs.Networks.{world_of, tree_of, bounds_of, step_of, IsQuiet, IsSame, IsStepped};
+ghost use Rattle.exb_network.specs.Networks.{world_of, tree_of, bounds_of, step_of, IsQuiet, IsSame};
 ghost use Rattle.exb_network.specs.Steps.{way_of};
-ghost use Rattle.exb_motion.specs.Runs.Settles.{MayTake};
 ghost use Rattle.exb_schedule.specs.Reached.{IsReached};
-ghost use Rattle.exb_schedule.specs.Standing.{BeginsStanding, HasCleanLinks, StaysStanding, TellsByKind};
+ghost use Rattle.exb_schedule.specs.Standing.{BeginsStanding, HasCleanLinks, HasMade};
 
-use crate::facts::{brings_bytes, brings_vlan, name_vlans};
+use crate::facts::{name_vlans, names_vlan};
 use crate::laws::{setups_begin_standing, steps_leave_standing};
 use exb_link::Counts;
+use exb_model::arrival::Arrival;
+use exb_model::bytes::are_bytes;
+use exb_model::command::Command;
 use exb_model::event::Event;
 use exb_model::memory::NoMemory;
 use exb_model::setup::Setup;
@@ -88,27 +90,104 @@ impl World {
         self.network.can(step)
     }
 
-    /// Makes a step.
+    /// A frame of at most 262,144 bytes arrives at an external port.
     #[inline(always)]
-    pub fn step(&mut self, step: &Step<'_>) -> Result<(), WorldFault>
-        requires { Can (tree_of self.old) (world_of self.old) (step_of step.now) }
-        ensures ok { OnOk result (IsStepped (step_of step.now) self.old self.new) }
-        ensures may { OnOk result (MayTake (tree_of self.old) (world_of self.old) (step_of step.now)) }
-        ensures failed { (result ≡ Err WorldFault.Failed) ↔ (self.old.failed ≡ true) }
-        ensures memory { OnErr result (self.new.failed ≡ true) }
-        ensures stands { OnOk result (StaysStanding (step_of step.now) self.old self.new) }
-        ensures clean { OnOk result (HasCleanLinks self.new) }
-        ensures events { OnOk result (TellsByKind (step_of step.now) self.old self.new) }
+    pub fn arrive(&mut self, arrival: &Arrival) -> Result<(), WorldFault>
+        requires { Can (tree_of self.old) (world_of self.old) (Arrive arrival.now) }
+        ensures { HasMade (Arrive arrival.now) result self.old self.new }
     {
         steps_leave_standing();
-        brings_bytes(step);
-        brings_vlan(step);
-        self.network.step(step)
+        are_bytes(arrival.bytes.as_slice());
+        self.network.arrive(arrival)
+    }
+
+    /// The first data word of a direction is taken.
+    #[inline(always)]
+    pub fn carry(&mut self, link: u8, way: Way) -> Result<(), WorldFault>
+        requires { Can (tree_of self.old) (world_of self.old) (Carry link (way_of way)) }
+        ensures { HasMade (Carry link (way_of way)) result self.old self.new }
+    {
+        steps_leave_standing();
+        self.network.carry(link, way)
+    }
+
+    /// The control word at a position, before which no data word is left, is delivered.
+    #[inline(always)]
+    pub fn deliver(&mut self, link: u8, way: Way, at: u64) -> Result<(), WorldFault>
+        requires { Can (tree_of self.old) (world_of self.old) (Control link (way_of way) at false) }
+        ensures { HasMade (Control link (way_of way) at false) result self.old self.new }
+    {
+        steps_leave_standing();
+        self.network.deliver(link, way, at)
+    }
+
+    /// The control word at a position, before which no data word is left, is delivered, and stays on the link too.
+    #[inline(always)]
+    pub fn repeat(&mut self, link: u8, way: Way, at: u64) -> Result<(), WorldFault>
+        requires { Can (tree_of self.old) (world_of self.old) (Control link (way_of way) at true) }
+        ensures { HasMade (Control link (way_of way) at true) result self.old self.new }
+    {
+        steps_leave_standing();
+        self.network.repeat(link, way, at)
+    }
+
+    /// The control word at a position is lost.
+    #[inline(always)]
+    pub fn lose(&mut self, link: u8, way: Way, at: u64) -> Result<(), WorldFault>
+        requires { Can (tree_of self.old) (world_of self.old) (Lose link (way_of way) at) }
+        ensures { HasMade (Lose link (way_of way) at) result self.old self.new }
+    {
+        steps_leave_standing();
+        self.network.lose(link, way, at)
+    }
+
+    /// A beat passes at all ends.
+    #[inline(always)]
+    pub fn beat(&mut self) -> Result<(), WorldFault>
+        requires { Can (tree_of self.old) (world_of self.old) Beat }
+        ensures { HasMade Beat result self.old self.new }
+    {
+        steps_leave_standing();
+        self.network.beat()
+    }
+
+    /// The clock goes on, by at least one second. It stays below 2^63.
+    #[inline(always)]
+    pub fn tick(&mut self, seconds: u32) -> Result<(), WorldFault>
+        requires { Can (tree_of self.old) (world_of self.old) (Tick seconds) }
+        ensures { HasMade (Tick seconds) result self.old self.new }
+    {
+        steps_leave_standing();
+        self.network.tick(seconds)
+    }
+
+    /// A command is given.
+    #[inline(always)]
+    pub fn order(&mut self, command: &Command) -> Result<(), WorldFault>
+        requires { Can (tree_of self.old) (world_of self.old) (Order command.now) }
+        ensures { HasMade (Order command.now) result self.old self.new }
+    {
+        steps_leave_standing();
+        names_vlan(command);
+        self.network.order(command)
+    }
+
+    /// Nothing is left to be done, and that is marked.
+    #[inline(always)]
+    pub fn mark(&mut self) -> Result<(), WorldFault>
+        requires { Can (tree_of self.old) (world_of self.old) Mark }
+        ensures { HasMade Mark result self.old self.new }
+    {
+        steps_leave_standing();
+        self.network.mark()
     }
 
     /// Marks that memory ran out: no later step is made.
     pub(crate) fn fail(&mut self)
-        ensures { self.new.failed ≡ true }
+        ensures failed { self.new.failed ≡ true }
+        ensures world { world_of self.new ≡ world_of self.old }
+        ensures site { self.new.site ≡ self.old.site }
+        ensures log { self.new.log ≡ self.old.log }
     {
         self.network.fail();
     }

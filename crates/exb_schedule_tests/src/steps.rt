@@ -40,41 +40,45 @@ pub(crate) fn is_free(rt: &impl Abort, world: &World, link: u8, way: Way, at: u6
 /// The first data word of a direction is taken.
 pub(crate) fn carry(rt: &impl Abort, world: &mut World, link: u8, way: Way) {
     assert!(rt; world.can(&Step::Carry { link, way }));
-    world.step(&Step::Carry { link, way }).expect(rt, "memory");
+    world.carry(link, way).expect(rt, "memory");
 }
 
-/// A control word is delivered, and may be kept.
-pub(crate) fn deliver(rt: &impl Abort, world: &mut World, link: u8, way: Way, at: u64, keep: bool) {
+/// A control word is delivered.
+pub(crate) fn deliver(rt: &impl Abort, world: &mut World, link: u8, way: Way, at: u64) {
     assert!(rt;
         world.can(&Step::Control {
             link,
             way,
             at,
-            keep
+            keep: false,
         })
     );
-    world
-        .step(&Step::Control {
+    world.deliver(link, way, at).expect(rt, "memory");
+}
+
+/// A control word is delivered, and stays on its link.
+pub(crate) fn repeat(rt: &impl Abort, world: &mut World, link: u8, way: Way, at: u64) {
+    assert!(rt;
+        world.can(&Step::Control {
             link,
             way,
             at,
-            keep,
+            keep: true,
         })
-        .expect(rt, "memory");
+    );
+    world.repeat(link, way, at).expect(rt, "memory");
 }
 
 /// A control word is lost.
 pub(crate) fn lose(rt: &impl Abort, world: &mut World, link: u8, way: Way, at: u64) {
     assert!(rt; world.can(&Step::Lose { link, way, at }));
-    world
-        .step(&Step::Lose { link, way, at })
-        .expect(rt, "memory");
+    world.lose(link, way, at).expect(rt, "memory");
 }
 
 /// A beat passes.
 pub(crate) fn beat(rt: &impl Abort, world: &mut World) {
     assert!(rt; world.can(&Step::Beat));
-    world.step(&Step::Beat).expect(rt, "memory");
+    world.beat().expect(rt, "memory");
 }
 
 /// A record arrives, at the moment 0.
@@ -87,7 +91,7 @@ pub(crate) fn arrive(rt: &impl Abort, world: &mut World, port: PortId, index: u6
     };
     let arrival = &arrival;
     assert!(rt; world.can(&Step::Arrive { arrival }));
-    world.step(&Step::Arrive { arrival }).expect(rt, "memory");
+    world.arrive(arrival).expect(rt, "memory");
 }
 
 // The fate is armed.
@@ -110,7 +114,7 @@ pub(crate) fn arm_with(rt: &impl Abort, alloc: Global, fate: &mut dyn Fate, coun
 fn command(rt: &impl Abort, world: &mut World, timed: &Timed) {
     let command = &timed.command;
     assert!(rt; world.can(&Step::Command { command }));
-    world.step(&Step::Command { command }).expect(rt, "memory");
+    world.order(command).expect(rt, "memory");
 }
 
 /// A command is given, for which the fate is armed just before.
@@ -127,7 +131,7 @@ pub(crate) fn asked(fate: &dyn Fate, armed: u64) -> u64 {
 // What is settled is marked.
 fn mark(rt: &impl Abort, world: &mut World) {
     assert!(rt; world.can(&Step::Mark));
-    world.step(&Step::Mark).expect(rt, "memory");
+    world.mark().expect(rt, "memory");
 }
 
 // How many rounds a settling may take: 64 for each of so many verdicts that may not be Pass, each planned exchange, and one more.

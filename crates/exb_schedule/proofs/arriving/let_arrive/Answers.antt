@@ -7,5 +7,5 @@ loop-arrival-init c = given_first Arrive c.args.arrivals.now c.args.world.now c.
 
 pub loop-arrival-preserved : goal.loop-arrival-preserved
 loop-arrival-preserved c =
-    given_on Arrive c.args.arrivals.now c.loop-arrival.arrival-index c.arrival-item.result c.args.world.now c.loop-arrival.world c.step.new.self c.loop-arrival-test.true c.arrival-item.is
-    c.loop-arrival.invariant c.in_ok-step.ensures.ok c.in_ok-step.ensures.may
+    given_on Arrive c.args.arrivals.now c.loop-arrival.arrival-index c.arrival-item.result c.args.world.now c.loop-arrival.world c.arrive.new.self c.loop-arrival-test.true c.arrival-item.is
+    c.loop-arrival.invariant c.in_ok-arrive.ensures.ok c.in_ok-arrive.ensures.may

@@ -14,7 +14,7 @@ returns-then-seconds-eq0-clause-ok c =
 pub returns-clause-ok : goal.returns-clause-ok
 returns-clause-ok c =
     let old = c.args.world.now in
-    on_ok_two c.step.result
+    on_ok_two c.tick.result
     (λ made may.
-    subst (λ (zs : List Step). HasRun zs old c.step.new.self) (sym (tick_some c.args.seconds c.if-seconds-eq0.false)) (run_step (Tick c.args.seconds) old c.step.new.self made may))
-    c.step.ensures.ok c.step.ensures.may
+    subst (λ (zs : List Step). HasRun zs old c.tick.new.self) (sym (tick_some c.args.seconds c.if-seconds-eq0.false)) (run_step (Tick c.args.seconds) old c.tick.new.self made may))
+    c.tick.ensures.ok c.tick.ensures.may

@@ -39,8 +39,8 @@ returns-in_ok-rest-clause-fewer g c =
     let some = left_control c.args.link (way_of c.args.way) (world_of c.args.world.now) c.args.rest.now c.requires.next c.requires.some (c.free_at.ensures.0 c.if-free_at.true) in
     omega (arith, some)
 
-pub step-requires : goal.step-requires
-step-requires g c =
+pub carry-requires : goal.carry-requires
+carry-requires g c =
     let some = left_data c.args.link (way_of c.args.way) (world_of c.args.world.now) c.args.rest.now c.requires.next c.requires.some (λ h. false≢true (sym c.if-free_at.false ∙ c.free_at.ensures.1 h)) in
     (c.requires.there, some.1)
 
@@ -48,15 +48,15 @@ pub returns-else-free_at-clause-ok : goal.returns-else-free_at-clause-ok
 returns-else-free_at-clause-ok g c = λ whole before old k.
     let none : c.args.rest.now.place < leading (words_on c.args.link (way_of c.args.way) (world_of c.args.world.now)) → ⊥ = λ h. false≢true (sym c.if-free_at.false ∙ c.free_at.ensures.1 h) in
     let some = (left_data c.args.link (way_of c.args.way) (world_of c.args.world.now) c.args.rest.now c.requires.next c.requires.some none).0 in
-    on_ok_two c.step.result
+    on_ok_two c.carry.result
     (λ made may.
-    data_by c.args.link (way_of c.args.way) whole before _ _ old c.args.world.now c.step.new.self c.args.rest.now _ k.next.kept k.next.rest k.next.more c.requires.there k.next.control_alone k.next.place k.next.is
+    data_by c.args.link (way_of c.args.way) whole before _ _ old c.args.world.now c.carry.new.self c.args.rest.now _ k.next.kept k.next.rest k.next.more c.requires.there k.next.control_alone k.next.place k.next.is
     k.next.frames k.next.control c.requires.some none
-    (run_step _ c.args.world.now c.step.new.self made may) refl (omega (arith, some)) refl (omega arith)
+    (run_step _ c.args.world.now c.carry.new.self made may) refl (omega (arith, some)) refl (omega arith)
     k.leads)
-    c.step.ensures.ok c.step.ensures.may
+    c.carry.ensures.ok c.carry.ensures.may
 
 pub returns-else-free_at-clause-fewer : goal.returns-else-free_at-clause-fewer
 returns-else-free_at-clause-fewer g c =
     let some = (left_data c.args.link (way_of c.args.way) (world_of c.args.world.now) c.args.rest.now c.requires.next c.requires.some (λ h. false≢true (sym c.if-free_at.false ∙ c.free_at.ensures.1 h))).0 in
-    on_ok_all c.step.result (omega (arith, some))
+    on_ok_all c.carry.result (omega (arith, some))

@@ -6,4 +6,4 @@ use Rattle.exb_schedule.proofs.drawn.lose_at.Goals as goal
 
 pub returns-clause-ok : goal.returns-clause-ok
 returns-clause-ok c =
-    on_ok_two c.step.result (λ made may. keeps_by _ (Lose c.args.link (way_of c.args.way) c.args.place) c.args.world.now c.step.new.self c.lose-2.ensures tt made may) c.step.ensures.ok c.step.ensures.may
+    on_ok_two c.lose-2.result (λ made may. keeps_by (Lose c.args.link (way_of c.args.way) c.args.place) c.args.world.now c.lose-2.new.self tt made may) c.lose-2.ensures.ok c.lose-2.ensures.may

@@ -6,4 +6,4 @@ use Rattle.exb_schedule.proofs.drawn.take_data.Goals as goal
 
 pub returns-clause-ok : goal.returns-clause-ok
 returns-clause-ok c =
-    on_ok_two c.step.result (λ made may. keeps_by _ (Carry c.args.link (way_of c.args.way)) c.args.world.now c.step.new.self c.carry-2.ensures tt made may) c.step.ensures.ok c.step.ensures.may
+    on_ok_two c.carry-2.result (λ made may. keeps_by (Carry c.args.link (way_of c.args.way)) c.args.world.now c.carry-2.new.self tt made may) c.carry-2.ensures.ok c.carry-2.ensures.may

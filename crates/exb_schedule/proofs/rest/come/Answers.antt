@@ -1,17 +1,13 @@
-use Rattle.std.proofs.Common.{◌<◌, true, length, arith, subst, sym, ◌∙◌}
+use Rattle.std.proofs.Common.{◌<◌, true, length, arith, sym, ◌∙◌}
 use Rattle.std.proofs.lemmas.List.{get_or_default}
-use Rattle.exb_machine.specs.Worlds.{Step}
-use Rattle.exb_network.specs.Networks.{world_of, tree_of, IsStepped}
-use Rattle.exb_motion.specs.Runs.Settles.{MayTake}
 use Rattle.exb_schedule.proofs.Drawing.{drawn_arrival}
 use Rattle.exb_schedule.proofs.rest.come.Goals as goal
 
 pub returns-clause-ok : goal.returns-clause-ok
 returns-clause-ok c cs all old k =
-    let now = c.args.world.now in
     let there = c.requires.there in
     let whole = c.requires.whole in
     let low : c.args.at < length c.args.rest.now.given.items = omega (arith, there, whole) in
-    drawn_arrival all cs c.args.arrivals.now c.args.rest.now.seconds c.args.rest.now.taken c.args.rest.now.given.items old c.args.world.now c.step.new.self k c.args.at c.index-arrivals-at.result low c.requires.there
+    drawn_arrival all cs c.args.arrivals.now c.args.rest.now.seconds c.args.rest.now.taken c.args.rest.now.given.items old c.args.world.now c.arrive.new.self k c.args.at c.index-arrivals-at.result low c.requires.there
     (get_or_default c.args.rest.now.given.items c.args.at true c.index.result.now low ∙ (sym c.index.ensures ∙ c.if-index.false)) c.index-arrivals-at.is
-    (subst (λ (s : Step). IsStepped s now c.step.new.self) c.arrive.ensures c.in_ok-step.ensures.ok) (subst (MayTake (tree_of now) (world_of now)) c.arrive.ensures c.in_ok-step.ensures.may)
+    c.in_ok-arrive.ensures.ok c.in_ok-arrive.ensures.may
