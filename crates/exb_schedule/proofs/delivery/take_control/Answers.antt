@@ -4,8 +4,8 @@ use Rattle.exb_network.specs.Steps.{way_of}
 use Rattle.exb_schedule.proofs.Taking.{is_there, kept, lost, passed, repeated}
 use Rattle.exb_schedule.proofs.delivery.take_control.Goals as goal
 
-pub lose-requires-in-Lose : goal.lose-requires-in-Lose
-lose-requires-in-Lose g c = (c.requires.there, is_there c.args.place (words_on c.args.link (way_of c.args.way) (world_of c.args.world.now)) c.requires.free)
+pub lose-requires : goal.lose-requires
+lose-requires g c = (c.requires.there, is_there c.args.place (words_on c.args.link (way_of c.args.way) (world_of c.args.world.now)) c.requires.free)
 
 pub returns-in_ok-deliver-in-Pass-clause-ok : goal.returns-in_ok-deliver-in-Pass-clause-ok
 returns-in_ok-deliver-in-Pass-clause-ok g c = passed _ _ _ _ _ _ _ c.next.ensures.0 c.in_ok-deliver-in-Pass.ensures.ok c.in_ok-deliver-in-Pass.ensures.may
