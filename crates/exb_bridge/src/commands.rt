@@ -1,5 +1,5 @@
 //! What the bridge is given: commands, and seconds that pass.
-ghost use Rattle.std.specs.Prelude.{◌≡◌, ◌<◌, ◌+◌, ◌^◌, OnOk};
+ghost use Rattle.std.specs.Prelude.{◌<◌, ◌+◌, ◌^◌, OnOk};
 ghost use Rattle.exb_model.specs.Setup.{NamesExternal};
 ghost use Rattle.exb_machine.specs.Stepping.{done_by};
 ghost use Rattle.exb_machine.specs.Worlds.{Order, Tick};

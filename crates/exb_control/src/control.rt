@@ -2,7 +2,7 @@
 ghost use Rattle.std.specs.Prelude.{◌≡◌, ℕ, ◌+◌, ◌-◌, ◌<◌, ◌≤◌, ◌^◌, ◌↔◌, [], true, false, IfOk, OnOk, OnErr, is_err};
 ghost use Rattle.std.specs.List.{All};
 ghost use Rattle.exb_model.specs.Setup.{IsValid, NamesExternal, shape_of, limits_of};
-ghost use Rattle.exb_model.specs.Tree.{is_extender, is_external, is_cascade};
+ghost use Rattle.exb_model.specs.Tree.{is_extender, is_cascade};
 ghost use Rattle.exb_csp.specs.Sessions.Asking.{took};
 
 use crate::active_config::ActiveConfig;

@@ -8,7 +8,7 @@ ghost use Rattle.exb_bridge.specs.Sites.{limits_in};
 ghost use Rattle.exb_network.specs.Live.{Makes, StaysLive};
 ghost use Rattle.exb_network.specs.Networks.{IsLive};
 ghost use Rattle.exb_network.specs.Steps.{way_of};
-ghost use Rattle.exb_network.specs.Worlds.{rest_of, world_in};
+ghost use Rattle.exb_network.specs.Worlds.{world_in};
 
 use crate::site::Core;
 use crate::step::Way;

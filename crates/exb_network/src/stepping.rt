@@ -1,9 +1,8 @@
 //! How each step is made.
 ghost use Rattle.std.specs.Prelude.{◌≡◌, ◌<◌, ◌+◌, ◌^◌, true, false, IfOk, OnOk, filter, slice_get};
-ghost use Rattle.exb_model.specs.Setup.{NamesExternal};
 ghost use Rattle.exb_model.specs.Tree.{is_extender, is_external};
 ghost use Rattle.exb_machine.specs.Stepping.{arrives, control_at, done_by, takes, takes_up, with_words, words_on};
-ghost use Rattle.exb_machine.specs.Worlds.{Carry, Control, Down, Lose, Mark, Order, Tick, Up};
+ghost use Rattle.exb_machine.specs.Worlds.{Carry, Control, Down, Lose, Mark, Up};
 ghost use Rattle.exb_link.specs.Words.{is_control, without_control};
 ghost use Rattle.exb_machine.specs.Runs.Asks.{AsksWell};
 ghost use Rattle.exb_boxes.specs.Directions.{words_of};

@@ -1,5 +1,5 @@
 //! What extenders do with words and frames that come to them, and at a beat.
-ghost use Rattle.std.specs.Prelude.{◌≡◌, ◌++◌, ◌∷◌, [], true, OnOk, None};
+ghost use Rattle.std.specs.Prelude.{◌≡◌, [], true, OnOk, None};
 ghost use Rattle.exb_model.specs.Tree.{device, is_extender, port_number};
 ghost use Rattle.exb_extender.specs.Machine.{Arrives, Beats, CanTake};
 ghost use Rattle.exb_machine.specs.Extending.{arrives_at, reacts, takes_from_above, takes_from_below};
