@@ -52,11 +52,7 @@ impl Node {
     {
         let world = World::new(alloc, setup, false)?;
         match ends_of(alloc, wires, bridge, world.tree()) {
-            Ok(ends) => Ok(Node {
-                world,
-                fate,
-                ends,
-            }),
+            Ok(ends) => Ok(Node { world, fate, ends }),
             Err(_) => {
                 // By a call, since a block's end is far longer to prove where it lets a world go.
                 drop(world);

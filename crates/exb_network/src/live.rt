@@ -15,9 +15,7 @@ use crate::step::Way;
 use crate::telling::{tell_arrival, tell_beat, tell_control, tell_data, tell_nothing, tell_rest};
 use crate::{beating, bridging, stepping};
 use exb_bridge::{Room, Site};
-use exb_machine::laws::{
-    asks_can_be_sent, runs_stay_sound, steps_stay_written, written_are_short,
-};
+use exb_machine::laws::{asks_can_be_sent, runs_stay_sound, steps_stay_written, written_are_short};
 use exb_model::arrival::Arrival;
 use exb_model::bytes::are_bytes;
 use exb_model::command::Command;

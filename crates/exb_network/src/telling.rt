@@ -75,13 +75,7 @@ fn begin_at(port: PortId, frame: &[u8], post: &mut Post) -> Result<usize, NoMemo
     requires { post.old.log.tracing ≡ true }
     ensures { IfOk result (λ from. IsBegun (told (line_at port frame.now) ∷ []) from post.old.log post.new.log) }
 {
-    begin_in(
-        TraceWay::In,
-        port.device(),
-        port.place() + 1,
-        frame,
-        post,
-    )
+    begin_in(TraceWay::In, port.device(), port.place() + 1, frame, post)
 }
 
 /// A step begins in which a word, if there is one, comes in at the end of its direction, and a trace is kept.
