@@ -244,8 +244,9 @@ pub(crate) fn arrive(
     requires few { (world_in core.old).next arrival.now.port < 2 ^ 63 }
     ensures { OnOk result (Does (arrives site.now.tree arrival.now (world_in core.old)) site.now core.new room.old.post.log room.new.post.log) }
 {
-    core.next.count(arrival.port);
-    if arrival.port.device() == 0 {
+    let port = arrival.port;
+    core.next.count(port);
+    if port.device() == 0 {
         come(site, arrival, room, core)
     } else {
         arrive_at(site, arrival, room, core)

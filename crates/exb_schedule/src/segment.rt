@@ -104,9 +104,12 @@ pub(crate) fn give_one(
     requires few { left fate.old + length command.now.fate < 2 ^ 57 }
     ensures ok { OnOk result (IsStepped (Order command.now.command) world.old world.new) }
     ensures may { OnOk result (MayTake (tree_of world.old) (world_of world.old) (Order command.now.command)) }
-    ensures failed { result ≡ Err WorldFault.Failed → world.old.failed ≡ true }
+    ensures failed { (result ≡ Err WorldFault.Failed) ↔ (world.old.failed ≡ true) }
     ensures fate { left fate.new ≤ left fate.old + length command.now.fate }
 {
+    if world.network().has_failed() {
+        return Err(WorldFault::Failed);
+    }
     match fate.arm(command.fate.as_slice()) {
         Ok(()) => world.order(&command.command),
         Err(_) => Err(WorldFault::Memory),
@@ -119,7 +122,7 @@ fn give(world: &mut World, fate: &mut dyn Fate, commands: &[Timed]) -> Result<()
     requires can { CanAll world.old (orders commands.now) }
     requires few { left fate.old + letters_in commands.now < 2 ^ 57 }
     ensures ok { OnOk result (HasRun (orders commands.now) world.old world.new) }
-    ensures failed { result ≡ Err WorldFault.Failed → world.old.failed ≡ true }
+    ensures failed { OnErr result ((result ≡ Err WorldFault.Failed) ↔ (world.old.failed ≡ true)) }
     ensures fate { left fate.new ≤ left fate.old + letters_in commands.now }
 {
     for command in commands {
@@ -141,7 +144,7 @@ fn give_all(
     requires can { CanAll world.old (gives seconds commands.now arrivals.now) }
     requires few { left fate.old + letters_in commands.now < 2 ^ 57 }
     ensures ok { OnOk result (HasRun (gives seconds commands.now arrivals.now) world.old world.new) }
-    ensures failed { result ≡ Err WorldFault.Failed → world.old.failed ≡ true }
+    ensures failed { OnErr result ((result ≡ Err WorldFault.Failed) ↔ (world.old.failed ≡ true)) }
     ensures fate { left fate.new ≤ left fate.old + letters_in commands.now }
 {
     let_pass(world, seconds)?;
@@ -164,6 +167,7 @@ fn play_in_order(
     ensures segment { OnOk result (IsPlayedOut (gives seconds commands.now arrivals.now) world.old world.new) }
     ensures plays { OnOk result (PlaysOn Eager seconds commands.now arrivals.now world.old world.new) }
     ensures same { OnOk result (IsSame world.old world.new) }
+    ensures failed { (result ≡ Err WorldFault.Failed) ↔ (world.old.failed ≡ true) }
     ensures fate { left fate.new ≤ left fate.old + letters_in commands.now }
 {
     give_all(world, fate, seconds, commands, arrivals)?;
@@ -189,14 +193,11 @@ pub fn eager(
     ensures memory { OnErr result (world.new.failed ≡ true) }
     ensures fate { left fate.new ≤ left fate.old + letters_in commands.now }
 {
-    if world.network().has_failed() {
-        return Err(WorldFault::Failed);
-    }
     match play_in_order(world, fate, seconds, commands, arrivals) {
         Ok(()) => Ok(()),
-        Err(_) => {
+        Err(fault) => {
             world.fail();
-            Err(WorldFault::Memory)
+            Err(fault)
         }
     }
 }
