@@ -1,14 +1,14 @@
 -- Which VLANs have a member, by their rows.
-use Rattle.std.proofs.Common.{◌≡◌, ℕ, ◌+◌, ◌<◌, ◌≤◌, Bool, true, false, cond, not, ◌&&◌, ◌==◌, List, length, replicate, refl, sym, ap, ◌∙◌, inl, inr, ◌⊎◌, ◌||◌, ◌*◌, ◌^◌, ◌%◌, arith, ◌/◌, eq-eqb, bit_or, w64}
-use Rattle.std.specs.Prelude.{slice_index, Option, Some, None, Box, is_some, slice_index_or, slice_set, IsTrue, ◌↔◌}
-use Rattle.std.specs.Global.{Global}
+use Rattle.std.proofs.Common.{◌≡◌, ℕ, ◌+◌, ◌<◌, ◌≤◌, Bool, true, false, cond, not, ◌&&◌, ◌==◌, ◌≢◌, List, length, replicate, refl, sym, subst, ap, max, ◌∙◌, inl, inr, ◌⊎◌, ◌||◌, ◌*◌, ◌^◌, ◌%◌, arith, ◌/◌, eq-eqb, bit_or, w64}
+use Rattle.std.specs.Prelude.{slice_index, Option, Some, None, is_some, slice_set, IsTrue, ◌↔◌}
 use Rattle.std.specs.Int.{bit_at}
 use Rattle.std.specs.List.{list_any}
-use Rattle.std.proofs.lemmas.Nat.Bits.{bit_at_set_same, bit_at_set_other}
+use Rattle.std.proofs.lemmas.Nat.Bits.{bit_at_set_same, bit_at_set_other, bit_at_or, bit_at-lt}
 use Rattle.std.proofs.lemmas.Bool.{cases_Bool, cases_lt, cases_eq, ne_eqb, false≢true}
-use Rattle.std.proofs.lemmas.List.{get_or_past, get_or-map, get_or-set_same, get_or-set_other, map-set, length-map, length-set, length-replicate}
+use Rattle.std.proofs.lemmas.List.{get_or_past, get_or-set_same, get_or-set_other}
 use Rattle.exb_model.specs.declared.port_set.PortSet.{PortSet}
 use Rattle.exb_model.specs.declared.vlan.Kind.TheVariants.{Tagged, Untagged}
+use Rattle.exb_model.specs.PortBits.{has_port}
 use Rattle.exb_model.specs.Ports.{port_in, below, all_ports}
 use Rattle.exb_model.specs.Configuration.{kind_in}
 use Rattle.exb_model.proofs.PortLemmas.{any_below-true, any_below-false}
@@ -121,6 +121,53 @@ no_kind_at m q no_tagged no_untagged = rw (no_untagged, no_tagged) refl
 
 pub spread_whole : (s d : ℕ) (m : Members) → 65 ≤ d → IsSpreadTo s m d → (q : ℕ) → is_marked s (q / 64) ≡ false → kind_in m.tagged m.untagged q ≡ None
 spread_whole s d m whole before q none =
+    elim (cases_lt q 4160) [
+      | inl low ↦ before q (omega arith) none
+      | inr high ↦ no_kind_at m q (port_past m.tagged q high) (port_past m.untagged q high)
+    ]
+
+-- ---- which places have a member
+-- no device before this one has a member at a place whose bit isn't set
+abbrev pub IsPlacedTo : ℕ → Members → ℕ → Type 0
+IsPlacedTo places m device = (q : ℕ) → q / 64 < device → is_marked places (q % 64) ≡ false → kind_in m.tagged m.untagged q ≡ None
+
+-- a bit that two words together don't have, neither has
+no_bit : (a b i : ℕ) → (bit_at (bit_or a b) i == 1) ≡ false → ((bit_at a i == 1) ≡ false) × ((bit_at b i == 1) ≡ false)
+no_bit a b i none = (first (cases_eq (bit_at a i) 1), second (cases_eq (bit_at b i) 1))
+  where
+    first : (bit_at a i ≡ 1) ⊎ (bit_at a i ≢ 1) → (bit_at a i == 1) ≡ false
+    first (inl is) =
+        let both : bit_at (bit_or a b) i ≡ max 1 (bit_at b i) = bit_at_or a b i ∙ ap (λ x. max x (bit_at b i)) is in
+        absurd (false≢true (sym none ∙ eq-eqb (bit_at (bit_or a b) i) 1 (omega (arith, both, bit_at-lt b i))))
+    first (inr other) = ne_eqb (bit_at a i) 1 other
+
+    second : (bit_at b i ≡ 1) ⊎ (bit_at b i ≢ 1) → (bit_at b i == 1) ≡ false
+    second (inl is) =
+        let both : bit_at (bit_or a b) i ≡ max (bit_at a i) 1 = bit_at_or a b i ∙ ap (max (bit_at a i)) is in
+        absurd (false≢true (sym none ∙ eq-eqb (bit_at (bit_or a b) i) 1 (omega (arith, both, bit_at-lt a i))))
+    second (inr other) = ne_eqb (bit_at b i) 1 other
+
+-- the places of one device more
+pub placed_more : (places d : ℕ) (m : Members) → IsPlacedTo places m d → IsPlacedTo (bit_or places (bit_or (slice_index m.tagged.words d) (slice_index m.untagged.words d))) m (d + 1)
+unfolding is_marked has_port
+placed_more places d m before q low none =
+    let i : ℕ = q % 64 % 64 in
+    let tagged = slice_index m.tagged.words d in
+    let untagged = slice_index m.untagged.words d in
+    let parts = no_bit places (bit_or tagged untagged) i none in
+    let words = no_bit tagged untagged i parts.1 in
+    let place : i ≡ q % 64 = omega arith in
+    elim (cases_lt (q / 64) d) [
+      | inl lower ↦ before q lower parts.0
+      | inr not_lower ↦
+          let is : d ≡ q / 64 = omega arith in
+          no_kind_at m q
+          (subst (λ (j : ℕ). (bit_at (slice_index m.tagged.words (q / 64)) j == 1) ≡ false) place (subst (λ (e : ℕ). (bit_at (slice_index m.tagged.words e) i == 1) ≡ false) is words.0))
+          (subst (λ (j : ℕ). (bit_at (slice_index m.untagged.words (q / 64)) j == 1) ≡ false) place (subst (λ (e : ℕ). (bit_at (slice_index m.untagged.words e) i == 1) ≡ false) is words.1))
+    ]
+
+pub placed_whole : (places d : ℕ) (m : Members) → 65 ≤ d → IsPlacedTo places m d → (q : ℕ) → is_marked places (q % 64) ≡ false → kind_in m.tagged m.untagged q ≡ None
+placed_whole places d m whole before q none =
     elim (cases_lt q 4160) [
       | inl low ↦ before q (omega arith) none
       | inr high ↦ no_kind_at m q (port_past m.tagged q high) (port_past m.untagged q high)

@@ -42,6 +42,10 @@ is_marked spread d = bit_at spread (d % 64) == 1
 abbrev pub IsSpread : ℕ → Option Members → Type 0
 IsSpread spread row = (q : ℕ) → is_marked spread (q / 64) ≡ false → kind_by row q ≡ None
 
+-- a place has a member, at whatever device, only where its bit is set
+abbrev pub IsPlaced : ℕ → Option Members → Type 0
+IsPlaced places row = (q : ℕ) → is_marked places (q % 64) ≡ false → kind_by row q ≡ None
+
 -- the row in a box
 abbrev pub boxed : Option (Box Members Global) → Option Members
 boxed = option_map (λ b. b.value)

@@ -18,6 +18,9 @@ pub struct VlanRow {
     /// The devices that may have a member, by their bits: at a device without one a port is looked up, in VLAN after VLAN, with no look
     /// at their members.
     spread: u64,
+    /// The places at which some device may have a member, by their bits: so a port of a device that is marked is mostly looked up without
+    /// a look at the members too.
+    places: u64,
     members: Option<Box<Members>>,
 }
 
@@ -27,11 +30,11 @@ impl Model for VlanRow {
 
     ghost Value = { Option Members };
 
-    ghost use Rattle.exb_config.specs.Rows.{boxed, IsKnownBy, IsSpread};
+    ghost use Rattle.exb_config.specs.Rows.{boxed, IsKnownBy, IsSpread, IsPlaced};
 
     ghost view = { λ r. boxed r.members };
 
-    ghost invariant = { λ r. IsKnownBy (boxed r.members) × IsSpread r.spread (boxed r.members) };
+    ghost invariant = { λ r. IsKnownBy (boxed r.members) × IsSpread r.spread (boxed r.members) × IsPlaced r.places (boxed r.members) };
 }
 
 /// Marks a device; 0 and 64 have the same bit.
@@ -62,6 +65,17 @@ fn spread_of(members: &Members) -> u64
     spread
 }
 
+/// The places at which a device has a member.
+fn places_of(members: &Members) -> u64
+    ensures { (q : ℕ) → is_marked result (q % 64) ≡ false → kind_in members.now.tagged members.now.untagged q ≡ None }
+{
+    let mut places = 0;
+    for device in 0..65usize {
+        places |= members.tagged.words[device] | members.untagged.words[device];
+    }
+    places
+}
+
 impl VlanRow {
     /// No member.
     pub fn none() -> VlanRow
@@ -69,6 +83,7 @@ impl VlanRow {
     {
         VlanRow {
             spread: 0,
+            places: 0,
             members: None,
         }
     }
@@ -81,9 +96,11 @@ impl VlanRow {
             return Ok(VlanRow::none());
         }
         let spread = spread_of(members);
+        let places = places_of(members);
         match Box::new(alloc, *members) {
             Ok(row) => Ok(VlanRow {
                 spread,
+                places,
                 members: Some(row),
             }),
             Err(_) => Err(NoMemory),
@@ -103,6 +120,7 @@ impl VlanRow {
         };
         Ok(VlanRow {
             spread: self.spread,
+            places: self.places,
             members,
         })
     }
@@ -123,7 +141,7 @@ impl VlanRow {
     pub fn kind(&self, port: PortId) -> Option<Kind>
         ensures { result ≡ kind_by self.now port }
     {
-        if !is_marked(self.spread, port.device()) {
+        if !is_marked(self.spread, port.device()) || !is_marked(self.places, port.place()) {
             return None;
         }
         match &self.members {

@@ -137,6 +137,20 @@ module _ (count : ℕ) (own : List ℕ) (cascade : List Bool) (rows : List ℕ) 
           rw (lt-ltb count q above) (rw idle at none_here)
       by_count q none_here (inr here) = rw (le-ltb count q here) none_here
 
+-- the idle ports of a mask are those of what is left of it, once a port with a channel is left out
+pub stray_left : (own : List ℕ) (mask left at : ℕ) → at < 64 → (get_or own (at + 1) 0 == 0) ≡ false
+    → ((q : ℕ) → (in_mask mask q && (get_or own q 0 == 0)) ≡ (in_mask left q && (get_or own q 0 == 0)))
+    → (q : ℕ) → (in_mask mask q && (get_or own q 0 == 0)) ≡ (in_mask (without left at) q && (get_or own q 0 == 0))
+stray_left own mask left at few busy same q =
+    elim (cases_eq q (at + 1)) [
+      | inl is ↦
+          let none : (get_or own q 0 == 0) ≡ false = ap (λ p. get_or own p 0 == 0) is ∙ busy in
+          rw none (and_right (in_mask mask q) false refl ∙ sym (and_right (in_mask (without left at) q) false refl))
+      | inr other ↦
+          let stays : in_mask (without left at) q ≡ in_mask left q = in_mask-without left at q few ∙ rw (ne_eqb q (at + 1) other) (and_true (in_mask left q)) in
+          same q ∙ ap (λ b. b && (get_or own q 0 == 0)) (sym stays)
+    ]
+
 -- ---- tables after a request
 
 pub same_tables : (a b : ExtenderTables) → a.ports ≡ b.ports → ((q : ℕ) → a.own q ≡ b.own q) → ((q : ℕ) → a.cascade q ≡ b.cascade q) → ((e q : ℕ) → a.pair e q ≡ b.pair e q) → a ≡ b

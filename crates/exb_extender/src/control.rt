@@ -162,11 +162,10 @@ impl Control {
         let Some(message) = self.session.stored() else {
             return;
         };
-        let mut payload = ControlBuf::new();
-        exb_csp::write(&message, &mut payload);
+        exb_csp::write(&message, out);
         self.ecp.stop();
-        let sequence = self.ecp.submit(payload.as_slice());
-        write_request(self.number, sequence, payload.as_slice(), out);
+        let sequence = self.ecp.submit(out.as_slice());
+        write_request(self.number, sequence, self.ecp.payload(), out);
     }
 
     /// One beat passes, at an extender of so many ports.

@@ -185,10 +185,13 @@ impl Tables {
     fn has_stray(&self, mask: u64) -> bool
         ensures { result ≡ has_stray (tables_of self.now) mask }
     {
-        'ports: for port in 1..65u8 {
-            if has_port(mask, port) && self.is_idle(port) {
+        let mut left = mask;
+        'ports: while left != 0 {
+            let at = left.trailing_zeros() as u8;
+            if self.is_idle(at + 1) {
                 return true;
             }
+            left &= !(1 << at);
         }
         false
     }

@@ -1,7 +1,7 @@
 -- The keys of sets.
-use Rattle.std.proofs.Common.{◌≡◌, ℕ, zero, suc, true, false, List, [], ◌∷◌, ◌++◌, length, get_or, set, map, fold, replicate, refl, sym, ap, ◌∙◌, inl, inr, arith}
+use Rattle.std.proofs.Common.{◌≡◌, ℕ, ◌+◌, ◌<◌, zero, suc, true, false, List, [], ◌∷◌, ◌++◌, length, get_or, set, map, replicate, refl, sym, ap, ◌∙◌, inl, inr, arith, fold, take, drop}
 use Rattle.std.specs.Prelude.{Option, Some, None, slice_get}
-use Rattle.std.proofs.lemmas.List.{length-replicate, length-map, map-append}
+use Rattle.std.proofs.lemmas.List.{length-replicate, length-map, length-drop, get_or-drop, map-append}
 use Rattle.std.proofs.lemmas.Bool.{cases_lt, cases_Bool, lt-ltb, le-ltb}
 use Rattle.std.proofs.lemmas.Option.{slice_get-map, get_or_from_slice_get}
 use Rattle.std.proofs.lemmas.Grind.{same_number_lists}
@@ -10,21 +10,28 @@ use Rattle.exb_model.specs.Ports.{port_in, ports_of}
 use Rattle.exb_model.specs.Refusals.{is_empty_set}
 use Rattle.exb_model.proofs.Words.{same_word, get_or-same, has_port-empty}
 use Rattle.exb_numbers.specs.Groups.{sets_of}
-use Rattle.exb_numbers.specs.Order.{mixed, key_of, is_held, put_at, put_key_at, HaveKeys}
+use Rattle.exb_numbers.specs.Order.{mixed, joined, key_of, is_held, put_at, put_key_at, HaveKeys}
 use Rattle.exb_numbers.proofs.Places.{put_within, put_past, any_port, held_by}
 
+-- ---- a word more of a piece
+next_digit : (ws : List ℕ) (n key : ℕ) → n < length ws → fold mixed key (take (suc n) ws) ≡ mixed (fold mixed key (take n ws)) (get_or ws n 0)
+next_digit [] n key low = absurd (omega (arith, low))
+next_digit (w ∷ ws) zero key low = refl
+next_digit (w ∷ ws) (suc n) key low = next_digit ws n (mixed key w) (omega (arith, low))
+
+pub first_more : (ws : List ℕ) (n : ℕ) → n < length ws → fold mixed 0 (take (n + 1) ws) ≡ mixed (fold mixed 0 (take n ws)) (get_or ws n 0)
+first_more ws n low =
+    let next : n + 1 ≡ suc n = omega arith in
+    ap (λ (m : ℕ). fold mixed 0 (take m ws)) next ∙ next_digit ws n 0 low
+
+pub piece_more : (ws : List ℕ) (a n : ℕ) → a + n < length ws → fold mixed 0 (take (n + 1) (drop a ws)) ≡ mixed (fold mixed 0 (take n (drop a ws))) (get_or ws (a + n) 0)
+piece_more ws a n low =
+    first_more (drop a ws) n (let long = length-drop a ws in omega (arith, long, low)) ∙ ap (mixed (fold mixed 0 (take n (drop a ws)))) (get_or-drop a ws n 0)
+
 -- ---- that of no port
-mixed_none : mixed 0 0 ≡ 0
-unfolding mixed
-mixed_none = refl
-
-fold_none : (n : ℕ) → fold mixed 0 (replicate n 0) ≡ 0
-fold_none zero = refl
-fold_none (suc n) = ap (λ (k : ℕ). fold mixed k (replicate n 0)) mixed_none ∙ fold_none n
-
-key_none : (n : ℕ) → key_of (replicate n 0) ≡ 0
-unfolding key_of
-key_none n = fold_none n
+key_none : key_of (replicate 65 0) ≡ 0
+unfolding key_of joined mixed
+key_none = refl
 
 no_words : (s : PortSet) → ((q : ℕ) → port_in s q ≡ false) → s.words ≡ replicate 65 0
 no_words s none =
@@ -33,7 +40,7 @@ no_words s none =
     (λ q low. none q ∙ sym (has_port-empty 65 q)))
 
 pub none_key : (s : PortSet) → ((q : ℕ) → port_in s q ≡ false) → key_of s.words ≡ 0
-none_key s none = ap key_of (no_words s none) ∙ key_none 65
+none_key s none = ap key_of (no_words s none) ∙ key_none
 
 -- ---- the keys beside the sets
 abbrev key : PortSet → ℕ

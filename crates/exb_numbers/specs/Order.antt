@@ -1,5 +1,5 @@
 -- The groups in use, in the order of their sets' keys and words, by which a set is found.
-use Rattle.std.specs.Prelude.{◌≡◌, ℕ, ◌+◌, ◌*◌, ◌%◌, ◌^◌, ◌<◌, ◌≤◌, fold, map, Bool, true, false, not, List, [], Option, Some, None, length, slice_get, slice_index, slice_index_or, sum_by, slice_set, nat_lt, ◌++◌, ◌∷◌, insert, remove, if◌then◌else◌}
+use Rattle.std.specs.Prelude.{◌≡◌, ℕ, ◌+◌, ◌*◌, ◌%◌, ◌^◌, ◌<◌, ◌≤◌, fold, map, Bool, true, false, not, List, [], Option, Some, None, length, slice_get, slice_range, slice_index, slice_index_or, sum_by, slice_set, nat_lt, ◌++◌, ◌∷◌, insert, remove, if◌then◌else◌}
 use Rattle.std.specs.Ordering.{nat_cmp}
 use Rattle.std.specs.declared.cmp.Ordering.{Ordering}
 use Rattle.std.specs.declared.cmp.Ordering.TheVariants.{Less, Greater}
@@ -13,9 +13,18 @@ use Rattle.exb_numbers.specs.Groups.{sets_of}
 unfoldable pub mixed : ℕ → ℕ → ℕ
 mixed key word = (key * 11400714819323198485 % 2 ^ 64 + word) % 2 ^ 64
 
--- a number of a set's words, by which most sets are told apart; that of no port is 0
+-- the words as digits of one number
+abbrev pub digits : List ℕ → ℕ
+digits words = fold mixed 0 words
+
+-- the number of a piece behind that of the pieces before it
+unfoldable pub joined : ℕ → ℕ → ℕ
+joined key piece = (key * 13787848793156543929 % 2 ^ 64 + piece) % 2 ^ 64
+
+-- a number of a set's words, by which most sets are told apart, of four pieces; that of no port is 0
 unfoldable pub key_of : List ℕ → ℕ
-key_of words = fold mixed 0 words
+key_of words =
+    joined (joined (joined (digits (slice_range words 0 16)) (digits (slice_range words 16 32))) (digits (slice_range words 32 48))) (digits (slice_range words 48 65))
 
 -- the keys are those of the sets
 abbrev pub HaveKeys : List PortSet → List ℕ → Type 0

@@ -3,7 +3,7 @@ ghost use Rattle.std.specs.Prelude.{◌≡◌, ◌≢◌, ℕ, ◌+◌, ◌==◌
 ghost use Rattle.exb_model.specs.Ports.{ports_of};
 ghost use Rattle.exb_model.specs.Refusals.{is_empty_set};
 ghost use Rattle.exb_numbers.specs.Groups.{set_of, sets_of, is_used, group_of, lowest_group};
-ghost use Rattle.exb_numbers.specs.Order.{compared, ranks_at, rank_of, mixed, key_of, is_held, put_at, put_key_at, IsRising, IsAt, SplitsAt, IsEntered, IsLeft, HaveKeys};
+ghost use Rattle.exb_numbers.specs.Order.{compared, ranks_at, rank_of, mixed, joined, key_of, is_held, put_at, put_key_at, IsRising, IsAt, SplitsAt, IsEntered, IsLeft, HaveKeys};
 
 use exb_model::memory::NoMemory;
 use exb_model::port_set::PortSet;
@@ -16,6 +16,9 @@ const FIRST: u16 = 4096;
 
 /// An odd number whose bits are spread: a key is the words of a set as digits to this base.
 const FACTOR: u64 = 11400714819323198485;
+
+/// Another such number, to whose powers the numbers of the pieces are taken.
+const FAR: u64 = 13787848793156543929;
 
 /// All groups are in use.
 #[derive(Clone, Copy)]
@@ -80,16 +83,33 @@ fn mixed(key: u64, word: u64) -> u64
     key.wrapping_mul(FACTOR).wrapping_add(word)
 }
 
-// The key of a set, by which most sets are told apart.
+// The number of a piece behind that of the pieces before it.
+#[tactic(auto, unfolding(crate::specs::Order::joined))]
+#[inline(always)]
+fn joined(key: u64, piece: u64) -> u64
+    ensures { result ≡ joined key piece }
+{
+    key.wrapping_mul(FAR).wrapping_add(piece)
+}
+
+// The key of a set, by which most sets are told apart. The digits of one piece wait for each other, and those of four go side by side.
 #[tactic(auto, unfolding(crate::specs::Order::key_of))]
+#[inline(always)]
 fn key_of(set: &PortSet) -> u64
     ensures { result ≡ key_of set.now.words }
 {
-    let mut key = 0;
-    for word in &set.words {
-        key = mixed(key, *word);
+    let mut first = 0;
+    let mut second = 0;
+    let mut third = 0;
+    let mut fourth = 0;
+    for place in 0..16usize {
+        first = mixed(first, set.words[place]);
+        second = mixed(second, set.words[16 + place]);
+        third = mixed(third, set.words[32 + place]);
+        fourth = mixed(fourth, set.words[48 + place]);
     }
-    key
+    let key = joined(joined(first, second), third);
+    joined(key, mixed(fourth, set.words[64]))
 }
 
 // How the set of a place compares with a set of this key.

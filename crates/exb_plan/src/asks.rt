@@ -16,47 +16,54 @@ use std::alloc::Global;
 /// How many rows or numbers one message has at most.
 const MOST: usize = 64;
 
-// A request for these rows: for one of them Register.
-fn register(rows: &[GroupRow]) -> Request
+// Asks an extender for these rows: for one of them by Register. A request is large, so each is made where it is put.
+fn put_register(asks: &mut List<AskAt>, extender: u8, rows: &[GroupRow]) -> Result<(), NoMemory>
     requires { length rows.now ≤ 64 }
-    ensures { result ≡ register rows.now }
+    ensures { OnOk result (asks.new ≡ asks.old ++ ask extender (register rows.now) ∷ []) }
 {
     if let [row] = rows {
-        return Request::Register {
-            ecid: row.ecid,
-            mask: row.mask,
-        };
+        let (ecid, mask) = (row.ecid, row.mask);
+        let request = Request::Register { ecid, mask };
+        return asks.push(AskAt { extender, request });
     }
     let mut many = GroupRows::new();
     for row in rows {
         many.push(*row);
     }
-    Request::RegisterMany { rows: many }
+    let request = Request::RegisterMany { rows: many };
+    asks.push(AskAt { extender, request })
 }
 
-// A request to clear the numbers of these rows: for one of them Unregister.
-fn unregister(rows: &[GroupRow]) -> Request
+// Asks an extender to clear the numbers of these rows: for one of them by Unregister.
+fn put_unregister(asks: &mut List<AskAt>, extender: u8, rows: &[GroupRow]) -> Result<(), NoMemory>
     requires { length rows.now ≤ 64 }
-    ensures { result ≡ unregister (numbers_of rows.now) }
+    ensures { OnOk result (asks.new ≡ asks.old ++ ask extender (unregister (numbers_of rows.now)) ∷ []) }
 {
     if let [row] = rows {
-        return Request::Unregister { ecid: row.ecid };
+        let request = Request::Unregister { ecid: row.ecid };
+        return asks.push(AskAt { extender, request });
     }
     let mut many = Ecids::new();
     for row in rows {
         many.push(row.ecid);
     }
-    Request::UnregisterMany { ecids: many }
+    let request = Request::UnregisterMany { ecids: many };
+    asks.push(AskAt { extender, request })
 }
 
-// A request for at most 64 rows.
-fn message(step: Step, rows: &[GroupRow]) -> Request
+// Asks an extender for at most 64 rows.
+fn put_message(
+    asks: &mut List<AskAt>,
+    step: Step,
+    extender: u8,
+    rows: &[GroupRow],
+) -> Result<(), NoMemory>
     requires { length rows.now ≤ 64 }
-    ensures { result ≡ message step rows.now }
+    ensures { OnOk result (asks.new ≡ asks.old ++ ask extender (message step rows.now) ∷ []) }
 {
     match step {
-        Step::Lay => register(rows),
-        Step::Clear => unregister(rows),
+        Step::Lay => put_register(asks, extender, rows),
+        Step::Clear => put_unregister(asks, extender, rows),
     }
 }
 
@@ -79,10 +86,7 @@ pub(crate) fn put_messages(
     let mut left = rows;
     while !left.is_empty() {
         let (piece, rest) = left.split_at(rows_in_message(left));
-        asks.push(AskAt {
-            extender,
-            request: message(step, piece),
-        })?;
+        put_message(asks, step, extender, piece)?;
         left = rest;
     }
     Ok(())
@@ -105,10 +109,7 @@ fn put_above(
         ecid: channel,
         mask: row.mask,
     }];
-    asks.push(AskAt {
-        extender: row.extender,
-        request: message(step, &rows),
-    })
+    put_message(asks, step, row.extender, &rows)
 }
 
 // Asks each ancestor of a port, from the bridge down, for the row of the port's channel.

@@ -39,5 +39,5 @@ pub use group_uses::GroupUses;
 pub use planning::plan;
 pub use refusals::channels_short;
 pub use set_rows::rows;
-pub use touched::{parts_after, parts_before};
+pub use touched::{Parts, parts_around};
 pub use view::View;

@@ -43,6 +43,7 @@ fn put_left(
         ≡ (is_left (held_by spaces.now) uses.now (seen part.now ∷ []) (bridge_port - 1) g || is_among numbers.old.items g)) }
 {
     if part.bridge_port != bridge_port {
+        near.skip();
         return Ok(());
     }
     match near.find(spaces.groups(bridge_port), part) {
@@ -63,6 +64,7 @@ fn left_at(
     uses: &GroupUses,
     parts: &[SetAt],
     bridge_port: u8,
+    near: &mut Guesses,
 ) -> Result<Vec<u16>, NoMemory>
     requires placed { All (λ s. IsPlaced spaces.now (seen s)) parts.now }
     requires own { AreOwn spaces.now }
@@ -73,9 +75,9 @@ fn left_at(
     ensures members { IfOk result (λ made. (g : ℕ) → is_among made.items g ≡ is_left (held_by spaces.now) uses.now (map seen parts.now) (bridge_port - 1) g) }
 {
     let mut numbers = Vec::new(alloc);
-    let mut near = Guesses::new();
+    near.again();
     for part in parts {
-        put_left(&mut numbers, spaces, uses, &mut near, part, bridge_port)?;
+        put_left(&mut numbers, spaces, uses, near, part, bridge_port)?;
     }
     Ok(numbers)
 }
@@ -114,6 +116,7 @@ fn put_gone_at(
     uses: &GroupUses,
     parts: &[SetAt],
     bridge_port: u8,
+    near: &mut Guesses,
 ) -> Result<(), NoMemory>
     requires placed { All (λ s. IsPlaced spaces.now (seen s)) parts.now }
     requires own { AreOwn spaces.now }
@@ -122,17 +125,19 @@ fn put_gone_at(
     ensures { (kept : List PortsAt) → AreLeft (held_by spaces.now) uses.now (map seen parts.now) kept (bridge_port - 1)
         → OnOk result (map seen_group gone.new.items ≡ map seen_group gone.old.items ++ gone_at kept (held_by spaces.now) (bridge_port - 1)) }
 {
-    let numbers = left_at(alloc, spaces, uses, parts, bridge_port)?;
+    let numbers = left_at(alloc, spaces, uses, parts, bridge_port, near)?;
     put_groups(gone, spaces, numbers.as_slice(), bridge_port)
 }
 
-/// The groups of parts that have no use any more, by bridge port and number. They are those whose sets aren't kept.
+/// The groups of parts that have no use any more, by bridge port and number. They are those whose sets aren't kept. The parts are those
+/// of which the guesses are.
 pub(crate) fn gone_groups(
     alloc: Global,
     tree: &Tree,
     spaces: &Spaces,
     uses: &GroupUses,
     parts: &[SetAt],
+    near: &mut Guesses,
 ) -> Result<Vec<GroupAt>, NoMemory>
     requires placed { All (λ s. IsPlaced spaces.now (seen s)) parts.now }
     requires own { AreOwn spaces.now }
@@ -143,7 +148,7 @@ pub(crate) fn gone_groups(
     let mut gone = Vec::new(alloc);
     for bridge_port in 1..65u8 {
         if is_cascade(tree, bridge_port) {
-            put_gone_at(alloc, &mut gone, spaces, uses, parts, bridge_port)?;
+            put_gone_at(alloc, &mut gone, spaces, uses, parts, bridge_port, near)?;
         }
     }
     Ok(gone)

@@ -20,6 +20,7 @@ ghost use Rattle.exb_plan.specs.Decisions.{IfDecided};
 
 use crate::change::make_change;
 use crate::group_uses::GroupUses;
+use crate::guesses::Guesses;
 use crate::lost_uses::gone_groups;
 use crate::presence::{goes_down, goes_up};
 use crate::recount::{lower_all, raise_all, raise_new};
@@ -36,12 +37,14 @@ use exb_model::tree::Tree;
 use exb_numbers::Spaces;
 use std::alloc::Global;
 
-// The uses after a command, at the groups that there are.
+// The uses after a command, at the groups that there are. The guesses are of the parts before it and of the later ones.
 fn moved(
     spaces: &Spaces,
     uses: &GroupUses,
     before: &[SetAt],
     later: &[SetAt],
+    near: &mut Guesses,
+    near_later: &mut Guesses,
 ) -> Result<GroupUses, NoMemory>
     requires before { All (λ s. IsPlaced spaces.now (seen s)) before.now }
     requires later { All (λ s. IsPlaced spaces.now (seen s)) later.now }
@@ -51,8 +54,9 @@ fn moved(
     ensures { IfOk result (λ made. AreMoved spaces.now (map seen before.now) (map seen later.now) uses.now made) }
 {
     let mut next = uses.copy()?;
-    lower_all(&mut next, spaces, before);
-    raise_all(&mut next, spaces, later)?;
+    lower_all(&mut next, spaces, before, near);
+    near_later.again();
+    raise_all(&mut next, spaces, later, near_later)?;
     Ok(next)
 }
 
@@ -66,6 +70,7 @@ fn ready(
     command: &Command,
     up: &Option<PortId>,
     touched: &TouchedSets,
+    near_later: &mut Guesses,
 ) -> Result<Change, NoMemory>
     requires limits { (l : Limits) × HasSpaces tree.now l spaces.old × (l.groups ≤ 12288) }
     requires rows { (k : ℕ) → k < 64 → is_cascade tree.now k ≡ true → length (slice_index_or uses.old k []) ≡ (groups_at spaces.old k).limit }
@@ -87,11 +92,19 @@ fn ready(
     tree.is_tree();
     let before = touched.before.as_slice();
     let fresh = touched.fresh.as_slice();
-    let mut next = moved(spaces, uses, before, touched.later.as_slice())?;
-    let gone = gone_groups(alloc, tree, spaces, &next, before)?;
+    let mut near = Guesses::new(alloc);
+    let mut next = moved(
+        spaces,
+        uses,
+        before,
+        touched.later.as_slice(),
+        &mut near,
+        near_later,
+    )?;
+    let gone = gone_groups(alloc, tree, spaces, &next, before, &mut near)?;
     let down = goes_down(tree, config, command);
     let change = make_change(alloc, tree, spaces, up, &down, gone.as_slice(), fresh)?;
-    raise_new(&mut next, spaces, touched.unfound.as_slice());
+    raise_new(&mut next, spaces, touched.unfound.as_slice(), near_later);
     *uses = next;
     Ok(change)
 }
@@ -149,12 +162,15 @@ pub fn plan(
     ensures rows { HaveRowsOf uses.old uses.new }
 {
     tree.is_tree();
-    let touched = touched_sets(alloc, tree, spaces, config, command)?;
+    let mut near = Guesses::new(alloc);
+    let touched = touched_sets(alloc, tree, spaces, config, command, &mut near)?;
     let up = goes_up(tree, config, command);
     let fresh = touched.fresh.as_slice();
     if let Some(cause) = refusal(tree, spaces, uses, config, &up, fresh) {
         return Ok(Decision::Refused(cause));
     }
-    let change = ready(alloc, tree, spaces, uses, config, command, &up, &touched)?;
+    let change = ready(
+        alloc, tree, spaces, uses, config, command, &up, &touched, &mut near,
+    )?;
     Ok(Decision::Ready(change))
 }

@@ -54,6 +54,7 @@ pub(crate) fn raise_all(
     uses: &mut GroupUses,
     spaces: &Spaces,
     parts: &[SetAt],
+    near: &mut Guesses,
 ) -> Result<(), NoMemory>
     requires placed { All (λ s. IsPlaced spaces.now (seen s)) parts.now }
     requires own { AreOwn spaces.now }
@@ -61,9 +62,8 @@ pub(crate) fn raise_all(
     ensures counts { OnOk result (AreRaised spaces.now (map seen parts.now) uses.old uses.new) }
     ensures rows { HaveRowsOf uses.old uses.new }
 {
-    let mut near = Guesses::new();
     for part in parts {
-        raise(uses, spaces, &mut near, part)?;
+        raise(uses, spaces, near, part)?;
     }
     Ok(())
 }
@@ -82,7 +82,7 @@ fn raise_few(uses: &mut GroupUses, spaces: &Spaces, near: &mut Guesses, part: &S
 }
 
 /// Each group has a use more for each part that is its set. None of those groups has a use before.
-pub(crate) fn raise_new(uses: &mut GroupUses, spaces: &Spaces, parts: &[SetAt])
+pub(crate) fn raise_new(uses: &mut GroupUses, spaces: &Spaces, parts: &[SetAt], near: &mut Guesses)
     requires placed { All (λ s. IsPlaced spaces.now (seen s)) parts.now }
     requires own { AreOwn spaces.now }
     requires places { HavePlaces spaces.now uses.old }
@@ -90,22 +90,20 @@ pub(crate) fn raise_new(uses: &mut GroupUses, spaces: &Spaces, parts: &[SetAt])
     ensures counts { AreRaised spaces.now (map seen parts.now) uses.old uses.new }
     ensures rows { HaveRowsOf uses.old uses.new }
 {
-    let mut near = Guesses::new();
     for part in parts {
-        raise_few(uses, spaces, &mut near, part);
+        raise_few(uses, spaces, near, part);
     }
 }
 
 /// Each group has a use less for each part that is its set.
-pub(crate) fn lower_all(uses: &mut GroupUses, spaces: &Spaces, parts: &[SetAt])
+pub(crate) fn lower_all(uses: &mut GroupUses, spaces: &Spaces, parts: &[SetAt], near: &mut Guesses)
     requires placed { All (λ s. IsPlaced spaces.now (seen s)) parts.now }
     requires own { AreOwn spaces.now }
     requires enough { AreEnough spaces.now (map seen parts.now) uses.old }
     ensures counts { AreLowered spaces.now (map seen parts.now) uses.old uses.new }
     ensures rows { HaveRowsOf uses.old uses.new }
 {
-    let mut near = Guesses::new();
     for part in parts {
-        lower(uses, spaces, &mut near, part);
+        lower(uses, spaces, near, part);
     }
 }

@@ -1,5 +1,5 @@
 //! The parts that a command touches.
-ghost use Rattle.std.specs.Prelude.{◌≡◌, ℕ, ◌≤◌, ◌++◌, Bool, true, false, Some, if◌then◌else◌, [], filter, flat_map, map, slice_get, IfOk, OnOk};
+ghost use Rattle.std.specs.Prelude.{◌≡◌, ℕ, ◌≤◌, ◌++◌, Bool, true, false, List, Some, if◌then◌else◌, [], filter, flat_map, map, slice_get, IfOk, OnOk};
 ghost use Rattle.exb_model.specs.Ports.{port_in};
 ghost use Rattle.exb_model.specs.Tree.{Shape};
 ghost use Rattle.exb_model.specs.Configuration.{is_for};
@@ -7,6 +7,7 @@ ghost use Rattle.exb_model.specs.Refusals.{both_kinds};
 ghost use Rattle.exb_config.specs.Tables.{bridge_of};
 ghost use Rattle.exb_plan.specs.Branches.{AreBranches, IsAmong};
 ghost use Rattle.exb_plan.specs.Parts.{has_ports, Adds};
+ghost use Rattle.exb_changing.specs.declared.planning.set_at.SetAt.{SetAt};
 ghost use Rattle.exb_changing.specs.Plans.Sets.{seen};
 ghost use Rattle.exb_changing.specs.Plans.Touched.{has_port, sources_of_entry, touched_before, touched_after, parts_before as parts_touched_before, parts_after as parts_touched_after};
 ghost use Rattle.exb_plan.specs.TouchedSources.{is_of, sources_of_vlans, vlans_touched, entry_touched};
@@ -53,21 +54,62 @@ fn add_kind_with<V: View>(
     }
 }
 
-// Puts the parts of all VLANs in the kind in which a port is their member.
-fn add_vlans_with<V: View>(
-    parts: &mut Vec<SetAt>,
+// Puts the parts of a VLAN's members in the kind in which a port is one of them, as they are before a command and after it.
+#[inline(always)]
+fn add_vlan_with<V: View>(
+    before: &mut Vec<SetAt>,
+    later: &mut Vec<SetAt>,
     branches: &Branches,
+    branches_later: &Branches,
+    view: &V,
+    config: &Config,
+    vid: Vid,
+    port: PortId,
+) -> Result<(), NoMemory>
+    ensures before { (t : Shape) → AreBranches t (bridge_of config.now) branches.now →
+        OnOk result (Adds t (bridge_of config.now)
+        (filter (has_port (bridge_of config.now) port) (both_kinds vid (λ q. true))) before.old.items before.new.items) }
+    ensures later { (t : Shape) → AreBranches t (V.bridge view.now) branches_later.now →
+        OnOk result (Adds t (V.bridge view.now)
+        (filter (has_port (bridge_of config.now) port) (both_kinds vid (λ q. true))) later.old.items later.new.items) }
+{
+    let all = &branches.extended;
+    add_kind_with(before, branches, config, config, vid, all, port)?;
+    let all = &branches_later.extended;
+    add_kind_with(later, branches_later, view, config, vid, all, port)?;
+    Ok(())
+}
+
+// Puts the parts of all VLANs in the kind in which a port is their member, as they are before a command and after it: so the VLANs are
+// gone through once.
+fn add_vlans_with<V: View>(
+    before: &mut Vec<SetAt>,
+    later: &mut Vec<SetAt>,
+    branches: &Branches,
+    branches_later: &Branches,
     view: &V,
     config: &Config,
     port: PortId,
 ) -> Result<(), NoMemory>
-    ensures { (t : Shape) → AreBranches t (V.bridge view.now) branches.now →
+    ensures before { (t : Shape) → AreBranches t (bridge_of config.now) branches.now →
+        OnOk result (Adds t (bridge_of config.now)
+        (filter (has_port (bridge_of config.now) port) sources_of_vlans) before.old.items before.new.items) }
+    ensures later { (t : Shape) → AreBranches t (V.bridge view.now) branches_later.now →
         OnOk result (Adds t (V.bridge view.now)
-        (filter (has_port (bridge_of config.now) port) sources_of_vlans) parts.old.items parts.new.items) }
+        (filter (has_port (bridge_of config.now) port) sources_of_vlans) later.old.items later.new.items) }
 {
     for number in 1..4095u16 {
         let vid = Vid::new(number).unwrap();
-        add_kind_with(parts, branches, view, config, vid, &branches.extended, port)?;
+        add_vlan_with(
+            before,
+            later,
+            branches,
+            branches_later,
+            view,
+            config,
+            vid,
+            port,
+        )?;
     }
     Ok(())
 }
@@ -94,24 +136,31 @@ fn add_vlan<V: View>(
     put_kinds(parts, branches, view, vid, &branches.extended)
 }
 
-// Puts the parts of the VLANs that a command touches.
+// Puts the parts of the VLANs that a command touches, as they are before it and after it.
 fn add_vlans<V: View>(
-    parts: &mut Vec<SetAt>,
+    before: &mut Vec<SetAt>,
+    later: &mut Vec<SetAt>,
     branches: &Branches,
+    branches_later: &Branches,
     view: &V,
     config: &Config,
     command: &Command,
 ) -> Result<(), NoMemory>
-    ensures { (t : Shape) → AreBranches t (V.bridge view.now) branches.now →
+    ensures before { (t : Shape) → AreBranches t (bridge_of config.now) branches.now →
+        OnOk result (Adds t (bridge_of config.now)
+        (vlans_touched command.now (bridge_of config.now)) before.old.items before.new.items) }
+    ensures later { (t : Shape) → AreBranches t (V.bridge view.now) branches_later.now →
         OnOk result (Adds t (V.bridge view.now)
-        (vlans_touched command.now (bridge_of config.now)) parts.old.items parts.new.items) }
+        (vlans_touched command.now (bridge_of config.now)) later.old.items later.new.items) }
 {
     match *command {
         Command::Vlan { vid, .. } | Command::Member { vid, .. } | Command::Unmember { vid, .. } => {
-            add_vlan(parts, branches, view, vid)
+            add_vlan(before, branches, config, vid)?;
+            add_vlan(later, branches_later, view, vid)?;
+            Ok(())
         }
         Command::Up { port } | Command::Down { port } | Command::Isolate { port, .. } => {
-            add_vlans_with(parts, branches, view, config, port)
+            add_vlans_with(before, later, branches, branches_later, view, config, port)
         }
         _ => Ok(()),
     }
@@ -291,23 +340,7 @@ fn add_entries<V: View>(
     Err(NoMemory)
 }
 
-// Puts the parts of the VLANs and static entries that a command touches.
-fn add_all<V: View>(
-    parts: &mut Vec<SetAt>,
-    branches: &Branches,
-    view: &V,
-    config: &Config,
-    command: &Command,
-) -> Result<(), NoMemory>
-    ensures { (t : Shape) → AreBranches t (V.bridge view.now) branches.now →
-        OnOk result (Adds t (V.bridge view.now) (vlans_touched command.now (bridge_of config.now)
-        ++ flat_map (entry_touched command.now (bridge_of config.now)) (bridge_of config.now).statics) parts.old.items parts.new.items) }
-{
-    add_vlans(parts, branches, view, config, command)?;
-    add_entries(parts, branches, view, config, command)
-}
-
-// Puts the parts that a command touches as they are before it.
+// Puts, behind the parts of the VLANs that a command touches, those of the static entries as they are before it.
 fn add_before<V: View>(
     parts: &mut Vec<SetAt>,
     branches: &Branches,
@@ -315,20 +348,20 @@ fn add_before<V: View>(
     config: &Config,
     command: &Command,
 ) -> Result<(), NoMemory>
-    ensures { (t : Shape) → AreBranches t (V.bridge view.now) branches.now →
-        OnOk result (Adds t (V.bridge view.now)
-        (touched_before command.now (bridge_of config.now)) parts.old.items parts.new.items) }
+    ensures { (t : Shape) → AreBranches t (V.bridge view.now) branches.now → (old : List SetAt) →
+        Adds t (V.bridge view.now) (vlans_touched command.now (bridge_of config.now)) old parts.old.items →
+        OnOk result (Adds t (V.bridge view.now) (touched_before command.now (bridge_of config.now)) old parts.new.items) }
 {
     match *command {
         Command::Static { vid, address, .. } => match config.entry(vid, address) {
             Some(ports) => add_entry(parts, branches, view, vid, ports),
             None => Ok(()),
         },
-        _ => add_all(parts, branches, view, config, command),
+        _ => add_entries(parts, branches, view, config, command),
     }
 }
 
-// Puts the parts that a command touches as they are after it.
+// Puts those of the static entries as they are after it.
 fn add_after<V: View>(
     parts: &mut Vec<SetAt>,
     branches: &Branches,
@@ -336,45 +369,50 @@ fn add_after<V: View>(
     config: &Config,
     command: &Command,
 ) -> Result<(), NoMemory>
-    ensures { (t : Shape) → AreBranches t (V.bridge view.now) branches.now →
-        OnOk result (Adds t (V.bridge view.now)
-        (touched_after command.now (bridge_of config.now)) parts.old.items parts.new.items) }
+    ensures { (t : Shape) → AreBranches t (V.bridge view.now) branches.now → (old : List SetAt) →
+        Adds t (V.bridge view.now) (vlans_touched command.now (bridge_of config.now)) old parts.old.items →
+        OnOk result (Adds t (V.bridge view.now) (touched_after command.now (bridge_of config.now)) old parts.new.items) }
 {
     match *command {
         Command::Static { vid, ports, .. } => { add_entry(parts, branches, view, vid, &ports) }
         Command::Unstatic { .. } => Ok(()),
-        _ => add_all(parts, branches, view, config, command),
+        _ => add_entries(parts, branches, view, config, command),
     }
 }
 
-/// The non-empty parts, before a command, of the VLANs and static entries that it touches, in order.
-pub fn parts_before(
-    alloc: Global,
-    tree: &Tree,
-    config: &Config,
-    command: &Command,
-) -> Result<Vec<SetAt>, NoMemory>
-    ensures { IfOk result (λ made. map seen made.items ≡ filter has_ports (parts_touched_before tree.now command.now (bridge_of config.now))) }
-{
-    let branches = Branches::new(tree, config);
-    let mut parts = Vec::with_capacity(alloc, FEW)?;
-    add_before(&mut parts, &branches, config, config, command)?;
-    Ok(parts)
+/// Parts before a command and after it.
+#[derive(Drop)]
+pub struct Parts {
+    pub before: Vec<SetAt>,
+    pub later: Vec<SetAt>,
 }
 
-/// The non-empty parts, after a command, of the VLANs and static entries that it touches, in order. The
-/// configuration is the one before it.
-pub fn parts_after(
+/// The non-empty parts, before a command and after it, of the VLANs and static entries that it touches, in order. The configuration is
+/// the one before it.
+pub fn parts_around(
     alloc: Global,
     tree: &Tree,
     config: &Config,
     command: &Command,
-) -> Result<Vec<SetAt>, NoMemory>
-    ensures { IfOk result (λ made. map seen made.items ≡ filter has_ports (parts_touched_after tree.now command.now (bridge_of config.now))) }
+) -> Result<Parts, NoMemory>
+    ensures before { IfOk result (λ made. map seen made.before.items ≡ filter has_ports (parts_touched_before tree.now command.now (bridge_of config.now))) }
+    ensures later { IfOk result (λ made. map seen made.later.items ≡ filter has_ports (parts_touched_after tree.now command.now (bridge_of config.now))) }
 {
     let view = Pending { config, command };
-    let branches = Branches::new(tree, &view);
-    let mut parts = Vec::with_capacity(alloc, FEW)?;
-    add_after(&mut parts, &branches, &view, config, command)?;
-    Ok(parts)
+    let branches = Branches::new(tree, config);
+    let branches_later = Branches::new(tree, &view);
+    let mut before = Vec::with_capacity(alloc, FEW)?;
+    let mut later = Vec::with_capacity(alloc, FEW)?;
+    add_vlans(
+        &mut before,
+        &mut later,
+        &branches,
+        &branches_later,
+        &view,
+        config,
+        command,
+    )?;
+    add_before(&mut before, &branches, config, config, command)?;
+    add_after(&mut later, &branches_later, &view, config, command)?;
+    Ok(Parts { before, later })
 }

@@ -11,7 +11,7 @@ ghost use Rattle.exb_plan.specs.TouchedSets.{AreTouched};
 
 use crate::group_sets::each_once;
 use crate::guesses::Guesses;
-use crate::touched::{parts_after, parts_before};
+use crate::touched::parts_around;
 use exb_changing::SetAt;
 use exb_config::Config;
 use exb_model::command::Command;
@@ -42,40 +42,44 @@ fn has_group(spaces: &Spaces, near: &mut Guesses, set: &SetAt) -> bool
 }
 
 // The parts whose sets have no group, in their order.
-fn without_group(alloc: Global, spaces: &Spaces, parts: &[SetAt]) -> Result<Vec<SetAt>, NoMemory>
+fn without_group(
+    alloc: Global,
+    spaces: &Spaces,
+    parts: &[SetAt],
+    near: &mut Guesses,
+) -> Result<Vec<SetAt>, NoMemory>
     requires { All (λ s. IsPlaced spaces.now (seen s)) parts.now }
     ensures { IfOk result (λ made. map seen made.items ≡ filter (λ s. not (has_group (held_by spaces.now) s)) (map seen parts.now)) }
 {
     let mut fresh = Vec::new(alloc);
-    let mut near = Guesses::new();
     for part in parts {
-        if !has_group(spaces, &mut near, part) {
+        if !has_group(spaces, near, part) {
             fresh.push(*part)?;
         }
     }
     Ok(fresh)
 }
 
-/// What a command touches, where just what the configuration needs is held.
-pub fn touched_sets(
+/// What a command touches, where just what the configuration needs is held. The groups of the later parts are kept as guesses.
+pub(crate) fn touched_sets(
     alloc: Global,
     tree: &Tree,
     spaces: &Spaces,
     config: &Config,
     command: &Command,
+    near: &mut Guesses,
 ) -> Result<TouchedSets, NoMemory>
     requires spaces { SpacesOf tree.now spaces.now }
     requires held { HoldsNeeded tree.now (bridge_of config.now) (held_by spaces.now) }
     ensures { IfOk result (λ made. AreTouched tree.now command.now (bridge_of config.now) (held_by spaces.now) made) }
 {
     tree.is_tree();
-    let before = parts_before(alloc, tree, config, command)?;
-    let later = parts_after(alloc, tree, config, command)?;
-    let unfound = without_group(alloc, spaces, later.as_slice())?;
+    let parts = parts_around(alloc, tree, config, command)?;
+    let unfound = without_group(alloc, spaces, parts.later.as_slice(), near)?;
     let fresh = each_once(alloc, unfound.as_slice())?;
     Ok(TouchedSets {
-        before,
-        later,
+        before: parts.before,
+        later: parts.later,
         unfound,
         fresh,
     })

@@ -1,6 +1,4 @@
-use Rattle.std.proofs.Common.{◌∙◌, ap, ◌≡◌}
-use Rattle.exb_config.specs.Rows.{is_marked}
-use Rattle.exb_config.proofs.Rows.{IsSpreadTo, spread_marked, spread_passed, spread_whole}
+use Rattle.exb_config.proofs.Rows.{spread_marked, spread_passed, spread_whole}
 use Rattle.exb_config.proofs.vlan_row.spread_of.Goals.{then-is_on, else-is_on}
 use Rattle.exb_config.proofs.vlan_row.spread_of.Goals as goal
 

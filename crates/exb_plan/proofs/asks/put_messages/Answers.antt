@@ -1,7 +1,6 @@
 use Rattle.std.proofs.Common.{◌≡◌, ◌<◌, ◌==◌, ◌∙◌, ◌++◌, ◌∷◌, ℕ, zero, suc, Bool, true, false, List, [], length, refl, sym, ap, arith}
 use Rattle.std.proofs.lemmas.Bool.{false≢true, eqb-true}
 use Rattle.exb_csp.specs.declared.group_rows.GroupRow.{GroupRow}
-use Rattle.exb_csp.specs.declared.message.Request.{Request}
 use Rattle.exb_changing.specs.Plans.Asks.{ask, message, asks_with}
 use Rattle.exb_plan.proofs.Messages.{asks_step, asks_none}
 use Rattle.exb_plan.proofs.asks.put_messages.Goals as goal
@@ -23,9 +22,9 @@ loop-left-preserved c =
     let n = c.args.extender in
     let step = c.args.step in
     let asks = c.loop-left.asks in
-    let e = c.in_ok-push.ensures.ok ∙ ap (λ (r : Request). asks ++ ask n r ∷ []) (c.message.ensures ∙ ap (message step) c.split_at.ensures.front) in
-    ap (λ (l : List GroupRow). c.push.new.self ++ asks_with step l n) c.split_at.ensures.back
-    ∙ (asks_step asks c.push.new.self step left n c.rows_in_message.result (some_left (length left) c.is_empty.result c.is_empty.ensures c.loop-left-test.true) c.rows_in_message.ensures e
+    let e = c.in_ok-put_message.ensures ∙ ap (λ (l : List GroupRow). asks ++ ask n (message step l) ∷ []) c.split_at.ensures.front in
+    ap (λ (l : List GroupRow). c.put_message.new.asks ++ asks_with step l n) c.split_at.ensures.back
+    ∙ (asks_step asks c.put_message.new.asks step left n c.rows_in_message.result (some_left (length left) c.is_empty.result c.is_empty.ensures c.loop-left-test.true) c.rows_in_message.ensures e
     ∙ c.loop-left.invariant)
 
 pub returns : goal.returns

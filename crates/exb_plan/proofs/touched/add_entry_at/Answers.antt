@@ -1,5 +1,4 @@
-use Rattle.std.proofs.Common.{sym, ap, not}
-use Rattle.exb_config.specs.Tables.{bridge_of}
+use Rattle.std.proofs.Common.{sym}
 use Rattle.exb_plan.proofs.PartLists.{adds_none, adds_same}
 use Rattle.exb_plan.proofs.touched.add_entry_at.Goals as goal
 

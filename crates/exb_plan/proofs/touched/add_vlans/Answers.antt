@@ -4,10 +4,17 @@ use Rattle.exb_plan.proofs.PartLists.{adds_none, adds_same}
 use Rattle.exb_plan.proofs.Touching.{no_vlan}
 use Rattle.exb_plan.proofs.touched.add_vlans.Goals as goal
 
-pub returns-in_default : goal.returns-in_default
-returns-in_default g c t branches =
+pub returns-in_default-clause-before : goal.returns-in_default-clause-before
+returns-in_default-clause-before g c t branches =
+    let b = bridge_of c.args.config.now in
+    let none = no_vlan b c.args.command.now c.in_default.not-Vlan c.in_default.not-Member c.in_default.not-Unmember c.in_default.not-Isolate
+    c.in_default.not-Up c.in_default.not-Down in
+    adds_same t b _ _ c.args.before.now.items c.args.before.now.items (sym none) (adds_none t b c.args.before.now.items)
+
+pub returns-in_default-clause-later : goal.returns-in_default-clause-later
+returns-in_default-clause-later g c t branches =
     let b = bridge_of c.args.config.now in
     let d = g.V.View.bridge c.args.view.now in
     let none = no_vlan b c.args.command.now c.in_default.not-Vlan c.in_default.not-Member c.in_default.not-Unmember c.in_default.not-Isolate
     c.in_default.not-Up c.in_default.not-Down in
-    adds_same t d _ _ c.args.parts.now.items c.args.parts.now.items (sym none) (adds_none t d c.args.parts.now.items)
+    adds_same t d _ _ c.args.later.now.items c.args.later.now.items (sym none) (adds_none t d c.args.later.now.items)

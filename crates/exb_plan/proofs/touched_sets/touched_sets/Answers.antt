@@ -14,18 +14,18 @@ without_group-requires c =
     let t = c.args.tree.now in
     let b = bridge_of c.args.config.now in
     let v = c.args.spaces.now in
-    parts_placed t v c.requires.spaces c.as_slice.result.now _ (ap (map seen) c.as_slice.ensures.value ∙ c.in_ok-later.ensures)
+    parts_placed t v c.requires.spaces c.as_slice.result.now _ (ap (map seen) c.as_slice.ensures.value ∙ c.in_ok-parts.ensures.later)
     (some_below t c.is_tree.ensures (after c.args.command.now b) (parts_after t c.args.command.now b) (after_within t c.args.command.now b))
 
 pub returns : goal.returns
 returns c =
     let unfound = c.in_ok-unfound.ensures ∙ ap (λ (xs : List SetAt). filter (λ s. not (has_group (held_by c.args.spaces.now) s)) (map seen xs)) c.as_slice.ensures.value in
     record {
-      before = c.in_ok-before.ensures;
-      later = c.in_ok-later.ensures;
+      before = c.in_ok-parts.ensures.before;
+      later = c.in_ok-parts.ensures.later;
       unfound = unfound;
       fresh =
           fresh_made c.args.tree.now c.is_tree.ensures c.args.command.now (bridge_of c.args.config.now) (held_by c.args.spaces.now) c.requires.held
-          (map seen c.in_ok-fresh.fresh.items) (map seen c.in_ok-unfound.unfound.items) (map seen c.in_ok-later.later.items)
-          (c.in_ok-fresh.ensures ∙ ap (λ (xs : List SetAt). fold with_set_at [] (map seen xs)) c.as_slice-2.ensures.value) unfound c.in_ok-later.ensures;
+          (map seen c.in_ok-fresh.fresh.items) (map seen c.in_ok-unfound.unfound.items) (map seen c.in_ok-parts.parts.later.items)
+          (c.in_ok-fresh.ensures ∙ ap (λ (xs : List SetAt). fold with_set_at [] (map seen xs)) c.as_slice-2.ensures.value) unfound c.in_ok-parts.ensures.later;
     }

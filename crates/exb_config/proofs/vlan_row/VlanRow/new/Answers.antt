@@ -14,4 +14,5 @@ invariant_of-result c =
     let m = c.args.members.now in (
       is_known c.in-Ok.row.value (ap has_member c.in-Ok.ensures.ok ∙ has_of c.is_empty.result (has_member m) c.is_empty.ensures c.if-is_empty.false),
       λ q none. ap (λ (n : _). kind_in n.tagged n.untagged q) c.in-Ok.ensures.ok ∙ c.spread_of-spread.ensures q none,
+      λ q none. ap (λ (n : _). kind_in n.tagged n.untagged q) c.in-Ok.ensures.ok ∙ c.places_of-places.ensures q none,
     )

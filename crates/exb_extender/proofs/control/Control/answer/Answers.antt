@@ -1,4 +1,5 @@
-use Rattle.std.proofs.Common.{subst, sym, length, ◌≤◌, ◌∙◌, List, ℕ}
+use Rattle.std.proofs.Common.{subst, sym, ap, length, ◌≤◌, ◌∙◌, List, ℕ}
+use Rattle.exb_ecp.specs.Machine.{State, sent_payload}
 use Rattle.exb_extender.proofs.ControlLemmas.{answer_fits, order_submitted}
 use Rattle.exb_extender.proofs.control.Control.answer.Goals as goal
 
@@ -8,7 +9,7 @@ submit-sequence-requires-clause-fits c =
 
 pub write_request-requires : goal.write_request-requires
 write_request-requires c =
-    subst (λ (xs : List ℕ). length xs ≤ 1024) (sym (c.as_slice-2.ensures.value ∙ c.write.ensures.spelled)) (answer_fits c.in-Some.message c.self.inside.session.last c.self.inside.session.answer c.in-Some.ensures)
+    subst (λ (xs : List ℕ). length xs ≤ 1024) (sym (c.payload.ensures ∙ ap (λ (s : State). sent_payload s.sending) c.submit-sequence.ensures.step ∙ c.as_slice.ensures.value ∙ c.write.ensures.spelled)) (answer_fits c.in-Some.message c.self.inside.session.last c.self.inside.session.answer c.in-Some.ensures)
 
 pub invariant_of-self : goal.invariant_of-self
 invariant_of-self c =

@@ -1,5 +1,5 @@
 use Rattle.std.proofs.Common.{◌≡◌, take}
-use Rattle.exb_plan.proofs.asks.register.Given as goal
+use Rattle.exb_plan.proofs.asks.put_register.Given as goal
 
 -- the rows so far are pushed
 abbrev pub invariant-loop-row : goal.invariant-loop-row

@@ -1,6 +1,6 @@
 use Rattle.std.proofs.Common.{◌≡◌, take}
 use Rattle.exb_changing.specs.Plans.Asks.{numbers_of}
-use Rattle.exb_plan.proofs.asks.unregister.Given as goal
+use Rattle.exb_plan.proofs.asks.put_unregister.Given as goal
 
 -- the numbers so far are pushed
 abbrev pub invariant-loop-row : goal.invariant-loop-row
