@@ -162,6 +162,7 @@ impl Control {
         let Some(message) = self.session.stored() else {
             return;
         };
+        // what goes out has the answer until the transport does
         exb_csp::write(&message, out);
         self.ecp.stop();
         let sequence = self.ecp.submit(out.as_slice());

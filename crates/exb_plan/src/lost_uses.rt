@@ -110,7 +110,6 @@ fn put_groups(
 
 // Puts the groups of a cascade port of the bridge that go.
 fn put_gone_at(
-    alloc: Global,
     gone: &mut Vec<GroupAt>,
     spaces: &Spaces,
     uses: &GroupUses,
@@ -125,6 +124,7 @@ fn put_gone_at(
     ensures { (kept : List PortsAt) → AreLeft (held_by spaces.now) uses.now (map seen parts.now) kept (bridge_port - 1)
         → OnOk result (map seen_group gone.new.items ≡ map seen_group gone.old.items ++ gone_at kept (held_by spaces.now) (bridge_port - 1)) }
 {
+    let alloc = *gone.allocator();
     let numbers = left_at(alloc, spaces, uses, parts, bridge_port, near)?;
     put_groups(gone, spaces, numbers.as_slice(), bridge_port)
 }
@@ -148,7 +148,7 @@ pub(crate) fn gone_groups(
     let mut gone = Vec::new(alloc);
     for bridge_port in 1..65u8 {
         if is_cascade(tree, bridge_port) {
-            put_gone_at(alloc, &mut gone, spaces, uses, parts, bridge_port, near)?;
+            put_gone_at(&mut gone, spaces, uses, parts, bridge_port, near)?;
         }
     }
     Ok(gone)

@@ -54,11 +54,17 @@ fn add_kind_with<V: View>(
     }
 }
 
+/// Parts before a command and after it.
+#[derive(Drop)]
+pub struct Parts {
+    pub before: Vec<SetAt>,
+    pub later: Vec<SetAt>,
+}
+
 // Puts the parts of a VLAN's members in the kind in which a port is one of them, as they are before a command and after it.
 #[inline(always)]
 fn add_vlan_with<V: View>(
-    before: &mut Vec<SetAt>,
-    later: &mut Vec<SetAt>,
+    parts: &mut Parts,
     branches: &Branches,
     branches_later: &Branches,
     view: &V,
@@ -68,23 +74,30 @@ fn add_vlan_with<V: View>(
 ) -> Result<(), NoMemory>
     ensures before { (t : Shape) → AreBranches t (bridge_of config.now) branches.now →
         OnOk result (Adds t (bridge_of config.now)
-        (filter (has_port (bridge_of config.now) port) (both_kinds vid (λ q. true))) before.old.items before.new.items) }
+        (filter (has_port (bridge_of config.now) port) (both_kinds vid (λ q. true))) parts.old.before.items parts.new.before.items) }
     ensures later { (t : Shape) → AreBranches t (V.bridge view.now) branches_later.now →
         OnOk result (Adds t (V.bridge view.now)
-        (filter (has_port (bridge_of config.now) port) (both_kinds vid (λ q. true))) later.old.items later.new.items) }
+        (filter (has_port (bridge_of config.now) port) (both_kinds vid (λ q. true))) parts.old.later.items parts.new.later.items) }
 {
     let all = &branches.extended;
-    add_kind_with(before, branches, config, config, vid, all, port)?;
+    add_kind_with(&mut parts.before, branches, config, config, vid, all, port)?;
     let all = &branches_later.extended;
-    add_kind_with(later, branches_later, view, config, vid, all, port)?;
+    add_kind_with(
+        &mut parts.later,
+        branches_later,
+        view,
+        config,
+        vid,
+        all,
+        port,
+    )?;
     Ok(())
 }
 
 // Puts the parts of all VLANs in the kind in which a port is their member, as they are before a command and after it: so the VLANs are
 // gone through once.
 fn add_vlans_with<V: View>(
-    before: &mut Vec<SetAt>,
-    later: &mut Vec<SetAt>,
+    parts: &mut Parts,
     branches: &Branches,
     branches_later: &Branches,
     view: &V,
@@ -93,23 +106,14 @@ fn add_vlans_with<V: View>(
 ) -> Result<(), NoMemory>
     ensures before { (t : Shape) → AreBranches t (bridge_of config.now) branches.now →
         OnOk result (Adds t (bridge_of config.now)
-        (filter (has_port (bridge_of config.now) port) sources_of_vlans) before.old.items before.new.items) }
+        (filter (has_port (bridge_of config.now) port) sources_of_vlans) parts.old.before.items parts.new.before.items) }
     ensures later { (t : Shape) → AreBranches t (V.bridge view.now) branches_later.now →
         OnOk result (Adds t (V.bridge view.now)
-        (filter (has_port (bridge_of config.now) port) sources_of_vlans) later.old.items later.new.items) }
+        (filter (has_port (bridge_of config.now) port) sources_of_vlans) parts.old.later.items parts.new.later.items) }
 {
     for number in 1..4095u16 {
         let vid = Vid::new(number).unwrap();
-        add_vlan_with(
-            before,
-            later,
-            branches,
-            branches_later,
-            view,
-            config,
-            vid,
-            port,
-        )?;
+        add_vlan_with(parts, branches, branches_later, view, config, vid, port)?;
     }
     Ok(())
 }
@@ -138,8 +142,7 @@ fn add_vlan<V: View>(
 
 // Puts the parts of the VLANs that a command touches, as they are before it and after it.
 fn add_vlans<V: View>(
-    before: &mut Vec<SetAt>,
-    later: &mut Vec<SetAt>,
+    parts: &mut Parts,
     branches: &Branches,
     branches_later: &Branches,
     view: &V,
@@ -148,19 +151,19 @@ fn add_vlans<V: View>(
 ) -> Result<(), NoMemory>
     ensures before { (t : Shape) → AreBranches t (bridge_of config.now) branches.now →
         OnOk result (Adds t (bridge_of config.now)
-        (vlans_touched command.now (bridge_of config.now)) before.old.items before.new.items) }
+        (vlans_touched command.now (bridge_of config.now)) parts.old.before.items parts.new.before.items) }
     ensures later { (t : Shape) → AreBranches t (V.bridge view.now) branches_later.now →
         OnOk result (Adds t (V.bridge view.now)
-        (vlans_touched command.now (bridge_of config.now)) later.old.items later.new.items) }
+        (vlans_touched command.now (bridge_of config.now)) parts.old.later.items parts.new.later.items) }
 {
     match *command {
         Command::Vlan { vid, .. } | Command::Member { vid, .. } | Command::Unmember { vid, .. } => {
-            add_vlan(before, branches, config, vid)?;
-            add_vlan(later, branches_later, view, vid)?;
+            add_vlan(&mut parts.before, branches, config, vid)?;
+            add_vlan(&mut parts.later, branches_later, view, vid)?;
             Ok(())
         }
         Command::Up { port } | Command::Down { port } | Command::Isolate { port, .. } => {
-            add_vlans_with(before, later, branches, branches_later, view, config, port)
+            add_vlans_with(parts, branches, branches_later, view, config, port)
         }
         _ => Ok(()),
     }
@@ -380,13 +383,6 @@ fn add_after<V: View>(
     }
 }
 
-/// Parts before a command and after it.
-#[derive(Drop)]
-pub struct Parts {
-    pub before: Vec<SetAt>,
-    pub later: Vec<SetAt>,
-}
-
 /// The non-empty parts, before a command and after it, of the VLANs and static entries that it touches, in order. The configuration is
 /// the one before it.
 pub fn parts_around(
@@ -401,18 +397,18 @@ pub fn parts_around(
     let view = Pending { config, command };
     let branches = Branches::new(tree, config);
     let branches_later = Branches::new(tree, &view);
-    let mut before = Vec::with_capacity(alloc, FEW)?;
-    let mut later = Vec::with_capacity(alloc, FEW)?;
+    let before = Vec::with_capacity(alloc, FEW)?;
+    let later = Vec::with_capacity(alloc, FEW)?;
+    let mut parts = Parts { before, later };
     add_vlans(
-        &mut before,
-        &mut later,
+        &mut parts,
         &branches,
         &branches_later,
         &view,
         config,
         command,
     )?;
-    add_before(&mut before, &branches, config, config, command)?;
-    add_after(&mut later, &branches_later, &view, config, command)?;
-    Ok(Parts { before, later })
+    add_before(&mut parts.before, &branches, config, config, command)?;
+    add_after(&mut parts.later, &branches_later, &view, config, command)?;
+    Ok(parts)
 }

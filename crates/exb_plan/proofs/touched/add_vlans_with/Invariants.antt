@@ -13,8 +13,8 @@ abbrev pub invariant-loop-number : goal.invariant-loop-number
 invariant-loop-number g l = record {
   before : (t : Shape) → AreBranches t (bridge_of l.config) l.branches →
       Adds t (bridge_of l.config)
-      (filter (has_port (bridge_of l.config) l.port) (flat_map (λ w. both_kinds w (λ q. true)) (range_with_len 1 (l.number - 1)))) l.fn.before.items l.before.items;
+      (filter (has_port (bridge_of l.config) l.port) (flat_map (λ w. both_kinds w (λ q. true)) (range_with_len 1 (l.number - 1)))) l.fn.parts.before.items l.parts.before.items;
   later : (t : Shape) → AreBranches t (g.V.View.bridge l.view) l.branches_later →
       Adds t (g.V.View.bridge l.view)
-      (filter (has_port (bridge_of l.config) l.port) (flat_map (λ w. both_kinds w (λ q. true)) (range_with_len 1 (l.number - 1)))) l.fn.later.items l.later.items;
+      (filter (has_port (bridge_of l.config) l.port) (flat_map (λ w. both_kinds w (λ q. true)) (range_with_len 1 (l.number - 1)))) l.fn.parts.later.items l.parts.later.items;
 }
