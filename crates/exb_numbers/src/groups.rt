@@ -1,5 +1,5 @@
 //! The groups of a space.
-ghost use Rattle.std.specs.Prelude.{◌≡◌, ◌≢◌, ℕ, ◌+◌, ◌==◌, ◌<◌, ◌≤◌, not, true, false, [], ◌++◌, ◌∷◌, Some, None, if◌then◌else◌, length, slice_index, slice_set, nat_lt, vec_capacity, IfOk, OnErr, IfSome, MatchOption, MatchResult};
+ghost use Rattle.std.specs.Prelude.{◌≡◌, ◌≢◌, ℕ, ◌+◌, ◌==◌, ◌<◌, ◌≤◌, not, true, false, [], Some, None, if◌then◌else◌, length, slice_index, vec_capacity, IfOk, OnErr, IfSome, MatchOption, MatchResult};
 ghost use Rattle.exb_model.specs.Ports.{ports_of};
 ghost use Rattle.exb_model.specs.Refusals.{is_empty_set};
 ghost use Rattle.exb_numbers.specs.Groups.{set_of, sets_of, is_used, group_of, lowest_group};

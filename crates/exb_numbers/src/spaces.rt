@@ -1,6 +1,6 @@
 //! The spaces of the bridge's cascade ports.
 ghost use Rattle.std.specs.Prelude.{◌≡◌, ℕ, ◌+◌, ◌-◌, ◌<◌, ◌≤◌, ◌&&◌, true, [], None, nat_lt, replicate, if◌then◌else◌, IfOk, OnOk};
-ghost use Rattle.std.specs.Borrow.{Lends, sem};
+ghost use Rattle.std.specs.Borrow.{sem};
 ghost use Rattle.exb_model.specs.Tree.{is_cascade};
 ghost use Rattle.exb_numbers.specs.Groups.{set_of};
 ghost use Rattle.exb_numbers.specs.Spaces.{has_space, channels_at, groups_at, IsAdded};
@@ -29,7 +29,7 @@ pub struct Spaces {
 }
 
 impl Model for Spaces {
-    ghost use Rattle.std.specs.Prelude.{◌≡◌, length};
+    ghost use Rattle.std.specs.Prelude.{◌≡◌};
     ghost use Rattle.exb_numbers.specs.Spaces.{Spaces};
 
     ghost Value = { Spaces };
