@@ -3,7 +3,7 @@ use exb_model::command::Command;
 use exb_model::port::PortId;
 
 /// A job in the queue of changes.
-#[derive(Clone, Copy, Debug)]
+#[derive(Clone, Copy)]
 pub enum Job {
     /// Opens an extender once it was heard: it is asked to begin its session, and its cascade ports are created.
     Opening { extender: u8 },

@@ -26,7 +26,7 @@ use std::alloc::Global;
 use std::marker::Model;
 
 /// Why a call did not come to its end.
-#[derive(Clone, Copy, Debug, PartialEq, Eq)]
+#[derive(Clone, Copy)]
 pub enum ControlFault {
     /// Memory ran out in this call.
     Memory,

@@ -5,7 +5,7 @@ ghost use Rattle.exb_control.specs.ActiveConfigs.{in_force};
 use exb_changing::{Change, Job};
 
 /// The change at work, and whether it is in force.
-#[derive(Debug, Drop)]
+#[derive(Drop)]
 pub enum Stage {
     /// No change is at work.
     AtRest,

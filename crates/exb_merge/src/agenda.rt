@@ -26,7 +26,7 @@ pub struct NetNext {
 }
 
 /// Why the captures of a bridge can't be read on.
-#[derive(Clone, Copy, Debug, PartialEq, Eq)]
+#[derive(Clone, Copy)]
 pub struct BridgeFault {
     pub bridge: u8,
     pub fault: CaptureFault,

@@ -12,7 +12,7 @@ use exb_shelf::Shelf;
 use std::alloc::Global;
 
 /// Why the captures can't be read on.
-#[derive(Clone, Copy, Debug, PartialEq, Eq)]
+#[derive(Clone, Copy)]
 pub enum CaptureFault {
     /// Memory ran out.
     Memory,

@@ -23,7 +23,7 @@ pub fn number_at(bytes: &[u8], at: usize) -> u16
 
 /// Bytes with room in front, seen as the list of them: what is taken out near the front moves the few bytes before it, and not
 /// the many behind it.
-#[derive(Debug, Drop)]
+#[derive(Drop)]
 pub struct Bytes {
     /// What is in front of the first byte has no meaning.
     items: Vec<u8>,

@@ -6,7 +6,7 @@ use crate::rules::Accept;
 use crate::vlan::{Kind, Vid};
 
 /// A change of the configuration. Each is total over external ports and VLANs.
-#[derive(Clone, Copy, Debug, PartialEq, Eq)]
+#[derive(Clone, Copy)]
 pub enum Command {
     /// Sets the members of a VLAN exactly. A port in both sets is untagged.
     Vlan {

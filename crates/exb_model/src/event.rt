@@ -3,7 +3,7 @@ use crate::bytes::Bytes;
 use crate::port::PortId;
 
 /// Why a change is refused: which numbers run out below a port of the bridge.
-#[derive(Clone, Copy, Debug, PartialEq, Eq)]
+#[derive(Clone, Copy)]
 pub enum Cause {
     /// `needed` E-channels, where `limit` are configured.
     Channels { needed: u64, limit: u32 },
@@ -12,7 +12,7 @@ pub enum Cause {
 }
 
 /// An event. Commands are numbered from 1 in the order of the topology file, records from 1 at each port.
-#[derive(Debug, Drop)]
+#[derive(Drop)]
 pub enum Event {
     /// A frame was relayed: by VLAN, targets and learning it was dealt with, and may have left nowhere.
     /// `moment` is the time of its record in nanoseconds.

@@ -2,7 +2,7 @@
 use crate::vlan::Vid;
 
 /// What a frame is to a VLAN bridge (IEEE 802.1Q): the first of these that fits it.
-#[derive(Clone, Copy, Debug, PartialEq, Eq)]
+#[derive(Clone, Copy, Debug)]
 pub enum Seen {
     /// Under 14 bytes.
     Short,

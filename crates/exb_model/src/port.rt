@@ -14,7 +14,7 @@ pub const PORTS: u16 = 4160;
 
 /// A port: 64 n + k - 1 for port k of extender n, with n = 0 for the bridge, so below 4,160.
 /// The order of ports is the order of these numbers.
-#[derive(Clone, Copy, Debug, PartialEq, Eq, Default)]
+#[derive(Clone, Copy, PartialEq, Eq, Default)]
 pub struct PortId {
     number: u16,
 }

@@ -5,7 +5,7 @@ use crate::port::PortId;
 
 /// A set of ports as bits: port p is in it where bit p modulo 64 of word p / 64 is 1. So word n has the
 /// ports of extender n, and word 0 those of the bridge.
-#[derive(Clone, Copy, Debug, PartialEq, Eq)]
+#[derive(Clone, Copy, PartialEq, Eq)]
 pub struct PortSet {
     pub words: [u64; 65],
     pub ghost fits: { (n : ℕ) → slice_index words n < 2 ^ 64 },

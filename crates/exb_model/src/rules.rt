@@ -4,7 +4,7 @@ use crate::port_set::PortSet;
 use crate::vlan::Vid;
 
 /// The frame types that a port accepts (IEEE 802.1Q, acceptable frame types).
-#[derive(Clone, Copy, Debug, PartialEq, Eq, Default)]
+#[derive(Clone, Copy, Default)]
 pub enum Accept {
     #[default]
     All,
@@ -16,7 +16,7 @@ pub enum Accept {
 
 /// The rules of a port: its PVID, the frame types that it accepts, whether ingress filtering is on, and
 /// whether it is isolated. Isolated ports exchange nothing with one another.
-#[derive(Clone, Copy, Debug, PartialEq, Eq, Default)]
+#[derive(Clone, Copy, Default)]
 pub struct PortRule {
     pub pvid: Vid,
     pub accept: Accept,
@@ -26,7 +26,7 @@ pub struct PortRule {
 
 /// A static entry: the ports to which frames for an address in a VLAN go (IEEE 802.1Q, static filtering
 /// entries).
-#[derive(Clone, Copy, Debug, PartialEq, Eq)]
+#[derive(Clone, Copy)]
 pub struct StaticAt {
     pub vid: Vid,
     pub address: Mac,

@@ -12,7 +12,7 @@ use crate::port::DEVICES;
 use crate::port_set::PortSet;
 
 /// The port on which an extender hangs, numbered from 1.
-#[derive(Clone, Copy, Debug, PartialEq, Eq)]
+#[derive(Clone, Copy)]
 pub enum Place {
     /// A local port of the bridge.
     Bridge { port: u8 },
@@ -35,7 +35,7 @@ impl Place {
 }
 
 /// A port extender (IEEE 802.1BR): its number and how many ports it has, both 1 to 64, and where it hangs.
-#[derive(Clone, Copy, Debug, PartialEq, Eq)]
+#[derive(Clone, Copy)]
 pub struct ExtenderSetup {
     pub number: u8,
     pub ports: u8,
@@ -139,7 +139,7 @@ fn are_start(commands: &[Command], external: &PortSet) -> bool
 }
 
 /// The bridge, its tree of extenders, and the configuration to start with.
-#[derive(Debug, Drop)]
+#[derive(Drop)]
 pub struct Setup {
     /// Local ports of the bridge, 1 to 64.
     pub ports: u8,
@@ -202,7 +202,7 @@ impl Setup {
 }
 
 /// What becomes of a control frame on a link.
-#[derive(Clone, Copy, Debug, PartialEq, Eq)]
+#[derive(Clone, Copy)]
 pub enum Verdict {
     /// It is delivered.
     Pass,
@@ -216,7 +216,7 @@ pub enum Verdict {
 
 /// A command of the topology file: `at` in seconds after the start, and what becomes of the control frames
 /// that follow it.
-#[derive(Debug, Drop)]
+#[derive(Drop)]
 pub struct Timed {
     pub at: u32,
     pub command: Command,

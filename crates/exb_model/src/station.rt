@@ -4,7 +4,7 @@ use crate::vlan::Vid;
 use std::hash::{Hash, Hasher};
 
 /// An address in a VLAN.
-#[derive(Clone, Copy, Debug, PartialEq, Eq)]
+#[derive(Clone, Copy, PartialEq, Eq)]
 pub struct Station {
     pub vid: Vid,
     pub address: Mac,

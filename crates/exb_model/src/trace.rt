@@ -3,7 +3,7 @@ use crate::bytes::Bytes;
 use std::marker::Model;
 
 /// What a line of a trace says.
-#[derive(Clone, Copy, Debug, PartialEq, Eq)]
+#[derive(Clone, Copy)]
 pub enum TraceWay {
     /// A frame comes in.
     In,
@@ -17,7 +17,7 @@ pub enum TraceWay {
 
 /// A line of a trace. `who` is 0 for the bridge, else an extender's number; `side` is 0 for upstream, else a port's number. Both
 /// are 0 in a beat, whose `bytes` are none, and in a line of the journal, whose `bytes` are its text without a newline.
-#[derive(Debug, Drop)]
+#[derive(Drop)]
 pub struct TraceLine {
     pub who: u8,
     pub way: TraceWay,

@@ -53,7 +53,7 @@ impl Default for Vid {
 }
 
 /// Whether a port sends the frames of a VLAN with a VLAN tag or without one.
-#[derive(Clone, Copy, Debug, PartialEq, Eq, Default)]
+#[derive(Clone, Copy, Default)]
 pub enum Kind {
     Tagged,
     #[default]

@@ -17,7 +17,7 @@ use exb_model::port::DEVICES;
 
 /// A direction that has a word: its place in the order in which a round goes through the directions of one way, and its
 /// extender.
-#[derive(Clone, Copy, Debug, PartialEq, Eq)]
+#[derive(Clone, Copy)]
 pub struct Turn {
     pub place: u8,
     pub link: u8,

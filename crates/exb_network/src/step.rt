@@ -4,7 +4,7 @@ use exb_model::arrival::Arrival;
 use exb_model::command::Command;
 
 /// A direction of the link above an extender: up to the bridge, or down from it.
-#[derive(Clone, Copy, Debug, PartialEq, Eq)]
+#[derive(Clone, Copy)]
 pub enum Way {
     Up,
     Down,

@@ -33,7 +33,7 @@ use std::alloc::Global;
 use std::marker::Model;
 
 /// Why a step did not come to its end.
-#[derive(Clone, Copy, Debug, PartialEq, Eq)]
+#[derive(Clone, Copy, Debug)]
 pub enum WorldFault {
     /// Memory ran out in this step.
     Memory,

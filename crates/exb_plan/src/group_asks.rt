@@ -14,7 +14,7 @@ use exb_model::tree::Tree;
 use std::alloc::Global;
 
 /// A group's number, and the ports with a port of its set in their subtree.
-#[derive(Clone, Copy, Debug, PartialEq, Eq)]
+#[derive(Clone, Copy)]
 pub(crate) struct Covered {
     pub(crate) number: u16,
     pub(crate) ports: PortSet,

@@ -12,7 +12,7 @@ use rand_pcg::Lcg64Xsh32;
 
 /// What is drawn: that the seconds pass, that the next command is given, that the next arrival of a queue comes, that the first data
 /// word of a direction is taken, that the fate of a control word is asked, or a beat.
-#[derive(Clone, Copy, Debug)]
+#[derive(Clone, Copy)]
 pub enum Choice {
     Tick,
     Command,

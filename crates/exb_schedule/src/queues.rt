@@ -8,7 +8,7 @@ use std::alloc::Global;
 use std::collections::VecDeque;
 
 /// The places of the arrivals at one port, in order.
-#[derive(Debug, Drop)]
+#[derive(Drop)]
 pub struct Queue {
     pub port: PortId,
     pub waiting: VecDeque<usize>,

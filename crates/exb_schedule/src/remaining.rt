@@ -2,7 +2,7 @@
 
 /// The words of a direction that are still to be looked at in this round, and the place of the next control word: so many were looked
 /// at and stay.
-#[derive(Clone, Copy, Debug)]
+#[derive(Clone, Copy)]
 pub(crate) struct Remaining {
     pub(crate) frames: u64,
     pub(crate) control: u64,

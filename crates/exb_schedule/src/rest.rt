@@ -16,7 +16,7 @@ use exb_network::{Step, WorldFault};
 use std::alloc::Global;
 
 /// The seconds that are left, how many commands were given, and of each arrival whether it was.
-#[derive(Debug, Drop)]
+#[derive(Drop)]
 pub struct Rest {
     pub seconds: u32,
     pub taken: usize,

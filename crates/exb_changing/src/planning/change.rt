@@ -5,14 +5,14 @@ use exb_model::event::Cause;
 use exb_model::list::List;
 
 /// A channel or a group in the space of a bridge port, which is numbered 1 to 64.
-#[derive(Clone, Copy, Debug)]
+#[derive(Clone, Copy)]
 pub struct Number {
     pub bridge_port: u8,
     pub number: u16,
 }
 
 /// How the extenders follow a change of the configuration.
-#[derive(Debug, Drop)]
+#[derive(Drop)]
 pub struct Change {
     /// What is asked before the change is committed, in order.
     pub prepare: List<AskAt>,
