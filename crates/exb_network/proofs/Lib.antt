@@ -9,3 +9,4 @@ pub mod Sendings
 pub mod Idling
 pub mod Turning
 pub mod Beginnings
+pub mod Closing

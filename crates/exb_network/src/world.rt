@@ -111,14 +111,8 @@ impl World {
         if self.failed {
             return Err(WorldFault::Failed);
         }
-        let site = &self.site;
-        match live::arrive(site, arrival, &mut self.room, &mut self.core) {
-            Ok(()) => Ok(()),
-            Err(_) => {
-                self.failed = true;
-                Err(WorldFault::Memory)
-            }
-        }
+        let made = live::arrive(&self.site, arrival, &mut self.room, &mut self.core);
+        closed(made, &mut self.failed)
     }
 
     /// The first data word of a direction is taken.
@@ -132,14 +126,8 @@ impl World {
         if self.failed {
             return Err(WorldFault::Failed);
         }
-        let site = &self.site;
-        match live::carry(site, link, way, &mut self.room, &mut self.core) {
-            Ok(()) => Ok(()),
-            Err(_) => {
-                self.failed = true;
-                Err(WorldFault::Memory)
-            }
-        }
+        let made = live::carry(&self.site, link, way, &mut self.room, &mut self.core);
+        closed(made, &mut self.failed)
     }
 
     /// The control word at a position, before which no data word is left, is delivered.
@@ -153,14 +141,8 @@ impl World {
         if self.failed {
             return Err(WorldFault::Failed);
         }
-        let site = &self.site;
-        match live::deliver(site, link, way, at, &mut self.room, &mut self.core) {
-            Ok(()) => Ok(()),
-            Err(_) => {
-                self.failed = true;
-                Err(WorldFault::Memory)
-            }
-        }
+        let made = live::deliver(&self.site, link, way, at, &mut self.room, &mut self.core);
+        closed(made, &mut self.failed)
     }
 
     /// The control word at a position, before which no data word is left, is delivered, and stays on the link too.
@@ -174,14 +156,8 @@ impl World {
         if self.failed {
             return Err(WorldFault::Failed);
         }
-        let site = &self.site;
-        match live::repeat(site, link, way, at, &mut self.room, &mut self.core) {
-            Ok(()) => Ok(()),
-            Err(_) => {
-                self.failed = true;
-                Err(WorldFault::Memory)
-            }
-        }
+        let made = live::repeat(&self.site, link, way, at, &mut self.room, &mut self.core);
+        closed(made, &mut self.failed)
     }
 
     /// The control word at a position is lost.
@@ -195,14 +171,8 @@ impl World {
         if self.failed {
             return Err(WorldFault::Failed);
         }
-        let site = &self.site;
-        match live::lose(site, link, way, at, &mut self.room, &mut self.core) {
-            Ok(()) => Ok(()),
-            Err(_) => {
-                self.failed = true;
-                Err(WorldFault::Memory)
-            }
-        }
+        let made = live::lose(&self.site, link, way, at, &mut self.room, &mut self.core);
+        closed(made, &mut self.failed)
     }
 
     /// A beat passes at all ends.
@@ -216,14 +186,8 @@ impl World {
         if self.failed {
             return Err(WorldFault::Failed);
         }
-        let site = &self.site;
-        match live::beat(site, &mut self.room, &mut self.core) {
-            Ok(()) => Ok(()),
-            Err(_) => {
-                self.failed = true;
-                Err(WorldFault::Memory)
-            }
-        }
+        let made = live::beat(&self.site, &mut self.room, &mut self.core);
+        closed(made, &mut self.failed)
     }
 
     /// The clock goes on, by at least one second. It stays below 2^63.
@@ -237,14 +201,8 @@ impl World {
         if self.failed {
             return Err(WorldFault::Failed);
         }
-        let site = &self.site;
-        match live::tick(site, seconds, &mut self.room, &mut self.core) {
-            Ok(()) => Ok(()),
-            Err(_) => {
-                self.failed = true;
-                Err(WorldFault::Memory)
-            }
-        }
+        let made = live::tick(&self.site, seconds, &mut self.room, &mut self.core);
+        closed(made, &mut self.failed)
     }
 
     /// A command is given.
@@ -258,14 +216,8 @@ impl World {
         if self.failed {
             return Err(WorldFault::Failed);
         }
-        let site = &self.site;
-        match live::order(site, command, &mut self.room, &mut self.core) {
-            Ok(()) => Ok(()),
-            Err(_) => {
-                self.failed = true;
-                Err(WorldFault::Memory)
-            }
-        }
+        let made = live::order(&self.site, command, &mut self.room, &mut self.core);
+        closed(made, &mut self.failed)
     }
 
     /// Nothing is left to be done, and that is marked.
@@ -279,14 +231,8 @@ impl World {
         if self.failed {
             return Err(WorldFault::Failed);
         }
-        let site = &self.site;
-        match live::mark(site, &mut self.room, &mut self.core) {
-            Ok(()) => Ok(()),
-            Err(_) => {
-                self.failed = true;
-                Err(WorldFault::Memory)
-            }
-        }
+        let made = live::mark(&self.site, &mut self.room, &mut self.core);
+        closed(made, &mut self.failed)
     }
 
     /// Whether memory ran out.
@@ -398,6 +344,21 @@ impl World {
         ensures quiet { IsQuiet self.new }
     {
         self.room.post.log.clear(&mut self.room.post.store);
+    }
+}
+
+/// What a step answers that was made in a world: where memory ran out the world has failed.
+#[inline(always)]
+fn closed(made: Result<(), NoMemory>, failed: &mut bool) -> Result<(), WorldFault>
+    ensures made { OnOk result ((made ≡ Ok tt) × (failed.new ≡ failed.old)) }
+    ensures memory { OnErr result ((result ≡ Err WorldFault.Memory) × (failed.new ≡ true)) }
+{
+    match made {
+        Ok(()) => Ok(()),
+        Err(_) => {
+            *failed = true;
+            Err(WorldFault::Memory)
+        }
     }
 }
 

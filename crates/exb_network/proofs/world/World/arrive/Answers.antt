@@ -1,12 +1,10 @@
-use Rattle.std.proofs.Common.{subst}
+use Rattle.std.proofs.lemmas.Result.{on_ok_weaker}
 use Rattle.exb_machine.specs.Worlds.{Arrive}
-use Rattle.exb_network.specs.Networks.{Network, IsStepped, network_of}
+use Rattle.exb_network.proofs.Closing.{closes}
 use Rattle.exb_network.proofs.world.World.arrive.Goals as goal
 
-pub arrive-requires-clause-live : goal.arrive-requires-clause-live
-arrive-requires-clause-live c = c.self.invariant c.if-self.false
+pub arrive-made-requires-clause-live : goal.arrive-made-requires-clause-live
+arrive-made-requires-clause-live c = c.self.invariant c.if-self.false
 
-pub returns-in-Ok-clause-ok : goal.returns-in-Ok-clause-ok
-returns-in-Ok-clause-ok c =
-    let w = c.self.inside in
-    subst (λ (n : Network). IsStepped (Arrive c.args.arrival.now) n (network_of w.site c.arrive.new.core c.arrive.new.room.post.log w.failed)) c.self.view_is (c.in-Ok.ensures.made w.failed)
+pub returns-clause-ok : goal.returns-clause-ok
+returns-clause-ok c = on_ok_weaker c.closed.result (closes c.arrive-made.result (Arrive c.args.arrival.now) _ _ _ _ _ _ _ _ c.self.view_is c.arrive-made.ensures) c.closed.ensures.made

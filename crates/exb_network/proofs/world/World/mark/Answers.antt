@@ -1,12 +1,10 @@
-use Rattle.std.proofs.Common.{subst}
+use Rattle.std.proofs.lemmas.Result.{on_ok_weaker}
 use Rattle.exb_machine.specs.Worlds.{Mark}
-use Rattle.exb_network.specs.Networks.{Network, IsStepped, network_of}
+use Rattle.exb_network.proofs.Closing.{closes}
 use Rattle.exb_network.proofs.world.World.mark.Goals as goal
 
-pub mark-requires-clause-live : goal.mark-requires-clause-live
-mark-requires-clause-live c = c.self.invariant c.if-self.false
+pub mark-made-requires-clause-live : goal.mark-made-requires-clause-live
+mark-made-requires-clause-live c = c.self.invariant c.if-self.false
 
-pub returns-in-Ok-clause-ok : goal.returns-in-Ok-clause-ok
-returns-in-Ok-clause-ok c =
-    let w = c.self.inside in
-    subst (λ (n : Network). IsStepped Mark n (network_of w.site c.mark.new.core c.mark.new.room.post.log w.failed)) c.self.view_is (c.in-Ok.ensures.made w.failed)
+pub returns-clause-ok : goal.returns-clause-ok
+returns-clause-ok c = on_ok_weaker c.closed.result (closes c.mark-made.result Mark _ _ _ _ _ _ _ _ c.self.view_is c.mark-made.ensures) c.closed.ensures.made

@@ -1,12 +1,10 @@
-use Rattle.std.proofs.Common.{subst}
+use Rattle.std.proofs.lemmas.Result.{on_ok_weaker}
 use Rattle.exb_machine.specs.Worlds.{Order}
-use Rattle.exb_network.specs.Networks.{Network, IsStepped, network_of}
+use Rattle.exb_network.proofs.Closing.{closes}
 use Rattle.exb_network.proofs.world.World.order.Goals as goal
 
-pub order-requires-clause-live : goal.order-requires-clause-live
-order-requires-clause-live c = c.self.invariant c.if-self.false
+pub order-made-requires-clause-live : goal.order-made-requires-clause-live
+order-made-requires-clause-live c = c.self.invariant c.if-self.false
 
-pub returns-in-Ok-clause-ok : goal.returns-in-Ok-clause-ok
-returns-in-Ok-clause-ok c =
-    let w = c.self.inside in
-    subst (λ (n : Network). IsStepped (Order c.args.command.now) n (network_of w.site c.order.new.core c.order.new.room.post.log w.failed)) c.self.view_is (c.in-Ok.ensures.made w.failed)
+pub returns-clause-ok : goal.returns-clause-ok
+returns-clause-ok c = on_ok_weaker c.closed.result (closes c.order-made.result (Order c.args.command.now) _ _ _ _ _ _ _ _ c.self.view_is c.order-made.ensures) c.closed.ensures.made

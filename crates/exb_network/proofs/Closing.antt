@@ -1,0 +1,16 @@
+-- How a call of a world ends: what was made of its parts is a step of the whole, and nothing has failed by it.
+use Rattle.std.proofs.Common.{◌≡◌, Bool, sym, subst, Result, Ok}
+use Rattle.std.specs.Prelude.{OnOk}
+use Rattle.exb_machine.specs.Worlds.{Step}
+use Rattle.exb_boxes.specs.declared.log.Log.{Log}
+use Rattle.exb_bridge.specs.Sites.{Site}
+use Rattle.exb_network.specs.declared.site.Core.{Core}
+use Rattle.exb_network.specs.Live.{Makes}
+use Rattle.exb_network.specs.Networks.{Network, IsStepped, network_of}
+
+pub closes : {T E : Type 0} {v : T} (made : Result T E) (step : Step) (s : Site) (c d : Core) (old new : Log) (n : Network) (failed after : Bool) → network_of s c old failed ≡ n →
+    OnOk made (Makes step s c d old new) → (made ≡ Ok v) × (after ≡ failed) → IsStepped step n (network_of s d new after)
+closes made step s c d old new n failed after view makes (ok, same) =
+    subst (λ (m : Network). IsStepped step m (network_of s d new after)) view
+    (subst (λ (f : Bool). IsStepped step (network_of s c old failed) (network_of s d new f)) (sym same)
+    ((subst (λ (r : Result _ _). OnOk r (Makes step s c d old new)) ok makes).made failed))
