@@ -1,8 +1,9 @@
 -- One capture more that is read again.
-use Rattle.std.proofs.Common.{◌≡◌, ℕ, ◌+◌, ◌^◌, ◌<◌, ◌≤◌, false, List, [], ◌∷◌, ◌++◌, length, map, refl, sym, ap, ◌∙◌, arith}
-use Rattle.std.specs.Prelude.{Option, Some, Result, Ok, Err, IfSome, IfNone, is_ok, is_err, if◌then◌else◌, OnOk}
+use Rattle.std.proofs.Common.{◌≡◌, ℕ, ◌+◌, ◌^◌, ◌<◌, ◌≤◌, false, List, [], ◌∷◌, ◌++◌, length, map, refl, sym, ap, subst, ◌∙◌, arith}
+use Rattle.std.specs.Prelude.{Option, Some, Result, Ok, Err, IfSome, IfNone, is_ok, is_err, if◌then◌else◌, OnOk, sum_by}
 use Rattle.std.specs.List.{AllByRecursion}
-use Rattle.exb_model.specs.Input.{Record}
+use Rattle.std.proofs.lemmas.List.{map-append}
+use Rattle.exb_model.specs.Input.{Record, second_of}
 use Rattle.exb_capture.specs.Captures.{capture_records}
 use Rattle.exb_capture.specs.declared.format.Capture.{Capture as State}
 use Rattle.exb_capture.specs.declared.format.Seen.{Seen}
@@ -19,7 +20,7 @@ use Rattle.exb_merge.specs.Replays.{Apart, AreReplays, HasPort, IsOpened, IsRepl
 use Rattle.exb_merge.specs.Streams.{Stream, stream_of}
 use Rattle.exb_merge.proofs.Moving.{all_opened, files_then, new_apart, stay_opened}
 use Rattle.exb_merge.proofs.Places.{all_join}
-use Rattle.exb_merge.proofs.Standing.{apart_more}
+use Rattle.exb_merge.proofs.Standing.{apart_more, id_of, left_more, left_of}
 use Rattle.exb_merge.proofs.Told.{Stays, replaying_looked, replaying_opened, replays_join, replays_stay}
 
 -- what a list is where there is no error
@@ -47,6 +48,12 @@ module _ (port : ℕ) (told : Scanned) (opened looked : Replay) (next : Option �
       let held = ap (λ (r : Reading State). length r.held) begun.reader in
       let unseen = ap (λ (o : Option Seen). one_next o) begun.next in
       record { at = at; kept = kept; small = omega (arith, small, size); first = omega arith; numbers = omega (arith, size, looks, held, unseen, begun.got, begun.limit_is); comes = comes }
+
+  pub left_first : left_to_read looked.file ≤ left_to_read opened.file → left_of one_more ≤ told.bytes + 1
+  left_first looks =
+      let held = ap (λ (r : Reading State). length r.held) begun.reader in
+      let unseen = ap (λ (o : Option Seen). one_next o) begun.next in
+      omega (arith, looks, held, unseen, begun.got, begun.limit_is)
 
   -- the shelf: before, once it was opened, and once it was looked at
   module _ (file mid now : Files) (given opening ids : ℕ → Id) (name : List ℕ) (same_mid : SameFiles file mid) (same_now : SameFiles mid now) (moves : MovesOn opened.file.id opening ids)
@@ -78,3 +85,22 @@ module _ (given opening ids : ℕ → Id) (ss : List Again) (s : Again) (name : 
 pub apart_new : (given : ℕ → Id) (ss : List Again) (s : Again) (id : ℕ) → s.replay.file.id ≡ id → (given id).given ≡ false → (HasPort s.port (map standing_of ss) → ⊥) → AllByRecursion (IsOpened given) ss → Apart ss →
     Apart (ss ++ s ∷ [])
 apart_new given ss s id is fresh port each apart = apart_more ss s (new_apart given s ss (ap (λ k. (given k).given) is ∙ fresh) port each) apart
+
+-- what is told of all, with one more
+module _ (ss : List Again) (s : Again) (all : List Again) (is : all ≡ ss ++ s ∷ []) where
+  pub standings_more : s.replay.least ≡ 0 → map standing_of all ≡ map standing_of ss ++ record { port = s.port; index = s.index; least = 0 } ∷ []
+  standings_more none =
+      ap (map standing_of) is ∙ map-append standing_of ss (s ∷ []) ∙ ap (λ (k : ℕ). map standing_of ss ++ record { port = s.port; index = s.index; least = k } ∷ []) none
+
+  pub ids_more : (id : ℕ) → id_of s ≡ id → map id_of all ≡ map id_of ss ++ id ∷ []
+  ids_more id own = ap (map id_of) is ∙ map-append id_of ss (s ∷ []) ∙ ap (λ (k : ℕ). map id_of ss ++ k ∷ []) own
+
+  pub left_most : (bytes : ℕ) → left_of s ≤ bytes + 1 → sum_by left_of all ≤ sum_by left_of ss + bytes + 1
+  left_most bytes own = let total = ap (sum_by left_of) is in omega (arith, total, left_more ss s, own)
+
+  pub since_more : (second : ℕ) (told : Scanned) → s.replay.told ≡ told → IfSome told.first (λ first. second ≤ second_of first) →
+      AllByRecursion (λ (t : Again). IfSome t.replay.told.first (λ first. second ≤ second_of first)) ss →
+      AllByRecursion (λ (t : Again). IfSome t.replay.told.first (λ first. second ≤ second_of first)) all
+  since_more second told own first each =
+      subst (AllByRecursion (λ (t : Again). IfSome t.replay.told.first (λ n. second ≤ second_of n))) (sym is)
+      (all_join (λ (t : Again). IfSome t.replay.told.first (λ n. second ≤ second_of n)) ss (s ∷ []) each (subst (λ (k : Scanned). IfSome k.first (λ n. second ≤ second_of n)) (sym own) first, tt))

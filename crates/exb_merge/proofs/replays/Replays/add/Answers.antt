@@ -1,18 +1,18 @@
-use Rattle.std.proofs.Common.{◌≡◌, ℕ, List, [], ◌∷◌, ◌++◌, map, Err, sym, ap, subst, ◌∙◌, arith, rules}
-use Rattle.std.proofs.lemmas.Grind.{common_steps}
+use Rattle.std.proofs.Common.{◌≡◌, ◌+◌, ℕ, List, [], ◌∷◌, ◌++◌, map, Err, sym, ap, subst, ◌∙◌, arith}
 use Rattle.std.specs.List.{AllByRecursion}
-use Rattle.std.specs.Prelude.{Option}
+use Rattle.std.specs.Prelude.{Option, Some, None}
 use Rattle.exb_shelf.specs.Files.{bytes_of}
 use Rattle.exb_capture.specs.Counts.{after_fault}
+use Rattle.exb_capture.proofs.Looking.{fewer_then}
 use Rattle.exb_capture.proofs.Replaying.{never_replayed}
 use Rattle.exb_merge.specs.declared.replays.Again.{Again}
-use Rattle.exb_merge.specs.declared.replays.CaptureFault.TheVariants.{Changed}
+use Rattle.exb_merge.specs.declared.replays.CaptureFault.TheVariants.{Read, Changed}
 use Rattle.exb_merge.specs.Replays.{Apart, AreReplays, IsOpened, next_in}
 use Rattle.exb_merge.specs.Streams.{stream_of}
 use Rattle.exb_merge.specs.Turns.{AreTurns}
-use Rattle.exb_merge.proofs.Adding.{apart_new, each_more, fine, one_more, opened_first, replay_first, replays_more, when_ok}
+use Rattle.exb_merge.proofs.Adding.{apart_new, each_more, fine, ids_more, left_first, left_most, one_more, opened_first, replay_first, replays_more, since_more, standings_more, when_ok}
 use Rattle.exb_merge.proofs.Counts.{not_opened, not_read, port_at}
-use Rattle.exb_merge.proofs.Moving.{changed_at, own_fault}
+use Rattle.exb_merge.proofs.Moving.{changed_at, files_then, opens_on, own_fault, read_is, rose_later}
 use Rattle.exb_merge.proofs.Seen.{small_next}
 use Rattle.exb_merge.proofs.Told.{replaying_opened}
 use Rattle.exb_merge.proofs.Turning.{turns_more}
@@ -21,11 +21,11 @@ use Rattle.exb_merge.proofs.replays.Replays.add.Goals as goal
 pub returns-in-Err-ahead : goal.returns-in-Err-ahead
 returns-in-Err-ahead g c =
     record {
-      opened = first_of (search rules, grind (arith, common_steps));
-      standings = first_of (search rules, grind (arith, common_steps));
-      left = first_of (search rules, grind (arith, common_steps));
-      since = first_of (search rules, grind (arith, common_steps));
-      streams = first_of (search rules, grind (arith, common_steps));
+      opened = tt;
+      standings = tt;
+      left = tt;
+      since = λ second first told. tt;
+      streams = λ tells. tt;
       never = (
           λ tells p at e bytes records there whole told.
           let S = g.S.Shelf in
@@ -36,9 +36,10 @@ returns-in-Err-ahead g c =
           (c.in-Ok.ensures.given tells) in
           let fault = changed_at c.args.port p at c.in-Err-ahead.fault (sym c.fault_at-in-Err-ahead.ensures ∙ own_fault c.fault_at-in-Err-ahead.result (Changed p at) e) in
           never_replayed (bytes_of (file (ids opened.file.id).name)) records opened at k (c.in-Err-ahead.ensures.changed tells at (ap Err fault) k.given k.has));
-      id = first_of (search rules, grind (arith, common_steps));
-      opens = first_of (search rules, grind (arith, common_steps));
-      files = first_of (search rules, grind (arith, common_steps));
+      id = tt;
+      opens = opens_on c.args.name.now (g.S.Shelf.ids c.args.shelf.now) (g.S.Shelf.ids c.open.new.shelf) (g.S.Shelf.ids c.ahead.new.shelf) c.in-Ok.replay.file.id c.in-Ok.ensures.new c.in-Ok.ensures.id
+          c.open.ensures.opened c.ahead.ensures.moves;
+      files = files_then (g.S.Shelf.file c.args.shelf.now) (g.S.Shelf.file c.open.new.shelf) (g.S.Shelf.file c.ahead.new.shelf) c.open.ensures.files c.ahead.ensures.files;
       port_is = (
           λ p at e.
           port_at c.args.port p at c.in-Err-ahead.fault (sym c.fault_at-in-Err-ahead.ensures ∙ own_fault c.fault_at-in-Err-ahead.result (Changed p at) e));
@@ -51,8 +52,12 @@ returns-in-Err-ahead g c =
       counts = (
           not_read c.args.port c.in-Err-ahead.fault c.fault_at-in-Err-ahead.result _ _ c.fault_at-in-Err-ahead.ensures
           (c.in-Err-ahead.ensures.counts ∙ ap (after_fault c.in-Err-ahead.fault) c.in-Ok.ensures.counts));
-      faults = first_of (search rules, grind (arith, common_steps));
-      failed = first_of (search rules, grind (arith, common_steps));
+      faults = fewer_then (g.S.Shelf.faults c.args.shelf.now) (g.S.Shelf.faults c.open.new.shelf) (g.S.Shelf.faults c.ahead.new.shelf) c.open.ensures.faults c.ahead.ensures.faults;
+      failed = (
+          λ e.
+          let fault = read_is c.args.port c.in-Err-ahead.fault (sym c.fault_at-in-Err-ahead.ensures ∙ own_fault c.fault_at-in-Err-ahead.result Read e) in
+          rose_later (g.S.Shelf.faults c.args.shelf.now).reads (g.S.Shelf.faults c.open.new.shelf).reads (g.S.Shelf.faults c.ahead.new.shelf).reads c.open.ensures.faults.reads
+          c.ahead.ensures.faults.reads (c.in-Err-ahead.ensures.failed (ap Err fault)));
     }
 
 pub add-requires-clause-turns : goal.add-requires-clause-turns
@@ -85,9 +90,22 @@ returns g c =
             turns = subst (λ ys. AreTurns (map next_in ys) c.add.new.self) (sym items)
                 (turns_more next_in xs s c.add.new.self (added (map next_in xs) c.requires.opened.turns));
           });
-      standings = first_of (search rules, grind (arith, common_steps));
-      left = first_of (search rules, grind (arith, common_steps));
-      since = first_of (search rules, grind (arith, common_steps));
+      standings = (
+          let xs = c.args.self.now.sources.items in
+          let s : Again = one_more c.args.port c.args.told c.in-Ok.replay c.ahead.new.self c.in-Ok-ahead.next c.in-Ok.ensures.told.0 c.in-Ok.ensures.begun c.ahead.ensures.same in
+          let items : c.push.new.self.items ≡ xs ++ s ∷ [] = when_ok c.push.result c.push.new.self.items (xs ++ s ∷ []) xs (sym c.is_err.ensures.value ∙ c.if-is_err.false) c.push.ensures.items in
+          standings_more xs s c.push.new.self.items items (c.ahead.ensures.before.least ∙ c.in-Ok.ensures.told.1));
+      left = (
+          let xs = c.args.self.now.sources.items in
+          let s : Again = one_more c.args.port c.args.told c.in-Ok.replay c.ahead.new.self c.in-Ok-ahead.next c.in-Ok.ensures.told.0 c.in-Ok.ensures.begun c.ahead.ensures.same in
+          let items : c.push.new.self.items ≡ xs ++ s ∷ [] = when_ok c.push.result c.push.new.self.items (xs ++ s ∷ []) xs (sym c.is_err.ensures.value ∙ c.if-is_err.false) c.push.ensures.items in
+          left_most xs s c.push.new.self.items items c.args.told.bytes (left_first c.args.port c.args.told c.in-Ok.replay c.ahead.new.self c.in-Ok-ahead.next c.in-Ok.ensures.told.0 c.in-Ok.ensures.begun c.ahead.ensures.same c.in-Ok-ahead.ensures.left));
+      since = (
+          λ second first told.
+          let xs = c.args.self.now.sources.items in
+          let s : Again = one_more c.args.port c.args.told c.in-Ok.replay c.ahead.new.self c.in-Ok-ahead.next c.in-Ok.ensures.told.0 c.in-Ok.ensures.begun c.ahead.ensures.same in
+          let items : c.push.new.self.items ≡ xs ++ s ∷ [] = when_ok c.push.result c.push.new.self.items (xs ++ s ∷ []) xs (sym c.is_err.ensures.value ∙ c.if-is_err.false) c.push.ensures.items in
+          since_more xs s c.push.new.self.items items second c.args.told (c.ahead.ensures.same.told ∙ c.in-Ok.ensures.told.0) first told);
       streams = (
           λ tells bytes records streams there whole told t.
           let S = g.S.Shelf in
@@ -105,29 +123,38 @@ returns g c =
           let all = replays_more given (S.ids c.open.new.shelf) ids xs s c.args.name.now opened.file.id c.in-Ok.ensures.new c.open.ensures.opened c.ahead.ensures.moves c.requires.opened.each
           (S.file c.args.shelf.now) (S.file c.open.new.shelf) (S.file c.ahead.new.shelf) streams (stream_of c.args.port records) c.open.ensures.files c.ahead.ensures.files own t in
           subst (λ ss. AreReplays (S.file c.ahead.new.shelf) ids ss (streams ++ stream_of c.args.port records ∷ [])) (sym items) all);
-      never = first_of (search rules, grind (arith, common_steps));
-      id = first_of (search rules, grind (arith, common_steps));
-      opens = first_of (search rules, grind (arith, common_steps));
-      files = first_of (search rules, grind (arith, common_steps));
-      port_is = first_of (search rules, grind (arith, common_steps));
-      place = first_of (search rules, grind (arith, common_steps));
-      counts = first_of (search rules, grind (arith, common_steps));
-      faults = first_of (search rules, grind (arith, common_steps));
-      failed = first_of (search rules, grind (arith, common_steps));
+      never = λ tells p at e bytes records there whole told. absurd (cc);
+      id = (
+          let xs = c.args.self.now.sources.items in
+          let s : Again = one_more c.args.port c.args.told c.in-Ok.replay c.ahead.new.self c.in-Ok-ahead.next c.in-Ok.ensures.told.0 c.in-Ok.ensures.begun c.ahead.ensures.same in
+          let items : c.push.new.self.items ≡ xs ++ s ∷ [] = when_ok c.push.result c.push.new.self.items (xs ++ s ∷ []) xs (sym c.is_err.ensures.value ∙ c.if-is_err.false) c.push.ensures.items in
+          (c.in-Ok.replay.file.id, ids_more xs s c.push.new.self.items items c.in-Ok.replay.file.id c.ahead.ensures.same.file.id, c.in-Ok.ensures.new));
+      opens = opens_on c.args.name.now (g.S.Shelf.ids c.args.shelf.now) (g.S.Shelf.ids c.open.new.shelf) (g.S.Shelf.ids c.ahead.new.shelf) c.in-Ok.replay.file.id c.in-Ok.ensures.new c.in-Ok.ensures.id
+          c.open.ensures.opened c.ahead.ensures.moves;
+      files = files_then (g.S.Shelf.file c.args.shelf.now) (g.S.Shelf.file c.open.new.shelf) (g.S.Shelf.file c.ahead.new.shelf) c.open.ensures.files c.ahead.ensures.files;
+      port_is = λ p at e. absurd (cc);
+      place = λ p at e. absurd (cc);
+      counts = c.in-Ok-ahead.ensures.counts ∙ c.in-Ok.ensures.counts;
+      faults = fewer_then (g.S.Shelf.faults c.args.shelf.now) (g.S.Shelf.faults c.open.new.shelf) (g.S.Shelf.faults c.ahead.new.shelf) c.open.ensures.faults c.ahead.ensures.faults;
+      failed = λ e. absurd (cc);
     }
 
 pub returns-in-Err : goal.returns-in-Err
 returns-in-Err g c =
     record {
-      opened = first_of (search rules, grind (arith, common_steps));
-      standings = first_of (search rules, grind (arith, common_steps));
-      left = first_of (search rules, grind (arith, common_steps));
-      since = first_of (search rules, grind (arith, common_steps));
-      streams = first_of (search rules, grind (arith, common_steps));
-      never = first_of (search rules, grind (arith, common_steps));
-      id = first_of (search rules, grind (arith, common_steps));
-      opens = first_of (search rules, grind (arith, common_steps));
-      files = first_of (search rules, grind (arith, common_steps));
+      opened = tt;
+      standings = tt;
+      left = tt;
+      since = λ second first told. tt;
+      streams = λ tells. tt;
+      never = (
+          λ tells p at e bytes records there whole told.
+          let fault = changed_at c.args.port p at c.in-Err.fault (sym c.fault_at.ensures ∙ own_fault c.fault_at.result (Changed p at) e) in
+          let none = (c.in-Err.ensures.changed at (ap Err fault)).2 tells in
+          absurd (let no : None ≡ Some bytes = sym none ∙ there in cc));
+      id = tt;
+      opens = c.open.ensures.opened;
+      files = c.open.ensures.files;
       port_is = (
           λ p at e.
           port_at c.args.port p at c.in-Err.fault (sym c.fault_at.ensures ∙ own_fault c.fault_at.result (Changed p at) e));
@@ -137,6 +164,6 @@ returns-in-Err g c =
           let first = (c.in-Err.ensures.changed at (ap Err fault)).0 in
           omega (arith, first));
       counts = not_opened c.args.port c.in-Err.fault c.fault_at.result _ _ c.fault_at.ensures c.in-Err.ensures.counts;
-      faults = first_of (search rules, grind (arith, common_steps));
-      failed = first_of (search rules, grind (arith, common_steps));
+      faults = c.open.ensures.faults;
+      failed = λ e. c.in-Err.ensures.failed (ap Err (read_is c.args.port c.in-Err.fault (sym c.fault_at.ensures ∙ own_fault c.fault_at.result Read e)));
     }
