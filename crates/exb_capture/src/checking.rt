@@ -1,6 +1,8 @@
 //! Checking a capture from front to end.
+ghost use Rattle.std.specs.Prelude.{◌≡◌};
 ghost use Rattle.exb_capture.specs.Calls.{IsChecked, ScansOn};
 ghost use Rattle.exb_capture.specs.Reading.{IsAt, IsSound};
+ghost use Rattle.exb_capture.specs.Scans.{refused};
 
 use crate::fault::Fault;
 use crate::file::{CaptureFile, Halt};
@@ -53,6 +55,19 @@ fn scan_on<S: Shelf>(shelf: &mut S, file: &mut CaptureFile) -> Result<Scanned, H
     })
 }
 
+/// Why a capture is refused, where it isn't read to its end. By itself, so that `scan` lets go of the file at two ends and not
+/// at five.
+fn refused(limit: u64, halt: Halt) -> ScanFault
+    ensures { result ≡ refused limit halt }
+{
+    match halt {
+        Halt::Memory => ScanFault::Memory,
+        Halt::Failed => ScanFault::Read,
+        Halt::Broken { fault } => ScanFault::Fault { fault },
+        Halt::Large => ScanFault::Large { limit },
+    }
+}
+
 /// Checks a capture of at most `limit` bytes from front to end. It is read in pieces.
 ///
 /// Where the files are told, it tells how many bytes and records it has and when the first one was captured;
@@ -74,9 +89,6 @@ pub fn scan<S: Shelf>(
     };
     match scan_on(shelf, &mut file) {
         Ok(scanned) => Ok(scanned),
-        Err(Halt::Memory) => Err(ScanFault::Memory),
-        Err(Halt::Failed) => Err(ScanFault::Read),
-        Err(Halt::Broken { fault }) => Err(ScanFault::Fault { fault }),
-        Err(Halt::Large) => Err(ScanFault::Large { limit }),
+        Err(halt) => Err(refused(limit, halt)),
     }
 }
