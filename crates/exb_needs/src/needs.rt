@@ -1,6 +1,7 @@
 //! What a setup needs.
 ghost use Rattle.std.specs.Prelude.{◌≡◌, IfOk, string_bytes};
-ghost use Rattle.exb_model.specs.Setup.{IsValid, limits_of};
+ghost use Rattle.exb_model.specs.Setup.{shape_of, IsValid, limits_of};
+ghost use Rattle.exb_needs.specs.Needed.{needs_of};
 
 use crate::channels::channels;
 use crate::opened::opened;
@@ -19,8 +20,22 @@ pub struct Needs {
     pub sets: u64,
 }
 
+/// What a setup with this tree needs. The configuration is let go of by one call, whatever came, which is cheap to prove.
+fn needs_with(alloc: Global, tree: &Tree, setup: &Setup) -> Result<Needs, NoMemory>
+    requires tree { tree.now ≡ shape_of setup.now }
+    requires valid { IsValid setup.now }
+    ensures { IfOk result (λ needs. needs ≡ needs_of setup.now) }
+{
+    let config = opened(alloc, tree, setup)?;
+    let sets = sets(alloc, tree, &config);
+    drop(config);
+    Ok(Needs {
+        channels: channels(tree),
+        sets: sets?,
+    })
+}
+
 impl Needs {
-    ghost use Rattle.exb_needs.specs.Needed.{needs_of};
     ghost use Rattle.exb_needs.specs.Lines.{lines_of};
 
     /// What a setup needs.
@@ -29,12 +44,7 @@ impl Needs {
         ensures { IfOk result (λ needs. needs ≡ needs_of setup.now) }
     {
         let tree = Tree::new(alloc, setup)?;
-        let config = opened(alloc, &tree, setup)?;
-        let sets = sets(alloc, &tree, &config)?;
-        Ok(Needs {
-            channels: channels(&tree),
-            sets,
-        })
+        needs_with(alloc, &tree, setup)
     }
 
     /// The two lines that say what is needed and how much of it a setup has, each with its newline.

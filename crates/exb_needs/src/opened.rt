@@ -29,6 +29,11 @@ pub(crate) fn opened(alloc: Global, tree: &Tree, setup: &Setup) -> Result<Config
     ensures { IfOk result (λ made. bridge_of made ≡ opened setup.now) }
 {
     let mut config = Config::new(alloc, &tree.external_ports())?;
-    apply_all(&mut config, setup.start.as_slice())?;
-    Ok(config)
+    match apply_all(&mut config, setup.start.as_slice()) {
+        Ok(()) => Ok(config),
+        Err(memory) => {
+            drop(config);
+            Err(memory)
+        }
+    }
 }
