@@ -1,6 +1,6 @@
 -- What was opened, and what is known of it, bridge after bridge.
 use Rattle.std.proofs.Common.{◌≡◌, ◌<◌, ◌≤◌, ◌+◌, ◌++◌, ◌∙◌, ◌⊎◌, inl, inr, ℕ, zero, suc, List, [], ◌∷◌, Some, Result, Ok, Err, length, map, take, get_or, refl, ap, sym, subst, arith}
-use Rattle.std.specs.Prelude.{All, slice_get}
+use Rattle.std.specs.Prelude.{All, IfOk, slice_get}
 use Rattle.std.proofs.Math.Seq.{take-length}
 use Rattle.std.proofs.lemmas.List.{map-append, take_all, take_more}
 use Rattle.std.proofs.lemmas.Option.{get_or_from_slice_get, slice_get_within}
@@ -25,7 +25,7 @@ all_get P xs k x h is = subst P (get_or_from_slice_get xs k x x is) (h k x (slic
 pub next_taken : {X : Type 0} (xs : List X) (i : ℕ) (x : X) → i < length xs → x ≡ get_or xs i x → take (i + 1) xs ≡ take i xs ++ x ∷ []
 next_taken xs i x low is = take_more xs i x low ∙ ap (λ (y : _). take i xs ++ y ∷ []) (sym is)
 
-all_taken : {X : Type 0} (xs : List X) (i : ℕ) → length xs ≤ i → take i xs ≡ xs
+pub all_taken : {X : Type 0} (xs : List X) (i : ℕ) → length xs ≤ i → take i xs ≡ xs
 all_taken xs i end = take_all i xs end
 
 -- ---- topologies
@@ -77,6 +77,15 @@ topologies_end tells bs i file ms x given ids end holds opened = record {
   all = refl;
 }
 
+module _ {X Y : Type 0} (tells : Type 0) (bs : List NetBridge) (file : Files) (given ids : ℕ → Id) where
+  -- so they were where something else comes of it
+  pub topologies_and : (x : X) (y : Y) → OpensTopologies tells bs file (Ok x) given ids → OpensTopologies tells bs file (Ok y) given ids
+  topologies_and x y more = record { count = more.count; within = more.within; opened = more.opened; before = more.before; all = more.all }
+
+  -- or nothing does
+  pub topologies_but : (o : Result X Fault) (x : Fault) → OpensTopologies tells bs file o given ids → OpensTopologies {X = Y} tells bs file (Err x) given ids
+  topologies_but o x more = record { count = more.count; within = more.within; opened = more.opened; before = more.before; all = tt }
+
 -- ---- a net
 -- its file was not read
 pub net_unread : (tells : Type 0) (name : List ℕ) (file : Files) (x : Fault) (given ids : ℕ → Id) → Opens (IsReadingOf name) given ids → OpensNet tells name file (Err x) given ids
@@ -90,31 +99,23 @@ net_unread tells name file x given ids opens = record {
   all = tt;
 }
 
-module _ (tells : Type 0) (name : List ℕ) (file : Files) (net : NetFile) (given now ids : ℕ → Id) where
-  -- its topologies were not, or its wires are refused
-  pub net_stopped : {X : Type 0} (o : Result X Fault) (x : Fault) → (tells → HoldsNetFile name file net) → Opens (IsReadingOf name) given now → OpensTopologies tells net.bridges file o now ids → OpensNet tells name file (Err x) given ids
-  net_stopped o x says opens more = record {
-    bridges = net.bridges;
-    says = λ t some. (net, says t, refl);
-    count = more.count;
-    within = more.within;
-    opened = (now, opens, more.opened);
-    before = more.before;
-    all = tt;
-  }
-
-  -- it was read
-  pub net_opened : (ms : List NetMember) (inputs : NetInputs) → (tells → HoldsNetFile name file net) → Opens (IsReadingOf name) given now → OpensTopologies tells net.bridges file (Ok ms) now ids
-      → map (λ (m : NetMember). m.name) inputs.members ≡ map (λ (b : NetBridge). b.name) net.bridges → OpensNet tells name file (Ok inputs) given ids
-  net_opened ms inputs says opens more names = record {
-    bridges = net.bridges;
-    says = λ t some. (net, says t, refl);
-    count = more.count;
-    within = more.within;
-    opened = (now, opens, more.opened);
-    before = more.before;
-    all = (more.all, names);
-  }
+-- its file was read, and then its topologies were or were not, or its wires are refused
+pub net_opened : (tells : Type 0) (name : List ℕ) (file : Files) (net : NetFile) (o : Result NetInputs Fault) (given now ids : ℕ → Id) → (tells → HoldsNetFile name file net) → Opens (IsReadingOf name) given now
+    → OpensTopologies tells net.bridges file o now ids → IfOk o (λ (inputs : NetInputs). map (λ (m : NetMember). m.name) inputs.members ≡ map (λ (b : NetBridge). b.name) net.bridges) → OpensNet tells name file o given ids
+net_opened tells name file net o given now ids says opens more names = record {
+  bridges = net.bridges;
+  says = λ t some. (net, says t, refl);
+  count = more.count;
+  within = more.within;
+  opened = (now, opens, more.opened);
+  before = more.before;
+  all = both o more.all names;
+}
+  where
+    both : (r : Result NetInputs Fault) → IfOk r (λ (inputs : NetInputs). more.count ≡ length net.bridges) → IfOk r (λ (inputs : NetInputs). map (λ (m : NetMember). m.name) inputs.members ≡ map (λ (b : NetBridge). b.name) net.bridges)
+        → IfOk r (λ (inputs : NetInputs). (more.count ≡ length net.bridges) × (map (λ (m : NetMember). m.name) inputs.members ≡ map (λ (b : NetBridge). b.name) net.bridges))
+    both (Ok inputs) all same = (all, same)
+    both (Err x) all same = tt
 
 -- whatever was opened is the file of the net or a topology of these bridges
 name_taken : (bs : List NetBridge) (k n : ℕ) (name : List ℕ) → slice_get (topologies (take n bs)) k ≡ Some name → (b : NetBridge) × (slice_get bs k ≡ Some b) × (b.topology ≡ name)

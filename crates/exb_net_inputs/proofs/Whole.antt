@@ -17,7 +17,7 @@ use Rattle.exb_net_file.specs.Words.{is_name}
 use Rattle.exb_inputs.specs.declared.fault.Fault.{Fault}
 use Rattle.exb_inputs.specs.declared.fault.Fault.TheVariants.{Read, Memory}
 use Rattle.exb_inputs.proofs.Outcomes.{files_same}
-use Rattle.exb_net_inputs.specs.Holding.{AreRead, HoldsMembers, HoldsNet, HoldsNetFile}
+use Rattle.exb_net_inputs.specs.Holding.{AreRead, HoldsMembers, HoldsNetFile}
 use Rattle.exb_net_inputs.specs.Opening.{OpensTopologies}
 use Rattle.exb_net_inputs.proofs.Lists.{all_unmap, pairs_map, pairs_unmap}
 use Rattle.exb_net_inputs.specs.Refusing.{FirstRefused, IsFileRefused, IsNetRefusal, IsNetRefused}
@@ -48,20 +48,14 @@ are_read net ms ws is same valid sound wired nets =
       nets = nets;
     }
 
-module _ (name : List ℕ) (f g : Files) (net : NetFile) (same : SameFiles f g) (says : HoldsNetFile name f net) where
-  pub held_so : (ms : List NetMember) → HoldsMembers net.bridges g ms → HoldsMembers net.bridges f ms
-  held_so ms held = subst (λ (file : Files). HoldsMembers net.bridges file ms) (files_same f g same) held
-
-  pub members_err : (x : Fault) → FirstRefused net.bridges g x ⊎ Failed x → IsNetRefused name f x ⊎ Failed x
-  members_err x (inl first) = inl (inr (inl (record { net = net; says = says; first = subst (λ (file : Files). FirstRefused net.bridges file x) (files_same f g same) first })))
+module _ (name : List ℕ) (file : Files) (net : NetFile) (says : HoldsNetFile name file net) where
+  pub members_err : (x : Fault) → FirstRefused net.bridges file x ⊎ Failed x → IsNetRefused name file x ⊎ Failed x
+  members_err x (inl first) = inl (inr (inl (record { net = net; says = says; first = first })))
   members_err x (inr failed) = inr failed
 
-  pub wires_err : (ms : List NetMember) (x : Fault) → HoldsMembers net.bridges g ms → IsNetRefusal (wires_of ms net.wires) x ⊎ (x ≡ Memory) → IsNetRefused name f x ⊎ Failed x
-  wires_err ms x held (inl refused) = inl (inr (inr (record { net = net; says = says; bridges = ms; members = held_so ms held; refused = refused })))
+  pub wires_err : (ms : List NetMember) (x : Fault) → HoldsMembers net.bridges file ms → IsNetRefusal (wires_of ms net.wires) x ⊎ (x ≡ Memory) → IsNetRefused name file x ⊎ Failed x
+  wires_err ms x held (inl refused) = inl (inr (inr (record { net = net; says = says; bridges = ms; members = held; refused = refused })))
   wires_err ms x held (inr memory) = inr (inr memory)
-
-  pub net_read : (ms : List NetMember) (ws : List Wire) → HoldsMembers net.bridges g ms → wires_of ms net.wires ≡ Ok ws → HoldsNet name f ms ws
-  net_read ms ws held wired = record { net = net; says = says; members = held_so ms held; wired = wired }
 
 pub file_err : (name : List ℕ) (f : Files) (x : Fault) → IsFileRefused name (f name) x ⊎ Failed x → IsNetRefused name f x ⊎ Failed x
 file_err name f x (inl refused) = inl (inl refused)

@@ -1,5 +1,5 @@
 //! Reading a net: its file, the topologies that this names, and its wires.
-ghost use Rattle.std.specs.Prelude.{◌≡◌, ◌≤◌, ◌⊎◌, Some, Ok, All, IfOk, IfErr, length, map};
+ghost use Rattle.std.specs.Prelude.{◌≡◌, ◌≤◌, ◌⊎◌, ℕ, List, Some, Ok, All, IfOk, IfErr, length, map};
 ghost use Rattle.exb_model.specs.Setup.{IsValid};
 ghost use Rattle.exb_shelf.specs.Files.{SameFiles};
 ghost use Rattle.exb_shelf.specs.Shelf.{IsReadingOf, Opens};
@@ -103,7 +103,11 @@ fn read_member<S: Shelf>(
         Err(fault) => Err(of_member(alloc, name, fault)),
         Ok(topology) => match Text::from_str(alloc, name) {
             Ok(name) => Ok(NetMember { name, topology }),
-            Err(_) => Err(Fault::Memory),
+            Err(_) => {
+                // By a call, since a block's end is far longer to prove where it lets a topology go.
+                drop(topology);
+                Err(Fault::Memory)
+            }
         },
     }
 }
@@ -146,6 +150,32 @@ fn wire_all(alloc: Global, members: &[NetMember], wires: &[NetWire]) -> Result<L
     }
 }
 
+/// Reads what the file of a net names: the topology of each bridge in order, and its wires over all of them. Another function owns what
+/// the file says, since an early end is far longer to prove where it lets it go.
+fn read_named<S: Shelf>(alloc: Global, shelf: &mut S, net: &NetFile) -> Result<NetInputs, Fault>
+    requires sound { IsNetFile net.now }
+    ensures read { S.tells → (name : List ℕ) → HoldsNetFile name (S.file shelf.old) net.now → IfOk result (λ inputs. HoldsNet name (S.file shelf.old) inputs.members inputs.wires) }
+    ensures sound { IfOk result (λ inputs. AreRead inputs.members inputs.wires) }
+    ensures names { IfOk result (λ inputs. map (λ m. m.name) inputs.members ≡ map (λ b. b.name) net.now.bridges) }
+    ensures refused { S.tells → (name : List ℕ) → HoldsNetFile name (S.file shelf.old) net.now → IfErr result (λ fault. IsNetRefused name (S.file shelf.old) fault ⊎ (fault ≡ Fault.Read) ⊎ (fault ≡ Fault.Memory)) }
+    ensures causes { IfErr result IsOfNet }
+    ensures opened { OpensTopologies S.tells net.now.bridges (S.file shelf.old) result (S.ids shelf.old) (S.ids shelf.new) }
+    ensures files { SameFiles (S.file shelf.old) (S.file shelf.new) }
+    ensures faults { CountsFaults result (S.faults shelf.old) (S.faults shelf.new) }
+{
+    let bridges = net.bridges.as_slice();
+    let members = read_members(alloc, shelf, bridges)?;
+    let joined = members.as_slice();
+    let written = net.wires.as_slice();
+    match wire_all(alloc, joined, written) {
+        Ok(wires) => Ok(NetInputs { members, wires }),
+        Err(fault) => {
+            drop(members);
+            Err(fault)
+        }
+    }
+}
+
 /// Reads a net: the file of this name, then the topology of each bridge in order, and its wires over all of them.
 pub fn read_net<S: Shelf>(alloc: Global, shelf: &mut S, name: &str) -> Result<NetInputs, Fault>
     ensures read { S.tells → IfOk result (λ net. HoldsNet name.now (S.file shelf.old) net.members net.wires) }
@@ -157,10 +187,7 @@ pub fn read_net<S: Shelf>(alloc: Global, shelf: &mut S, name: &str) -> Result<Ne
     ensures faults { CountsFaults result (S.faults shelf.old) (S.faults shelf.new) }
 {
     let net = read_net_file(alloc, shelf, name)?;
-    let bridges = net.bridges.as_slice();
-    let members = read_members(alloc, shelf, bridges)?;
-    let joined = members.as_slice();
-    let written = net.wires.as_slice();
-    let wires = wire_all(alloc, joined, written)?;
-    Ok(NetInputs { members, wires })
+    let inputs = read_named(alloc, shelf, &net);
+    drop(net);
+    inputs
 }

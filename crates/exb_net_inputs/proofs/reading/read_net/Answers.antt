@@ -1,7 +1,15 @@
-use Rattle.std.proofs.Common.{Err}
+use Rattle.std.proofs.Common.{◌⊎◌, sym, subst}
+use Rattle.std.specs.Prelude.{IfErr, IfOk}
 use Rattle.std.proofs.lemmas.Result.{err_from_is_err_and}
-use Rattle.exb_net_inputs.proofs.Opened.{net_stopped, net_unread}
-use Rattle.exb_net_inputs.proofs.Whole.{are_read, members_err, topologies_from, wires_err}
+use Rattle.exb_shelf.specs.Files.{Files}
+use Rattle.exb_inputs.specs.declared.fault.Fault.{Fault}
+use Rattle.exb_inputs.proofs.Outcomes.{files_same}
+use Rattle.exb_inputs.proofs.ShelvingLemmas.{counts_from}
+use Rattle.exb_net_inputs.specs.declared.reading.NetInputs.{NetInputs}
+use Rattle.exb_net_inputs.specs.Holding.{HoldsNet, HoldsNetFile}
+use Rattle.exb_net_inputs.specs.Refusing.{IsNetRefused}
+use Rattle.exb_net_inputs.proofs.Opened.{net_opened, net_unread}
+use Rattle.exb_net_inputs.proofs.Whole.{Failed, topologies_from}
 use Rattle.exb_net_inputs.proofs.reading.read_net.Goals as goal
 
 pub returns-in_err-net-clause-opened : goal.returns-in_err-net-clause-opened
@@ -10,35 +18,32 @@ returns-in_err-net-clause-opened g c =
     let made = err_from_is_err_and c.from_residual.result c.from_residual.ensures.1 in
     rw (made.1, made.2) (net_unread S.tells c.args.name.now (S.file c.args.shelf.now) c.in_err-net.field-0.0 (S.ids c.args.shelf.now) (S.ids c.read_net_file.new.shelf) c.in_err-net.ensures.opened)
 
-pub returns-in_err-members-clause-refused : goal.returns-in_err-members-clause-refused
-returns-in_err-members-clause-refused g c t =
+pub returns-clause-read : goal.returns-clause-read
+returns-clause-read g c t =
     let S = g.S.Shelf in
-    let made = err_from_is_err_and c.from_residual-in_err-members.result c.from_residual-in_err-members.ensures.1 in
-    let stops = c.in_err-members.ensures.refused t in
-    rw (made.1, made.2)
-    (members_err c.args.name.now (S.file c.args.shelf.now) (S.file c.read_net_file.new.shelf) c.in_ok-net.net c.in_ok-net.ensures.files (c.in_ok-net.ensures.read t) c.in_err-members.field-0.0 (rw c.as_slice-bridges.ensures at stops))
-
-pub returns-in_err-members-clause-opened : goal.returns-in_err-members-clause-opened
-returns-in_err-members-clause-opened g c =
-    let S = g.S.Shelf in
-    let made = err_from_is_err_and c.from_residual-in_err-members.result c.from_residual-in_err-members.ensures.1 in
+    let name = c.args.name.now in
     let net = c.in_ok-net.net in
-    rw (made.1, made.2)
-    (net_stopped S.tells c.args.name.now (S.file c.args.shelf.now) net (S.ids c.args.shelf.now) (S.ids c.read_net_file.new.shelf) (S.ids c.read_members.new.shelf) (Err c.in_err-members.field-0.0) c.in_err-members.field-0.0 c.in_ok-net.ensures.read
-    c.in_ok-net.ensures.opened
-    (topologies_from S.tells net.bridges (S.file c.args.shelf.now) (S.file c.read_net_file.new.shelf) (Err c.in_err-members.field-0.0) (S.ids c.read_net_file.new.shelf) (S.ids c.read_members.new.shelf) c.in_ok-net.ensures.files
-    (rw c.as_slice-bridges.ensures at c.in_err-members.ensures.opened)))
+    let same = files_same (S.file c.args.shelf.now) (S.file c.read_net_file.new.shelf) c.in_ok-net.ensures.files in
+    subst (λ (file : Files). IfOk c.read_named-inputs.result (λ (inputs : NetInputs). HoldsNet name file inputs.members inputs.wires)) same
+    (c.read_named-inputs.ensures.read t name (subst (λ (file : Files). HoldsNetFile name file net) (sym same) (c.in_ok-net.ensures.read t)))
 
-pub returns-in_err-wires-clause-refused : goal.returns-in_err-wires-clause-refused
-returns-in_err-wires-clause-refused g c t =
+pub returns-clause-refused : goal.returns-clause-refused
+returns-clause-refused g c t =
     let S = g.S.Shelf in
-    let made = err_from_is_err_and c.from_residual-in_err-wires.result c.from_residual-in_err-wires.ensures.1 in
-    let held = c.in_ok-members.ensures.read t in
-    rw (made.1, made.2)
-    (wires_err c.args.name.now (S.file c.args.shelf.now) (S.file c.read_net_file.new.shelf) c.in_ok-net.net c.in_ok-net.ensures.files (c.in_ok-net.ensures.read t) c.in_ok-members.members c.in_err-wires.field-0.0
-    (rw c.as_slice-bridges.ensures at held) (rw (c.as_slice-joined.ensures, c.as_slice-written.ensures) at c.in_err-wires.ensures.refused))
+    let name = c.args.name.now in
+    let net = c.in_ok-net.net in
+    let same = files_same (S.file c.args.shelf.now) (S.file c.read_net_file.new.shelf) c.in_ok-net.ensures.files in
+    subst (λ (file : Files). IfErr c.read_named-inputs.result (λ (x : Fault). IsNetRefused name file x ⊎ Failed x)) same
+    (c.read_named-inputs.ensures.refused t name (subst (λ (file : Files). HoldsNetFile name file net) (sym same) (c.in_ok-net.ensures.read t)))
 
-pub returns-clause-sound : goal.returns-clause-sound
-returns-clause-sound g c =
-    are_read c.in_ok-net.net c.in_ok-members.members c.in_ok-wires.wires c.in_ok-net.ensures.sound (rw c.as_slice-bridges.ensures at c.in_ok-members.ensures.names) c.in_ok-members.ensures.valid c.in_ok-members.ensures.sound
-    (rw (c.as_slice-joined.ensures, c.as_slice-written.ensures) at c.in_ok-wires.ensures.wired) (rw c.as_slice-joined.ensures at c.in_ok-wires.ensures.nets)
+pub returns-clause-opened : goal.returns-clause-opened
+returns-clause-opened g c =
+    let S = g.S.Shelf in
+    let f = S.file c.args.shelf.now in
+    let net = c.in_ok-net.net in
+    net_opened S.tells c.args.name.now f net c.read_named-inputs.result (S.ids c.args.shelf.now) (S.ids c.read_net_file.new.shelf) (S.ids c.read_named-inputs.new.shelf) c.in_ok-net.ensures.read c.in_ok-net.ensures.opened
+    (topologies_from S.tells net.bridges f (S.file c.read_net_file.new.shelf) c.read_named-inputs.result (S.ids c.read_net_file.new.shelf) (S.ids c.read_named-inputs.new.shelf) c.in_ok-net.ensures.files c.read_named-inputs.ensures.opened)
+    c.read_named-inputs.ensures.names
+
+pub returns-clause-faults : goal.returns-clause-faults
+returns-clause-faults g c = counts_from c.read_named-inputs.result _ _ _ c.in_ok-net.ensures.faults.once c.read_named-inputs.ensures.faults
