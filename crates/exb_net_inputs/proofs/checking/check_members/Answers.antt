@@ -1,13 +1,16 @@
-use Rattle.std.proofs.Common.{rules, ◌≡◌, ◌∙◌, ◌++◌, ◌∷◌, [], inl, inr, subst}
+use Rattle.std.proofs.Common.{rules, List, Err, ◌≡◌, ◌∙◌, ◌++◌, ◌∷◌, [], inl, inr, subst}
 use Rattle.std.proofs.lemmas.Result.{err_from_is_err_and}
 use Rattle.exb_shelf.specs.Files.{Files}
 use Rattle.exb_inputs.specs.Checks.{AreChecked}
+use Rattle.exb_net_file.specs.declared.members.NetMember.{NetMember}
 use Rattle.exb_inputs.proofs.Outcomes.{files_same}
-use Rattle.exb_net_inputs.specs.Checking.{AreGood}
-use Rattle.exb_net_inputs.specs.Opening.{EndsWithin}
+use Rattle.exb_inputs.proofs.ShelvingLemmas.{counts_as, counts_from, counts_memory}
+use Rattle.exb_net_inputs.specs.Checking.{AreAllMembersGood, AreGood, AreMembersChecked}
+use Rattle.exb_net_inputs.specs.Opening.{EndsWithin, OpensCaptures, OpensEachOf}
 use Rattle.exb_net_inputs.specs.Refusing.{IsOwnFault}
 use Rattle.exb_net_inputs.proofs.Loops.{captures_stop, checks_more}
 use Rattle.exb_net_inputs.proofs.Members.{below_done, ends_between, ends_here, first_here}
+use Rattle.exb_net_inputs.proofs.Opened.{all_taken}
 use Rattle.exb_net_inputs.proofs.checking.check_members.Goals as goal
 
 pub returns-in_err-one-clause-flaw : goal.returns-in_err-one-clause-flaw
@@ -86,3 +89,36 @@ checking-preserved g c =
       files = λ n. one.files n ∙ inv.files n;
       same = one.faults.once ∙ inv.same;
     }
+
+pub returns-in_err-one-clause-faults : goal.returns-in_err-one-clause-faults
+returns-in_err-one-clause-faults g c =
+    let made = err_from_is_err_and c.from_residual.result c.from_residual.ensures.1 in
+    let x = c.in_err-one.field-0.0 in
+    rw (made.1, made.2) (counts_from (Err x) _ _ _ c.checking.invariant.same (counts_as x _ _ c.in_err-one.ensures.faults))
+
+pub returns-then-is_err-clause-faults : goal.returns-then-is_err-clause-faults
+returns-then-is_err-clause-faults g c = counts_memory _ _ (c.in_ok-one.ensures.faults.once ∙ c.checking.invariant.same)
+
+pub returns-clause-checked : goal.returns-clause-checked
+returns-clause-checked g c =
+    let S = g.S.Shelf in
+    let ms = c.args.members.now in
+    subst (λ (xs : List NetMember). AreMembersChecked S.tells xs (S.file c.args.shelf.now) c.checking.checked.items) (all_taken ms c.checking.member-index c.checking-test.false) c.checking.invariant.checked
+
+pub returns-clause-good : goal.returns-clause-good
+returns-clause-good g c t =
+    let S = g.S.Shelf in
+    let ms = c.args.members.now in
+    subst (λ (xs : List NetMember). AreAllMembersGood xs (S.file c.args.shelf.now)) (all_taken ms c.checking.member-index c.checking-test.false) (c.checking.invariant.good t)
+
+pub returns-clause-each : goal.returns-clause-each
+returns-clause-each g c =
+    let S = g.S.Shelf in
+    let ms = c.args.members.now in
+    subst (λ (xs : List NetMember). OpensEachOf xs (S.ids c.args.shelf.now) (S.ids c.checking.shelf)) (all_taken ms c.checking.member-index c.checking-test.false) c.checking.invariant.each
+
+pub returns-clause-opened : goal.returns-clause-opened
+returns-clause-opened g c =
+    let S = g.S.Shelf in
+    let ms = c.args.members.now in
+    subst (λ (xs : List NetMember). OpensCaptures xs (S.ids c.args.shelf.now) (S.ids c.checking.shelf)) (all_taken ms c.checking.member-index c.checking-test.false) c.checking.invariant.opened
