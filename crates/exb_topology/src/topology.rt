@@ -1,16 +1,18 @@
 //! A topology file, read whole.
-ghost use Rattle.std.specs.Prelude.{◌≡◌, IfOk, OnOk, Ok};
+ghost use Rattle.std.specs.Prelude.{◌≡◌, IfOk, OnOk, Ok, map};
 ghost use Rattle.exb_keys.specs.Faults.{Gives, GivesSeen};
 ghost use Rattle.exb_model.specs.Setup.{IsValid, shape_of};
 ghost use Rattle.exb_tables.specs.Tables.{AreInRange};
 ghost use Rattle.exb_topology.specs.Each.{each_ok};
 ghost use Rattle.exb_topology.specs.Checks.{port_table_ok, ports_ok};
 ghost use Rattle.exb_topology.specs.Sound.{IsSound};
-ghost use Rattle.exb_topology.specs.Topologies.{topology_view, topology_seen, topology_of, bare, resolved};
+ghost use Rattle.exb_topology.specs.Seen.{seen, timed_view};
+ghost use Rattle.exb_topology.specs.Topologies.{topology_view, topology_seen, topology_of, start_seen, command_seen, bare, resolved};
 
 use crate::trees::check_tree;
 use crate::{checks, start};
 use exb_keys::faults::TopoFault;
+use exb_model::command::Command;
 use exb_model::list::List;
 use exb_model::memory::NoMemory;
 use exb_model::setup::{ExtenderSetup, Setup, Timed, Verdict};
@@ -74,6 +76,51 @@ fn check_ports(alloc: Global, tree: &Tree, tables: &Tables) -> Result<(), TopoFa
     checks::check_files(alloc, tree, prefix, tables.captures.as_slice())
 }
 
+/// The commands of the tables: those of the start, and those that come later.
+fn all_commands(
+    alloc: Global,
+    tree: &Tree,
+    tables: &Tables,
+) -> Result<(List<Command>, List<Timed>), NoMemory>
+    ensures start { IfOk result (λ made. map seen made.0 ≡ start_seen tree.now tables.now) }
+    ensures later { IfOk result (λ made. map timed_view made.1 ≡ map (command_seen tree.now) tables.now.commands) }
+{
+    let ports = tables.ports.as_slice();
+    let start = start::start_of(alloc, tree, ports, &tables.vlans, tables.statics.as_slice())?;
+    let later = start::commands_of(alloc, tree, tables.commands.as_slice())?;
+    Ok((start, later))
+}
+
+/// The topology of a setup with these commands at its start, and of those that come later. It can't fail, so that what is left of the
+/// tables goes at one end alone.
+fn put_together(setup: Setup, start: List<Command>, later: List<Timed>, tables: Tables) -> Topology
+    ensures setup { result.setup ≡ record setup { start = start } }
+    ensures commands { result.commands ≡ later }
+    ensures fate { result.fate ≡ tables.fate }
+    ensures captures { result.captures ≡ tables.captures }
+    ensures prefix { result.prefix ≡ tables.bridge.out }
+{
+    let Tables {
+        bridge,
+        fate,
+        extenders: _extenders,
+        ports: _ports,
+        vlans: _vlans,
+        statics: _statics,
+        commands: _commands,
+        captures,
+    } = tables;
+    let mut setup = setup;
+    setup.start = start;
+    Topology {
+        setup,
+        commands: later,
+        fate,
+        captures,
+        prefix: bridge.out,
+    }
+}
+
 /// The topology of tables that passed, from its valid setup with nothing at the start.
 fn finished(alloc: Global, setup: Setup, tree: &Tree, tables: Tables) -> Result<Topology, NoMemory>
     requires bare { setup ≡ bare tables }
@@ -83,27 +130,14 @@ fn finished(alloc: Global, setup: Setup, tree: &Tree, tables: Tables) -> Result<
     ensures exact { IfOk result (λ t. topology_view t ≡ topology_seen tree.now tables) }
     ensures valid { IfOk result (λ t. IsValid t.setup) }
 {
-    let Tables {
-        bridge,
-        fate,
-        extenders: _extenders,
-        ports: tables,
-        vlans,
-        statics,
-        commands,
-        captures,
-    } = tables;
-    let start = start::start_of(alloc, tree, tables.as_slice(), &vlans, statics.as_slice())?;
-    let commands = start::commands_of(alloc, tree, commands.as_slice())?;
-    let mut setup = setup;
-    setup.start = start;
-    Ok(Topology {
-        setup,
-        commands,
-        fate,
-        captures,
-        prefix: bridge.out,
-    })
+    match all_commands(alloc, tree, &tables) {
+        Ok((start, later)) => Ok(put_together(setup, start, later, tables)),
+        Err(fault) => {
+            drop(setup);
+            drop(tables);
+            Err(fault)
+        }
+    }
 }
 
 /// The second and the third pass over the tables of a file, by the setup of these. Answers the tree.
