@@ -1,7 +1,11 @@
 //! A topology file, table by table.
-ghost use Rattle.std.specs.Prelude.{IfOk};
+ghost use Rattle.std.specs.Prelude.{◌≡◌, [], Ok, IfOk, OnOk, codes};
+ghost use Rattle.toml.specs.Data.{get_member};
 ghost use Rattle.toml.specs.View.{table_view};
-ghost use Rattle.exb_keys.specs.Faults.{Gives};
+ghost use Rattle.exb_keys.specs.Faults.{Gives, GivesSeen};
+ghost use Rattle.exb_keys.specs.Keys.{only};
+ghost use Rattle.exb_tables.specs.Schemas.{has_key};
+ghost use Rattle.exb_tables.specs.Rows.{IsBridgeInRange, bridge_key};
 ghost use Rattle.exb_tables.specs.Tables.{file_tables, tables_of, AreInRange};
 
 use crate::commands::{CommandTable, commands};
@@ -35,6 +39,42 @@ pub struct Tables {
     pub captures: List<Named>,
 }
 
+/// Tables of that bridge, with nothing else in them yet.
+fn of_bridge(alloc: Global, bridge: BridgeTable) -> Tables
+    ensures { result.bridge ≡ bridge }
+{
+    Tables {
+        bridge,
+        fate: List::new(alloc),
+        extenders: List::new(alloc),
+        ports: List::new(alloc),
+        vlans: None,
+        statics: List::new(alloc),
+        commands: List::new(alloc),
+        captures: List::new(alloc),
+    }
+}
+
+/// Reads the tables of a document that follow the bridge's. The caller owns them, since an early end is far longer to prove where it
+/// lets go of what was read.
+#[tactic(auto, unfolding(crate::specs::Tables::file_tables))]
+fn read_others(alloc: Global, root: &Table, tables: &mut Tables) -> Result<(), TopoFault>
+    requires known { only (has_key Schema.Root) [] (table_view root.now) ≡ Ok tt }
+    requires bridge { bridge_key (get_member (codes "bridge") (table_view root.now)) ≡ Ok tables.old.bridge }
+    requires range { IsBridgeInRange tables.old.bridge }
+    ensures value { GivesSeen (λ _. tables.new) result (file_tables (table_view root.now)) }
+    ensures range { OnOk result (AreInRange tables.new) }
+{
+    tables.fate = rows::links_key(alloc, root)?;
+    tables.extenders = rows::extenders(alloc, root)?;
+    tables.ports = rows::ports(alloc, root)?;
+    tables.vlans = rows::vlans(alloc, root)?;
+    tables.statics = rows::statics(alloc, root)?;
+    tables.commands = commands(alloc, root, tables.fate.as_slice().len())?;
+    tables.captures = rows::captures_key(alloc, root)?;
+    Ok(())
+}
+
 /// The tables of a document.
 #[tactic(auto, unfolding(crate::specs::Tables::file_tables))]
 fn file_tables(alloc: Global, root: &Table) -> Result<Tables, TopoFault>
@@ -43,23 +83,14 @@ fn file_tables(alloc: Global, root: &Table) -> Result<Tables, TopoFault>
 {
     only(alloc, Place::Top, root, Schema::Root)?;
     let bridge = rows::bridge_key(alloc, root)?;
-    let fate = rows::links_key(alloc, root)?;
-    let extenders = rows::extenders(alloc, root)?;
-    let ports = rows::ports(alloc, root)?;
-    let vlans = rows::vlans(alloc, root)?;
-    let statics = rows::statics(alloc, root)?;
-    let commands = commands(alloc, root, fate.as_slice().len())?;
-    let captures = rows::captures_key(alloc, root)?;
-    Ok(Tables {
-        bridge,
-        fate,
-        extenders,
-        ports,
-        vlans,
-        statics,
-        commands,
-        captures,
-    })
+    let mut tables = of_bridge(alloc, bridge);
+    match read_others(alloc, root, &mut tables) {
+        Ok(()) => Ok(tables),
+        Err(fault) => {
+            drop(tables);
+            Err(fault)
+        }
+    }
 }
 
 /// The tables of a topology file, or its first fault of shape: Large above 16,777,216 bytes, NotToml, or the
