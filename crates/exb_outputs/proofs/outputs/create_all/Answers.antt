@@ -1,7 +1,7 @@
 use Rattle.std.proofs.Common.{rules, ◌≡◌, ◌<◌, ◌∙◌, ℕ, List, [], ap, refl, get_or, slice_index, length, arith, subst}
 use Rattle.std.proofs.lemmas.List.{length-map}
 use Rattle.std.proofs.lemmas.Result.{err_from_is_err_and}
-use Rattle.exb_inputs.proofs.ShelvingLemmas.{counts_as, counts_from}
+use Rattle.exb_inputs.proofs.ShelvingLemmas.{counts_as, counts_from, counts_ok}
 use Rattle.exb_shelf.specs.Files.{Filled}
 use Rattle.exb_shelf.proofs.FileLemmas.{filled_none, filled_one}
 use Rattle.exb_shelf.proofs.IdLemmas.{opens_none, opens_then}
@@ -62,50 +62,49 @@ loop-at-preserved g c =
       counted = made.faults.once ∙ before.counted;
     }
 
-pub returns-clause-texts : goal.returns-clause-texts
-returns-clause-texts g c = λ t.
-    let S = g.S.Shelf in
-    let all : c.loop-at.at ≡ output_count c.args.manifest.now = omega arith in
-    none_written c.args.manifest.now (S.file c.args.shelf.now) (S.file c.loop-at.shelf) (pieces_of c.loop-at.outputs) (λ k. first_text (kind_at c.args.manifest.now k))
-    (λ j l. c.loop-at.invariant.texts j (omega arith))
-    (subst (λ (n : ℕ). Filled (S.file c.args.shelf.now) (S.file c.loop-at.shelf) n (output_name c.args.manifest.now) (λ j bytes. bytes ≡ [])) all (c.loop-at.invariant.files t))
-
-pub returns-in_err-create_one-clause-only : goal.returns-in_err-create_one-clause-only
-returns-in_err-create_one-clause-only g c = record {
-  others = λ t m away. c.in_err-create_one.ensures.others t m (λ e. away c.loop-at.at (omega arith) e) ∙ (c.loop-at.invariant.files t).others m (λ j l. away j (omega arith));
-  opened = opens_then _ _ _ _ c.loop-at.invariant.opened c.in_err-create_one.ensures.opened;
-}
-
-pub returns-clause-only : goal.returns-clause-only
-returns-clause-only g c = record {
-  others = λ t m away. (c.loop-at.invariant.files t).others m (λ j l. away j (omega arith));
-  opened = c.loop-at.invariant.opened;
-}
-
-pub returns-clause-made : goal.returns-clause-made
-returns-clause-made g c = makes_all c.args.manifest.now c.loop-at.at _ _ _ c.loop-at.invariant.made (omega arith)
-
-pub returns-in_err-create_one-clause-made : goal.returns-in_err-create_one-clause-made
-returns-in_err-create_one-clause-made g c =
-    let e = err_from_is_err_and c.from_residual.result c.from_residual.ensures.1 in
-    let inv = c.loop-at.invariant in
-    rw (e.1, e.2) (makes_some c.args.manifest.now c.loop-at.at _ _ _ _ inv.made inv.opened.kept (omega arith) c.in_err-create_one.ensures.may_make c.in_err-create_one.ensures.causes)
-
-pub returns-in_err-create_one-clause-cut : goal.returns-in_err-create_one-clause-cut
-returns-in_err-create_one-clause-cut g c = λ t.
-    let e = err_from_is_err_and c.from_residual.result c.from_residual.ensures.1 in
-    rw e.1
-    (λ text.
+pub returns : goal.returns
+returns g c =
     let S = g.S.Shelf in
     let manifest = c.args.manifest.now in
-    cut_made manifest (S.file c.args.shelf.now) (S.file c.loop-at.shelf) (S.file c.create_one.new.shelf) c.loop-at.at (c.output_names_differ.ensures manifest) (omega arith)
-    (c.loop-at.invariant.files t) (c.in_err-create_one.ensures.stays t) text)
+    let made = c.loop-at.invariant in
+    let all : c.loop-at.at ≡ output_count manifest = omega arith in
+    record {
+      ready = record { files = made.count ∙ all; named = λ j l. made.named j (omega arith) };
+      texts = λ t.
+          none_written manifest (S.file c.args.shelf.now) (S.file c.loop-at.shelf) (pieces_of c.loop-at.outputs) (λ k. first_text (kind_at manifest k))
+          (λ j l. made.texts j (omega arith))
+          (subst (λ (n : ℕ). Filled (S.file c.args.shelf.now) (S.file c.loop-at.shelf) n (output_name manifest) (λ j bytes. bytes ≡ [])) all (made.files t));
+      sent = first_sent manifest c.loop-at.outputs (λ j l. made.records j (omega arith)) (λ j l. made.sizes j (omega arith));
+      cut = λ t. tt;
+      only = record {
+        others = λ t m away. (made.files t).others m (λ j l. away j (omega arith));
+        opened = made.opened;
+      };
+      made = makes_all manifest c.loop-at.at _ _ _ made.made (omega arith);
+      causes = tt;
+      faults = counts_ok _ (S.faults c.args.shelf.now) (S.faults c.loop-at.shelf) made.counted;
+    }
 
-pub returns-clause-sent : goal.returns-clause-sent
-returns-clause-sent g c =
-    first_sent c.args.manifest.now c.loop-at.outputs (λ j l. c.loop-at.invariant.records j (omega arith)) (λ j l. c.loop-at.invariant.sizes j (omega arith))
-
-pub returns-in_err-create_one-clause-faults : goal.returns-in_err-create_one-clause-faults
-returns-in_err-create_one-clause-faults g c =
+-- an output could not be made, or memory ran out
+pub returns-in_err-create_one : goal.returns-in_err-create_one
+returns-in_err-create_one g c =
+    let S = g.S.Shelf in
+    let manifest = c.args.manifest.now in
     let e = err_from_is_err_and c.from_residual.result c.from_residual.ensures.1 in
-    rw (e.1, e.2) (counts_from _ _ _ _ c.loop-at.invariant.counted (counts_as c.in_err-create_one.field-0.0 _ _ c.in_err-create_one.ensures.faults))
+    let before = c.loop-at.invariant in
+    let made = c.in_err-create_one.ensures in
+    rw (e.1, e.2) (record {
+      ready = tt;
+      texts = λ t. tt;
+      sent = tt;
+      cut = λ t text.
+          cut_made manifest (S.file c.args.shelf.now) (S.file c.loop-at.shelf) (S.file c.create_one.new.shelf) c.loop-at.at (c.output_names_differ.ensures manifest) (omega arith)
+          (before.files t) (made.stays t) text;
+      only = record {
+        others = λ t m away. made.others t m (λ same. away c.loop-at.at (omega arith) same) ∙ (before.files t).others m (λ j l. away j (omega arith));
+        opened = opens_then _ _ _ _ before.opened made.opened;
+      };
+      made = makes_some manifest c.loop-at.at _ _ _ _ before.made before.opened.kept (omega arith) made.may_make made.causes;
+      causes = made.causes;
+      faults = counts_from _ _ _ _ before.counted (counts_as c.in_err-create_one.field-0.0 _ _ made.faults);
+    })
