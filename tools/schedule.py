@@ -25,15 +25,14 @@ sys.dont_write_bytecode = True
 HERE = os.path.dirname(os.path.abspath(__file__))
 # The most processes that a proof gets: more of them find no more to do.
 MOST = 4
-# A crate is of the longest chain where so many seconds more would make it so. (By the plan 0 to 200 differ by two minutes in 25.)
-SLACK = 120
+# A crate is of the longest chain where so many seconds more would make it so, and has the same claim to processors where so many more would.
+SLACK, NEAR = 60, 200
 # How much less claim to processors the other crates have, as nice counts it, and the weight that Linux gives to that.
 BEHIND, WEIGHT = 10, 110 / 1024
-# How much faster a proof ends with so many processes, and how much more of processors it takes in all: so that the longest chain ends about when it did in a
-# build from nothing that was measured: exb_plan, control, network, schedule and net after 4.1, 7.7, 10.6, 15.3 and 18.3 minutes, divided as tools/seconds.txt says, where the
-# plan has 5.1, 7.6, 10.4, 14.4 and 16.7. That build took 25.6 in all by the same division, and the plan has 23.6.
-FASTER = {1: 1, 2: 1.3, 3: 1.6, 4: 1.8}
-DEARER = {1: 1, 2: 1.3, 3: 1.5, 4: 1.7}
+# How much faster a proof ends with so many processes, and how much more of processors it takes in all: by exb_model, network, schedule, net_run and run in a build
+# from nothing beside what they take with one. That build took 26.3 minutes, in an order for which the plan has 24.0.
+FASTER = {1: 1, 2: 1.25, 3: 1.45, 4: 1.6}
+DEARER = {1: 1, 2: 1.2, 3: 1.35, 4: 1.5}
 # What a proof takes of the memory that rt plans for it, at most (1.0 GB of 3.8 for exb_topology, 2.9 of 7.4 for exb_network), and for each further process.
 OF_PLAN, MORE = 0.5, 0.6
 NO_SCHEDULER = 3
@@ -86,32 +85,34 @@ def lines_of(folder):
 
 
 class Schedule:
-    """Which crates begin next. What runs is told by name: how many processes it has, and whether it is of the longest chain."""
+    """Which crates begin next. What runs is told by name: how many processes it has, and whether it is of the longest chain or near to it."""
 
-    def __init__(self, graph, processors, most=MOST, slack=SLACK):
-        self.graph, self.processors, self.most, self.slack = graph, processors, min(most, processors), slack
+    def __init__(self, graph, processors, most=MOST):
+        self.graph, self.processors, self.most = graph, processors, min(most, processors)
 
     def begin(self, ready, running, left):
-        """Of the crates that are ready those that begin now, each with its processes and whether it is of the longest chain. left: the seconds that
-        each crate still takes that isn't done."""
+        """Of the crates that are ready those that begin now, each with its processes and whether it is of the longest chain or near to it. left: the
+        seconds that each crate still takes that isn't done."""
         chain = {it: self.graph.chain[it] - self.graph.seconds[it] + much for it, much in left.items()}
-        is_first = {it: chain[it] >= max(chain.values()) - self.slack for it in [*ready, *running]}
-        firsts = sum(is_first.values())
+        longest = max(chain.values(), default=0)
+        firsts = sorted((it for it in [*ready, *running] if chain[it] >= longest - SLACK), key=lambda it: -chain[it])
+        others = sum(left.values()) - longest - sum(left[it] for it in firsts[1:])
         running, begun = dict(running), []
         for name in ready:
-            beside = sum(not of_chain for _, of_chain in running.values())
-            if is_first[name]:
-                jobs = max(1, self.most // firsts)
-            elif beside < self.processors:
-                jobs = self.idle_for(len(ready) - len(begun), running)
-            else:
+            beside = sum(not is_first for _, is_first in running.values())
+            is_near = chain[name] >= longest - NEAR
+            if not is_near and beside >= self.processors:
                 continue
-            running[name] = jobs, is_first[name]
+            jobs = self.idle_for(len(ready) - len(begun), running)
+            # More processes take more of processors in all, so they wait until the others can't keep these busy.
+            if name in firsts and others < longest:
+                jobs = max(jobs, self.most // len(firsts))
+            running[name] = jobs, is_near
             begun.append((name, *running[name]))
         return begun
 
     def idle_for(self, waiting, running):
-        """The processes of a crate beside the longest chain: one, or more where processors would idle."""
+        """The processes of a crate for which no processor has to leave another: one, or more where processors would idle."""
         idle = self.processors - sum(jobs for jobs, _ in running.values())
         return max(1, min(self.most, idle // waiting))
 

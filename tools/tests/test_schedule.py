@@ -48,9 +48,20 @@ class Order(unittest.TestCase):
         self.assertEqual(order.begin(["high", "beside", "other"], {}, left), [("high", 4, True), ("beside", 1, False), ("other", 1, False)])
         self.assertEqual(order.begin(["other"], {"high": (4, True), "beside": (1, False)}, left), [("other", 1, False)])
 
+    def test_the_longest_chain_has_one_while_others_keep_processors_busy(self):
+        it = graph("long 700:\n" + "".join(f"short{at} 100:\n" for at in range(8)))
+        begun = schedule.Schedule(it, 4).begin(it.ready(()), {}, it.seconds)
+        self.assertEqual([(jobs, is_first) for _, jobs, is_first in begun], [(1, True)] + 4 * [(1, False)])
+        left = {name: much for name, much in it.seconds.items() if name in ("long", "short0")}
+        self.assertEqual(schedule.Schedule(it, 4).begin(["long", "short0"], {}, left), [("long", 4, True), ("short0", 1, False)])
+
     def test_two_long_chains_share(self):
         it = graph("one 500:\ntwo 450:\nthree 10:\n")
         self.assertEqual(schedule.Schedule(it, 4).begin(["one", "two", "three"], {}, it.seconds), [("one", 2, True), ("two", 2, True), ("three", 1, False)])
+
+    def test_what_is_near_to_the_longest_chain_has_its_claim_and_one_process(self):
+        it = graph("long 900:\nnear 750:\nshort 10:\n")
+        self.assertEqual(schedule.Schedule(it, 4).begin(it.ready(()), {}, it.seconds), [("long", 4, True), ("near", 1, True), ("short", 1, False)])
 
     def test_no_more_beside_it_than_processors(self):
         it = graph("long 900:\n" + "".join(f"short{at} 5:\n" for at in range(9)))
@@ -72,7 +83,7 @@ class Expected(unittest.TestCase):
         self.assertAlmostEqual(self.minutes(WIDE, 1), 820)
 
     def test_processes_of_one_crate(self):
-        for processors, seconds in ((2, 100 / 1.3), (3, 100 / 1.6), (4, 100 / 1.8), (16, 100 / 1.8)):
+        for processors, seconds in ((2, 100 / 1.25), (3, 100 / 1.45), (4, 100 / 1.6), (16, 100 / 1.6)):
             self.assertAlmostEqual(self.minutes("one 100:\n", processors), seconds)
 
     def test_a_programs_compilers_use_one(self):
