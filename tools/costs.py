@@ -6,7 +6,8 @@
     tools/costs.py FILE [CRATE]     what was watched: the seconds of each crate, or of the functions of one
 
 What a check keeps is written when it is checked, so the time between two files is that of the second. It holds only for a
-check from nothing at one job; beside other work the seconds are longer. --watch looks every two seconds at the files of checks that
+check from nothing at one job; beside other work the seconds are longer. Of what took long the dearest part is named too: Lts is the code with
+all that it lets go of, Proof what is to be shown of it, with the search for what no answer says. --watch looks every two seconds at the files of checks that
 run, those of `rt ci`, which keeps nothing in a crate, and those of `rt check` and `rt lib`, and tells processor seconds.
 """
 import collections
@@ -17,9 +18,11 @@ import sys
 import tempfile
 import time
 
-PARTS = r"(\.(Lts|Tie|Proof|Code|Goals|Given|Key|Kinds|TheLaws|Met|Statement|Mir)\b.*)?(\.decls)?\.oantt$"
+PARTS = r"(\.(Lts|Tie|Proof|Code|Goals|Given|Key|Kinds|Layout|Named|Reads|Symbol|TheLaws|Met|Statement|Mir)\b.*)?(\.decls)?\.oantt$"
 RUNNING = os.path.join(tempfile.gettempdir(), "rattle-logic-built-locked-*")
 PAUSE = 2
+# The seconds from which the dearest part is named.
+LONG = 3
 
 
 def written(folder):
@@ -38,18 +41,27 @@ def item_of(name):
     return part.group(3) if part else name
 
 
+def part_of(name):
+    """Which part of its item a kept file is: Lts, Proof and so on."""
+    part = re.match(r"Rattle-\w+?-(proofs|specs)\.(contracts\.)?(.*?)" + PARTS, name)
+    return part.group(5) if part and part.group(5) else ""
+
+
 def took(files):
-    """The seconds of each item, by the files with their times in order."""
-    seconds = collections.Counter()
+    """The seconds of each item, and of each of its parts, by the files with their times in order."""
+    seconds, parts = collections.Counter(), collections.defaultdict(collections.Counter)
     for (before, _name), (after, name) in zip(files, files[1:]):
         seconds[item_of(name)] += after - before
-    return seconds
+        parts[item_of(name)][part_of(name)] += after - before
+    return seconds, parts
 
 
 def show(files):
     print(f"{files[-1][0] - files[0][0]:.0f} seconds in all")
-    for item, seconds in took(files).most_common(30):
-        print(f"{seconds:7.1f} {item}")
+    seconds, parts = took(files)
+    for item, much in seconds.most_common(30):
+        [(part, most)] = parts[item].most_common(1)
+        print(f"{much:7.1f} {item}" + (f" ({part} {most:.1f})" if part and much > LONG else ""))
 
 
 def processor(number):
