@@ -10,9 +10,9 @@ import unittest
 from scratch import Scratch, can_run
 
 # A toolchain that keeps what it proves, with a scheduler of its own that proves one crate after another. It tells in kit/calls what it proved,
-# with how many processes, and as which process.
+# with how many processes, and as which process. What another run proves just now it waits for.
 KEEPS = """#!/usr/bin/env python3
-import contextlib, os, sys, time
+import contextlib, fcntl, os, sys, time
 
 KIT = os.path.dirname(os.path.realpath(__file__))
 HELP = "rt ci [--anew]"
@@ -39,9 +39,15 @@ def in_lanes(tasks):
 
 
 def prove(name, below, anew, given, jobs):
-    kept = f"{KIT}/kept-{name}"
     if not all(given[it, "proof"] for it in below):
         return False
+    with open(f"{KIT}/lock-{name}", "w") as lock:
+        fcntl.flock(lock, fcntl.LOCK_EX)
+        return prove_in_turn(name, anew, jobs)
+
+
+def prove_in_turn(name, anew, jobs):
+    kept = f"{KIT}/kept-{name}"
     if os.path.exists(kept) and not anew:
         print(f"rt: {name} is kept: an earlier run proved the same", flush=True)
         return True
@@ -171,7 +177,7 @@ class AsItMustBe(Launched):
 
 
 class InOurOrder(Launched):
-    """A kit that keeps what it proves: its scheduler is replaced in a first run, and the second is its own and takes all."""
+    """A kit that keeps what it proves: its scheduler is replaced in a first run, and another is its own and takes all."""
 
     def wide(self, rt=KEEPS):
         if len(os.sched_getaffinity(0)) < 3:
@@ -184,6 +190,21 @@ class InOurOrder(Launched):
         it.write("kit/rt", rt)
         return it
 
+    def begun(self, word):
+        """A command of the repository that runs."""
+        it = self.it
+        env = {"PATH": f"{it.at('kit')}:{it.at('bin')}:/usr/bin:/bin", "HOME": it.top, "LC_ALL": "C.UTF-8"}
+        ran = subprocess.Popen([it.at(word)], env=env, stdin=subprocess.DEVNULL, stderr=subprocess.DEVNULL)
+        self.addCleanup(ran.kill)
+        return ran
+
+    def until(self, holds):
+        """Waits until it holds, at most half a minute."""
+        end = time.monotonic() + 30
+        while not holds():
+            self.assertLess(time.monotonic(), end)
+            time.sleep(0.05)
+
     def proved(self):
         """The crates that were proved, in order, with `own` where the toolchain's own scheduler ran."""
         lines = self.it.read("kit/calls").splitlines()
@@ -193,10 +214,21 @@ class InOurOrder(Launched):
         it = self.wide()
         self.says(["tools/build"], 0, "4 crates", "exb_low proved (1 of 4", "exb_high proved", "exb_beside proved", "exbr proved (4 of 4")
         found = self.proved()
-        self.assertEqual((found[0], sorted(found[1:3]), found[3:]), ("exb_low", ["exb_beside", "exb_high"], ["exbr", "own"]))
+        self.assertEqual((found[0], sorted(found[1:3]), sorted(found[3:])), ("exb_low", ["exb_beside", "exb_high"], ["exbr", "own"]))
         self.assertIn("exb_high proved", it.read("crates/exbr/out/build-first.log"))
         self.assertIn("exb_high is kept", it.read("crates/exbr/out/build.log"))
         self.assertEqual(it.run("exbr", "x", has_rt=False), (0, "x\n", ""))
+
+    def test_the_last_word_waits_for_the_program_alone(self):
+        it = self.wide()
+        it.write("kit/pause-exbr", "600")
+        ran = self.begun("tools/build")
+        self.until(lambda: it.calls() and "own" in self.proved())
+        self.assertEqual(sorted(self.proved()), ["exb_beside", "exb_high", "exb_low", "exbr", "own"])
+        self.assertFalse(os.path.exists(it.at("kit/kept-exbr")))
+        self.until(lambda: "exb_high is kept" in it.read("crates/exbr/out/build.log"))
+        ran.terminate()
+        self.assertEqual(ran.wait(30), 143)
 
     def test_the_longest_chain_has_more_processes(self):
         it = self.wide()
@@ -210,7 +242,7 @@ class InOurOrder(Launched):
         it.write("kit/kept-exb_low", "")
         it.write("kit/kept-exb_high", "")
         self.says(["tools/build"], 0, "exb_low kept (1 of 4", "exb_high kept", "exb_beside proved", "exbr proved (4 of 4")
-        self.assertEqual(self.proved(), ["exb_beside", "exbr", "own"])
+        self.assertEqual(sorted(self.proved()), ["exb_beside", "exbr", "own"])
 
     def in_one_run_of_our_order(self):
         found = self.proved()
@@ -252,12 +284,8 @@ class InOurOrder(Launched):
     def test_what_it_started_ends_with_it(self):
         it = self.wide()
         it.write("kit/pause-exb_low", "600")
-        env = {"PATH": f"{it.at('kit')}:{it.at('bin')}:/usr/bin:/bin", "HOME": it.top, "LC_ALL": "C.UTF-8"}
-        ran = subprocess.Popen([it.at("tools/build")], env=env, stdin=subprocess.DEVNULL, stderr=subprocess.DEVNULL)
-        self.addCleanup(ran.kill)
-        until = time.monotonic() + 30
-        while not it.calls() and time.monotonic() < until:
-            time.sleep(0.05)
+        ran = self.begun("tools/build")
+        self.until(it.calls)
         proof = int(it.read("kit/calls").split()[-1])
         ran.terminate()
         self.assertEqual(ran.wait(30), 143)
