@@ -13,11 +13,19 @@ use std::alloc::Global;
 use std::marker::Model;
 
 /// The bridge's end with each extender, by its number.
-#[derive(Drop)]
 pub struct Ends {
     ends: Vec<Ecp>,
     /// The extenders with which the end sends something.
     sending: u64,
+}
+
+impl Drop for Ends {
+    fn drop(self) {
+        let Ends {
+            ends: _,
+            sending: _,
+        } = self;
+    }
 }
 
 impl Model for Ends {

@@ -25,7 +25,6 @@ use std::alloc::Global;
 use std::marker::Model;
 
 /// The extenders by number.
-#[derive(Drop)]
 pub struct Extenders {
     /// How many ports each device has, 0 where there is none.
     ports: [u8; DEVICES as usize],
@@ -37,6 +36,18 @@ pub struct Extenders {
     /// How many beats, modulo 16, have passed at all that rest. They aren't counted in these yet: so a beat costs nothing
     /// at an extender that rests.
     passed: u8,
+}
+
+impl Drop for Extenders {
+    fn drop(self) {
+        let Extenders {
+            ports: _,
+            extenders: _,
+            sending: _,
+            waiting: _,
+            passed: _,
+        } = self;
+    }
 }
 
 impl Model for Extenders {

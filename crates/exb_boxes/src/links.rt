@@ -14,11 +14,16 @@ use std::alloc::Global;
 use std::marker::Model;
 
 /// One direction of all links, by the number of the extender below.
-#[derive(Drop)]
 pub struct Direction {
     links: Vec<Link>,
     /// The extenders on whose links a word is.
     busy: u64,
+}
+
+impl Drop for Direction {
+    fn drop(self) {
+        let Direction { links: _, busy: _ } = self;
+    }
 }
 
 impl Model for Direction {

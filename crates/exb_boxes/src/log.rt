@@ -26,7 +26,6 @@ pub struct Left {
 }
 
 /// What has happened since the last `clear`, in order.
-#[derive(Drop)]
 pub struct Log {
     /// What was told.
     pub events: List<Event>,
@@ -40,6 +39,19 @@ pub struct Log {
     pub tracing: bool,
     /// What the step that is being made has sent so far, as lines of the trace.
     pub outs: Vec<TraceLine>,
+}
+
+impl Drop for Log {
+    fn drop(self) {
+        let Log {
+            events: _,
+            passed: _,
+            left: _,
+            lines: _,
+            tracing: _,
+            outs: _,
+        } = self;
+    }
 }
 
 impl Log {
@@ -248,7 +260,6 @@ fn put_out(
 }
 
 /// What a step is lent for what goes out and what it tells: memory, buffers, and what has happened.
-#[derive(Drop)]
 pub struct Post {
     /// The memory that all of it comes from.
     pub alloc: Global,
@@ -256,4 +267,14 @@ pub struct Post {
     pub store: Store,
     /// What has happened.
     pub log: Log,
+}
+
+impl Drop for Post {
+    fn drop(self) {
+        let Post {
+            alloc: _,
+            store: _,
+            log: _,
+        } = self;
+    }
 }

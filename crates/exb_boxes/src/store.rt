@@ -10,10 +10,15 @@ use std::alloc::Global;
 const MOST: usize = 1024;
 
 /// Buffers and boxes of words that are gone. What they hold has no meaning.
-#[derive(Drop)]
 pub struct Store {
     kept: Vec<Vec<u8>>,
     boxes: Vec<BoxedWord>,
+}
+
+impl Drop for Store {
+    fn drop(self) {
+        let Store { kept: _, boxes: _ } = self;
+    }
 }
 
 impl Store {

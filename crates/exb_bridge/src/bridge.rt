@@ -17,7 +17,6 @@ use exb_model::setup::Setup;
 use std::alloc::Global;
 
 /// The controlling bridge, and the links down, onto which it puts what it sends.
-#[derive(Drop)]
 pub struct Bridge {
     /// The configuration in force, what is queued, and the change at work.
     pub control: Control,
@@ -27,6 +26,17 @@ pub struct Bridge {
     pub near: Ends,
     /// The words on their way down to each extender.
     pub down: Direction,
+}
+
+impl Drop for Bridge {
+    fn drop(self) {
+        let Bridge {
+            control: _,
+            learned: _,
+            near: _,
+            down: _,
+        } = self;
+    }
 }
 
 impl Bridge {

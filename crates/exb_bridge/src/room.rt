@@ -20,7 +20,6 @@ pub struct Buffers {
 }
 
 /// What is lent to every step: where calls write what they give, which each call replaces, and what has happened.
-#[derive(Drop)]
 pub struct Room {
     /// What a call of the control gives.
     pub outbox: Outbox,
@@ -32,6 +31,19 @@ pub struct Room {
     pub post: Post,
     /// Names the type of commands, for functions that make a step.
     pub commands: PhantomData<Command>,
+}
+
+impl Drop for Room {
+    fn drop(self) {
+        let Room {
+            outbox: _,
+            outgoing: _,
+            sends: _,
+            buffers: _,
+            post: _,
+            commands: _,
+        } = self;
+    }
 }
 
 impl Room {

@@ -17,7 +17,6 @@ use std::alloc::Global;
 use std::marker::Model;
 
 /// What never changes: the tree, and how many E-channels and groups the space of a bridge port has.
-#[derive(Drop)]
 pub struct Site {
     tree: Tree,
     channels: u16,
@@ -33,6 +32,22 @@ pub struct Site {
     /// By extender its place among those from the deepest, and among those by depth; 64 where there is none.
     upward_places: [u8; DEVICES as usize],
     downward_places: [u8; DEVICES as usize],
+}
+
+impl Drop for Site {
+    fn drop(self) {
+        let Site {
+            tree: _,
+            channels: _,
+            groups: _,
+            ports: _,
+            on: _,
+            upwards: _,
+            extenders: _,
+            upward_places: _,
+            downward_places: _,
+        } = self;
+    }
 }
 
 impl Model for Site {

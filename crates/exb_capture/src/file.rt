@@ -39,7 +39,6 @@ impl From<ShelfFault> for Halt {
 
 /// A capture on a shelf that is read in pieces, at most up to a limit. It keeps no more of the file than the
 /// buffer of its reader.
-#[derive(Drop)]
 pub struct CaptureFile {
     id: u32,
     pub(crate) reader: Reader<Capture>,
@@ -51,6 +50,19 @@ pub struct CaptureFile {
     limit: u64,
     /// Whether the shelf told the file's end.
     ended: bool,
+}
+
+impl Drop for CaptureFile {
+    fn drop(self) {
+        let CaptureFile {
+            id: _,
+            reader: _,
+            next: _,
+            got: _,
+            limit: _,
+            ended: _,
+        } = self;
+    }
 }
 
 impl CaptureFile {

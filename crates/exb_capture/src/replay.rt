@@ -35,7 +35,6 @@ fn comes_early(told: Option<u64>, time: u64) -> bool
 
 /// A capture on a shelf that was checked and is read again in pieces, with one buffer. One byte more than
 /// was told is read, so that a longer file shows.
-#[derive(Drop)]
 pub struct Replay {
     file: CaptureFile,
     told: Scanned,
@@ -43,6 +42,17 @@ pub struct Replay {
     least: u64,
     /// Whether no record was given.
     fresh: bool,
+}
+
+impl Drop for Replay {
+    fn drop(self) {
+        let Replay {
+            file: _,
+            told: _,
+            least: _,
+            fresh: _,
+        } = self;
+    }
 }
 
 impl Replay {

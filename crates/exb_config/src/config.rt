@@ -33,12 +33,22 @@ fn names_vlan(command: &Command)
 }
 
 /// The configuration of the bridge.
-#[derive(Drop)]
 pub struct Config {
     present: PortSet,
     vlans: VlanTable,
     rules: PortRules,
     statics: StaticEntries,
+}
+
+impl Drop for Config {
+    fn drop(self) {
+        let Config {
+            present: _,
+            vlans: _,
+            rules: _,
+            statics: _,
+        } = self;
+    }
 }
 
 impl Model for Config {

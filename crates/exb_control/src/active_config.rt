@@ -32,7 +32,6 @@ use std::rc::Rc;
 
 /// The controlling bridge's configuration, the channels and groups that it holds for its extenders, and the
 /// change at work, if there is one.
-#[derive(Drop)]
 pub struct ActiveConfig {
     alloc: Global,
     /// Copies share it.
@@ -47,6 +46,21 @@ pub struct ActiveConfig {
     /// How often the set of each group is a part of the configuration at the end of the change at work.
     uses: GroupUses,
     stage: Stage,
+}
+
+impl Drop for ActiveConfig {
+    fn drop(self) {
+        let ActiveConfig {
+            alloc: _,
+            tree: _,
+            channels: _,
+            groups: _,
+            config: _,
+            spaces: _,
+            uses: _,
+            stage: _,
+        } = self;
+    }
 }
 
 impl Model for ActiveConfig {

@@ -36,13 +36,24 @@ pub enum ControlFault {
 
 /// The controlling bridge's control. A call in which memory runs out leaves it failed, with the tree and the limits that it
 /// had; each later call that can answer so then says that it has failed, and changes nothing.
-#[derive(Drop)]
 pub struct Control {
     core: Core,
     queue: Queue<Job>,
     heard: Heard,
     given: u32,
     failed: bool,
+}
+
+impl Drop for Control {
+    fn drop(self) {
+        let Control {
+            core: _,
+            queue: _,
+            heard: _,
+            given: _,
+            failed: _,
+        } = self;
+    }
 }
 
 impl Model for Control {

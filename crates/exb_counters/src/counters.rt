@@ -30,10 +30,15 @@ pub struct Counts5 {
 }
 
 /// Counts by port.
-#[derive(Drop)]
 pub struct Counters {
     /// By the number of the port, up to the last external one.
     counts: Vec<Counts5>,
+}
+
+impl Drop for Counters {
+    fn drop(self) {
+        let Counters { counts: _ } = self;
+    }
 }
 
 fn with_relay(counts: Counts5, passed: bool) -> Counts5

@@ -19,10 +19,18 @@ use std::marker::Model;
 /// A port extender of 1 to 64 ports. It forwards frames by its tables, which the controlling bridge sets by
 /// requests; it acknowledges and answers these, sends an answer again until it is acknowledged, and
 /// announces itself until it is opened.
-#[derive(Drop)]
 pub struct Extender {
     tables: Tables,
     control: Control,
+}
+
+impl Drop for Extender {
+    fn drop(self) {
+        let Extender {
+            tables: _,
+            control: _,
+        } = self;
+    }
 }
 
 impl Model for Extender {

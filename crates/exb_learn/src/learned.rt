@@ -17,11 +17,20 @@ use std::alloc::Global;
 use std::marker::Model;
 
 /// Where each address was seen last in each VLAN, with a clock in seconds. It holds live entries alone.
-#[derive(Drop)]
 pub struct Learned {
     store: Store,
     clock: u64,
     ageing: u32,
+}
+
+impl Drop for Learned {
+    fn drop(self) {
+        let Learned {
+            store: _,
+            clock: _,
+            ageing: _,
+        } = self;
+    }
 }
 
 impl Model for Learned {

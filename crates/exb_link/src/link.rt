@@ -32,12 +32,21 @@ pub struct Sent {
 
 /// One direction of a link, seen as the list of its words in order of sending. Positions count its control
 /// words in that order, from 0.
-#[derive(Drop)]
 pub struct Link {
     frames: VecDeque<Sent>,
     control: VecDeque<BoxedWord>,
     /// How many control words stand before the first data word.
     ahead: u64,
+}
+
+impl Drop for Link {
+    fn drop(self) {
+        let Link {
+            frames: _,
+            control: _,
+            ahead: _,
+        } = self;
+    }
 }
 
 impl Model for Link {

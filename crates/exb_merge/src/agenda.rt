@@ -41,11 +41,16 @@ pub(crate) struct Seat<'a> {
 }
 
 /// The programmes of all bridges of a net.
-#[derive(Drop)]
 pub struct Agenda<'a> {
     seats: Vec<Seat<'a>>,
     /// The turn of each bridge of which something is left.
     turns: Turns,
+}
+
+impl Drop for Agenda<'_> {
+    fn drop(self) {
+        let Agenda { seats: _, turns: _ } = self;
+    }
 }
 
 impl Seat<'_> {

@@ -88,7 +88,6 @@ impl Next {
 }
 
 /// What is still to be played: the commands of a topology, and captures that are read again.
-#[derive(Drop)]
 pub struct Programme<'a> {
     /// The least whole second of any first record that was told, or 0.
     start: u64,
@@ -96,6 +95,17 @@ pub struct Programme<'a> {
     /// How many of the commands were taken.
     taken: usize,
     captures: Replays,
+}
+
+impl Drop for Programme<'_> {
+    fn drop(self) {
+        let Programme {
+            start: _,
+            commands: _,
+            taken: _,
+            captures: _,
+        } = self;
+    }
 }
 
 impl<'a> Programme<'a> {

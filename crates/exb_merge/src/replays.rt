@@ -47,11 +47,19 @@ pub(crate) struct Again {
 }
 
 /// The captures of some ports as they are read again and played, each with one buffer.
-#[derive(Drop)]
 pub struct Replays {
     sources: Vec<Again>,
     /// The turn of each capture that isn't at its end.
     turns: Turns,
+}
+
+impl Drop for Replays {
+    fn drop(self) {
+        let Replays {
+            sources: _,
+            turns: _,
+        } = self;
+    }
 }
 
 impl Replays {

@@ -16,7 +16,6 @@ const MOMENT: u128 = 0x1_0000_0000_0000_0000;
 ///
 /// They are a tournament of racers, one of each place that was added with a turn: what never has one costs no round. Of its
 /// nodes each but a leaf, at n, has two below it, at 2n and 2n + 1, and the root is at 1; each racer has a leaf.
-#[derive(Drop)]
 pub struct Turns {
     /// The moment of each racer, or `NEVER`.
     moments: Vec<u64>,
@@ -28,6 +27,18 @@ pub struct Turns {
     places: Vec<usize>,
     /// The racer of each place; of no meaning where the place was added without a turn.
     racers: Vec<usize>,
+}
+
+impl Drop for Turns {
+    fn drop(self) {
+        let Turns {
+            moments: _,
+            leaves: _,
+            firsts: _,
+            places: _,
+            racers: _,
+        } = self;
+    }
 }
 
 /// Which of two racers has its turn first: by moment, and at the same moment the lower one.

@@ -139,7 +139,6 @@ fn are_start(commands: &[Command], external: &PortSet) -> bool
 }
 
 /// The bridge, its tree of extenders, and the configuration to start with.
-#[derive(Drop)]
 pub struct Setup {
     /// Local ports of the bridge, 1 to 64.
     pub ports: u8,
@@ -153,6 +152,19 @@ pub struct Setup {
     pub ageing: u32,
     /// Commands that are applied to an empty configuration before anything happens.
     pub start: List<Command>,
+}
+
+impl Drop for Setup {
+    fn drop(self) {
+        let Setup {
+            ports: _,
+            extenders: _,
+            channels: _,
+            groups: _,
+            ageing: _,
+            start: _,
+        } = self;
+    }
 }
 
 impl Setup {

@@ -18,7 +18,6 @@ use std::marker::Model;
 
 /// The tree of a setup: which ports there are, where each extender hangs, and what lies above a port. What
 /// is asked for each frame is looked up in a table.
-#[derive(Drop)]
 pub struct Tree {
     /// How many ports a device has, and where an extender hangs.
     layout: Layout,
@@ -32,6 +31,19 @@ pub struct Tree {
     order: Vec<u8>,
     /// The extender that hangs on a port, 0 for none.
     below: Vec<u8>,
+}
+
+impl Drop for Tree {
+    fn drop(self) {
+        let Tree {
+            layout: _,
+            tops: _,
+            known: _,
+            external: _,
+            order: _,
+            below: _,
+        } = self;
+    }
 }
 
 impl Model for Tree {

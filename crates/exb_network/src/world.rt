@@ -42,12 +42,22 @@ pub enum WorldFault {
 }
 
 /// The controlling bridge with all extenders and links, and what has happened since the last `clear`.
-#[derive(Drop)]
 pub struct World {
     site: Site,
     core: Core,
     room: Room,
     failed: bool,
+}
+
+impl Drop for World {
+    fn drop(self) {
+        let World {
+            site: _,
+            core: _,
+            room: _,
+            failed: _,
+        } = self;
+    }
 }
 
 impl Model for World {

@@ -18,7 +18,6 @@ const BRIDGE_PORTS: u8 = 64;
 
 /// The channels and groups of each cascade port of the bridge, each in a space of its own. In contracts
 /// bridge port k is place k - 1.
-#[derive(Drop)]
 pub struct Spaces {
     /// Whether a bridge port has a space.
     cascades: Vec<bool>,
@@ -26,6 +25,16 @@ pub struct Spaces {
     channels: Vec<Channels>,
     /// The groups likewise.
     groups: Vec<Groups>,
+}
+
+impl Drop for Spaces {
+    fn drop(self) {
+        let Spaces {
+            cascades: _,
+            channels: _,
+            groups: _,
+        } = self;
+    }
 }
 
 impl Model for Spaces {

@@ -29,7 +29,6 @@ struct Places {
 
 /// What a run writes: the capture of each external port of a tree in port order, and then the other kinds that are asked for, in
 /// their order.
-#[derive(Drop)]
 pub struct Manifest {
     tree: Tree,
     places: Places,
@@ -37,6 +36,17 @@ pub struct Manifest {
     prefix: Text,
     /// What is asked for, and the kinds behind the captures.
     kinds: Kinds,
+}
+
+impl Drop for Manifest {
+    fn drop(self) {
+        let Manifest {
+            tree: _,
+            places: _,
+            prefix: _,
+            kinds: _,
+        } = self;
+    }
 }
 
 impl Model for Manifest {

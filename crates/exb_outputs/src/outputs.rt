@@ -44,9 +44,14 @@ struct Unfinished {
 }
 
 /// The outputs in the order in which they are made.
-#[derive(Drop)]
 pub struct Outputs {
     files: Vec<Unfinished>,
+}
+
+impl Drop for Outputs {
+    fn drop(self) {
+        let Outputs { files: _ } = self;
+    }
 }
 
 /// The name of output `at`.

@@ -139,10 +139,15 @@ impl SpaceUses {
 
 /// How often the set of each group is a part of a configuration. In contracts bridge port k is place k - 1,
 /// and group 4,096 + i its place i.
-#[derive(Drop)]
 pub struct GroupUses {
     /// The groups of each bridge port; one that is no cascade port has none.
     rows: Vec<SpaceUses>,
+}
+
+impl Drop for GroupUses {
+    fn drop(self) {
+        let GroupUses { rows: _ } = self;
+    }
 }
 
 impl Model for GroupUses {

@@ -30,12 +30,21 @@ use std::alloc::Global;
 use std::marker::{Model, PhantomData};
 
 /// A network that a valid setup began, and that steps moved since.
-#[derive(Drop)]
 pub struct World {
     network: Network,
     pub(crate) alloc: Global,
     /// Names the types of a step, for functions that make one.
     steps: PhantomData<Step<'static>>,
+}
+
+impl Drop for World {
+    fn drop(self) {
+        let World {
+            network: _,
+            alloc: _,
+            steps: _,
+        } = self;
+    }
 }
 
 impl Model for World {

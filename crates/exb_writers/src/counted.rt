@@ -14,12 +14,17 @@ use exb_text::Tally;
 use std::alloc::Global;
 
 /// What is counted of a run.
-#[derive(Drop)]
 pub struct Counted {
     /// For its summary.
     pub tally: Tally,
     /// By port, where counters are asked for.
     pub ports: Option<Counters>,
+}
+
+impl Drop for Counted {
+    fn drop(self) {
+        let Counted { tally: _, ports: _ } = self;
+    }
 }
 
 /// Counts events.

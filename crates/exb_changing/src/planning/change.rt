@@ -12,7 +12,6 @@ pub struct Number {
 }
 
 /// How the extenders follow a change of the configuration.
-#[derive(Drop)]
 pub struct Change {
     /// What is asked before the change is committed, in order.
     pub prepare: List<AskAt>,
@@ -22,6 +21,17 @@ pub struct Change {
     pub channels: List<Number>,
     /// The groups to free then.
     pub groups: List<Number>,
+}
+
+impl Drop for Change {
+    fn drop(self) {
+        let Change {
+            prepare: _,
+            cleanup: _,
+            channels: _,
+            groups: _,
+        } = self;
+    }
 }
 
 /// Whether a change is made.
