@@ -10,7 +10,7 @@ use lib.Count.{ones_step}
 use Rattle.exb_csp.specs.AllTables.{port_of}
 use Rattle.exb_csp.specs.Execute.{in_mask}
 use Rattle.exb_csp.proofs.Executing.{mask_empty, and_true}
-use Rattle.exb_csp.proofs.PlainLemmas.{without}
+use Rattle.exb_csp.proofs.Loops.{without}
 use Rattle.exb_extender.proofs.ForwardingLemmas.{IsLowest, lowest, cleared_lower, flat_map-agree, flat_map-first, flat_map-none}
 use Rattle.exb_extender.proofs.TableLemmas.{in_mask-without}
 use Rattle.exb_boxes.specs.Rows.{Row, ports_in, HasNoneFrom, HasSome}

@@ -3,6 +3,6 @@ pub mod Lengths
 pub mod Again
 pub mod Executing
 pub mod Spelled
-pub mod PlainLemmas
+pub mod Loops
 pub mod AllLemmas
 pub mod Sessions

@@ -5,5 +5,5 @@ pub mod Execute
 pub mod Laws
 pub mod AllTables
 pub mod AllLaws
-pub mod Plain
+pub mod Words
 pub mod Sessions

@@ -3,7 +3,7 @@
 //!
 //! Messages: what the bridge asks, what an extender answers, and the bytes of both. `read` and `write` are exact in both
 //! directions. What executing a request does to an extender's tables, alone and among all extenders, is defined here for
-//! everyone above, with its laws in `laws` and a plain program of it in `plain`, whose constructor alone takes memory.
+//! everyone above, with its laws in `laws`; `exb_wire_tests` has a plain program of it.
 //!
 //! Sessions (`session`, `specs/Sessions`): the bridge's end asks one request at a time and takes its answer; the extender's
 //! end executes each request once and answers it again where it comes again. Both are exact pure machines, and over every
@@ -20,7 +20,7 @@ mod form;
 mod group_rows;
 pub mod laws;
 mod message;
-pub mod plain;
+mod ranges;
 mod reading;
 mod session;
 mod writing;
@@ -30,6 +30,7 @@ pub use ecids::Ecids;
 pub use fault::CspFault;
 pub use group_rows::{GroupRow, GroupRows};
 pub use message::{Body, Message, Request, RequestKind, Response};
+pub use ranges::{is_channel, is_ecid};
 pub use reading::read;
 pub use session::{Answerer, Asker, Due, Taken};
 pub use writing::write;

@@ -14,7 +14,7 @@ use Rattle.exb_model.specs.ETags.{Tag, has_etag, read_etag, stripped}
 use Rattle.exb_model.specs.ExtenderForwarding.{emits, emits_tagged, left_out, bare}
 use Rattle.exb_csp.specs.Execute.{ExtenderTables, in_mask}
 use Rattle.exb_csp.proofs.Executing.{mask_empty, and_true}
-use Rattle.exb_csp.proofs.PlainLemmas.{without}
+use Rattle.exb_csp.proofs.Loops.{without}
 use Rattle.exb_extender.specs.declared.sends.Form.TheVariants.{AsIs, Stripped}
 use Rattle.exb_extender.specs.declared.sends.Out.{Out}
 use Rattle.exb_extender.specs.declared.sends.Side.TheVariants.{Up, Port}

@@ -19,7 +19,7 @@ use Rattle.exb_model.specs.Frames.{IsBytes}
 use Rattle.exb_csp.specs.Spelling.{message_bytes}
 use Rattle.exb_csp.specs.Reading.{read_message}
 use Rattle.exb_csp.specs.Execute.{ExtenderTables, create_code, code_of, done, executed}
-use Rattle.exb_csp.specs.Plain.{powered_on}
+use Rattle.exb_csp.specs.Words.{powered_on}
 use Rattle.exb_csp.specs.declared.session.answerer.Due.{Due as Turn}
 use Rattle.exb_csp.specs.declared.session.answerer.Due.TheVariants.{Execute, Again, Ignore}
 use Rattle.exb_csp.specs.Sessions.Answering.{arrived, stored_message}

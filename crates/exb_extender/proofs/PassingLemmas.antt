@@ -6,7 +6,7 @@ use Rattle.std.proofs.lemmas.Bool.{and_parts, cases_Bool, false≢true}
 use Rattle.exb_model.specs.Frames.{is_control_frame, number_at}
 use Rattle.exb_model.specs.ETags.{Tag, has_etag, read_etag}
 use Rattle.exb_csp.specs.Execute.{ExtenderTables, in_mask}
-use Rattle.exb_csp.proofs.PlainLemmas.{without}
+use Rattle.exb_csp.proofs.Loops.{without}
 use Rattle.exb_extender.specs.declared.sends.Form.{Form}
 use Rattle.exb_extender.specs.declared.sends.Form.TheVariants.{AsIs}
 use Rattle.exb_extender.specs.declared.sends.Out.{Out}

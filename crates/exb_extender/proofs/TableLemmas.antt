@@ -11,9 +11,9 @@ use Rattle.exb_csp.specs.declared.message.RequestKind.{RequestKind}
 use Rattle.exb_csp.specs.declared.message.Response.{Response}
 use Rattle.exb_csp.specs.Kinds.{kind_of}
 use Rattle.exb_csp.specs.Execute.{ExtenderTables, answered_ports, response_to, in_mask, has_stray, create_code, row_code, rows_code, clear_code, clears_code, in_rows, is_listed, code_of, done, executed}
-use Rattle.exb_csp.specs.Plain.{AddsRows, ClearsRows, ClearsPair, powered_on}
+use Rattle.exb_csp.specs.Words.{AddsRows, ClearsRows, ClearsPair, powered_on}
 use Rattle.exb_csp.proofs.Executing.{or_false, and_true, or_assoc, both_out, mask_empty, some_port-true, some_port-false, executed_done, executed_refused}
-use Rattle.exb_csp.proofs.PlainLemmas.{no_row, in_mask-or, in_rows-next, is_listed-next, one_row, without}
+use Rattle.exb_csp.proofs.Loops.{no_row, in_mask-or, in_rows-next, is_listed-next, one_row, without}
 use Rattle.exb_model.proofs.Words.{get_or-same}
 use Rattle.exb_extender.specs.Kept.{IsKept}
 use Rattle.exb_extender.specs.Rows.{tables_in}

@@ -17,7 +17,7 @@ use Rattle.exb_csp.specs.declared.message.Request.TheVariants.{Open}
 use Rattle.exb_csp.specs.Reading.{read_message}
 use Rattle.exb_csp.specs.Spelling.{message_bytes, HasSpelling}
 use Rattle.exb_csp.specs.Execute.{ExtenderTables, executed, response_to}
-use Rattle.exb_csp.specs.Plain.{powered_on}
+use Rattle.exb_csp.specs.Words.{powered_on}
 use Rattle.exb_csp.specs.declared.session.answerer.Due.{Due as Turn}
 use Rattle.exb_csp.specs.declared.session.answerer.Due.TheVariants.{Execute, Again, Ignore}
 use Rattle.exb_csp.specs.Sessions.Answering.{AnswererState, fresh, is_owing, arrived, stored, stored_message}

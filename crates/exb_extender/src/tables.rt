@@ -3,12 +3,11 @@ ghost use Rattle.std.specs.Prelude.{◌≡◌, ℕ, ◌<◌, ◌≤◌, ◌==◌
 ghost use Rattle.std.specs.List.{list_all};
 ghost use Rattle.exb_extender.specs.MemberSets.{row_of};
 ghost use Rattle.exb_csp.specs.Execute.{is_ecid, in_mask, some_port, has_stray, has_pair, is_named, create_code, row_code, rows_code, code_of, answered_ports, executed, response_to};
-ghost use Rattle.exb_csp.specs.Plain.{AddsRows, ClearsRows, ClearsPair, powered_on};
+ghost use Rattle.exb_csp.specs.Words.{AddsRows, ClearsRows, ClearsPair, powered_on};
 ghost use Rattle.exb_extender.specs.Kept.{IsKept};
 
 use crate::members::MemberSets;
-use exb_csp::plain::{is_channel, is_ecid};
-use exb_csp::{GroupRow, Request, Response};
+use exb_csp::{GroupRow, Request, Response, is_channel, is_ecid};
 use exb_model::memory::NoMemory;
 use std::alloc::Global;
 

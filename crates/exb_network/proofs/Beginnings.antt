@@ -4,7 +4,7 @@ use Rattle.std.specs.Prelude.{slice_index}
 use Rattle.exb_model.specs.declared.setup.Setup.{Setup}
 use Rattle.exb_model.specs.Setup.{shape_of, start_of, limits_of}
 use Rattle.exb_model.specs.Tree.{Shape, is_extender}
-use Rattle.exb_csp.specs.Plain.{powered_on}
+use Rattle.exb_csp.specs.Words.{powered_on}
 use Rattle.exb_ecp.specs.Machine.{State as Ecp, new_state}
 use Rattle.exb_extender.specs.Machine.{ExtenderState, at_power_on}
 use Rattle.exb_link.specs.declared.word.Word.{Word}

@@ -7,7 +7,7 @@ use Rattle.exb_csp.specs.declared.message.Request.{Request}
 use Rattle.exb_ecp.specs.Machine.{Sending, after, new_state}
 use Rattle.exb_csp.specs.Sessions.Asking.{begun}
 use Rattle.exb_extender.specs.Machine.{at_power_on}
-use Rattle.exb_csp.specs.Plain.{powered_on}
+use Rattle.exb_csp.specs.Words.{powered_on}
 use Rattle.exb_changing.specs.Runs.Planned.{IsSetting}
 use Rattle.exb_machine.specs.Worlds.{World, Step, Beat}
 use Rattle.exb_machine.specs.Settling.{run}

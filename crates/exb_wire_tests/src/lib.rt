@@ -18,6 +18,8 @@ mod links;
 #[cfg(test)]
 mod messages;
 #[cfg(test)]
+mod plain;
+#[cfg(test)]
 mod sessions;
 #[cfg(test)]
 mod tables;

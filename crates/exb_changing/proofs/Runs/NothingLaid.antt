@@ -5,7 +5,7 @@ use Rattle.std.proofs.lemmas.Bool.{and_left, and_right, or_from, false≢true}
 use Rattle.exb_model.specs.Tree.{Shape, IsTree, device, trunk, is_port, is_cascade, is_cascade_under}
 use Rattle.exb_model.specs.Configuration.{Bridge}
 use Rattle.exb_model.specs.ExtenderForwarding.{Tables}
-use Rattle.exb_csp.specs.Plain.{powered_on}
+use Rattle.exb_csp.specs.Words.{powered_on}
 use Rattle.exb_changing.proofs.Plans.Ways.{from_cascade}
 use Rattle.exb_changing.specs.Plans.Held.{Held, channel_in, or_zero}
 use Rattle.exb_changing.specs.Plans.Laws.{IsBeginning}

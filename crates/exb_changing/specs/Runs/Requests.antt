@@ -3,7 +3,7 @@ use Rattle.std.specs.Prelude.{◌≡◌, ℕ, ◌≤◌, ◌<◌, ◌==◌, ◌|
 use Rattle.exb_model.specs.Tree.{Shape, IsTree, device, on, is_cascade, is_extender, is_extended}
 use Rattle.exb_model.specs.Setup.{Limits}
 use Rattle.exb_model.specs.Configuration.{Bridge}
-use Rattle.exb_csp.specs.Plain.{powered_on}
+use Rattle.exb_csp.specs.Words.{powered_on}
 use Rattle.exb_changing.specs.Plans.Laying.{IsLaid, IsFree}
 use Rattle.exb_csp.specs.AllTables.{tables_at, RunsAt}
 use Rattle.exb_model.specs.Lists.{is_listed}

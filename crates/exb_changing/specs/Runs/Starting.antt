@@ -4,7 +4,7 @@ use Rattle.exb_model.specs.Tree.{Shape}
 use Rattle.exb_model.specs.Setup.{Limits}
 use Rattle.exb_model.specs.Configuration.{Bridge}
 use Rattle.exb_csp.specs.Execute.{ExtenderTables}
-use Rattle.exb_csp.specs.Plain.{powered_on}
+use Rattle.exb_csp.specs.Words.{powered_on}
 use Rattle.exb_changing.specs.Beginning.{first_state}
 use Rattle.exb_changing.specs.Runs.Systems.{System}
 

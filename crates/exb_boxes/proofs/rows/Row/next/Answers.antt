@@ -1,6 +1,6 @@
 use Rattle.std.proofs.Common.{ℕ, ◌^◌, ◌<◌, ◌∷◌, rules, ap, sym, subst, ◌∙◌}
 use Rattle.std.specs.Int.{trailing_zeros, w64}
-use Rattle.exb_csp.proofs.PlainLemmas.{without}
+use Rattle.exb_csp.proofs.Loops.{without}
 use Rattle.exb_boxes.specs.Rows.{Row, ports_in}
 use Rattle.exb_boxes.proofs.RowPorts.{fewer, row_empty, row_first}
 use Rattle.exb_boxes.proofs.rows.Row.next.Goals as goal

@@ -1,6 +1,6 @@
 use Rattle.std.proofs.Common.{◌≡◌, ℕ, ap, ◌∙◌, refl}
 use Rattle.exb_csp.specs.Execute.{ExtenderTables}
-use Rattle.exb_csp.specs.Plain.{powered_on}
+use Rattle.exb_csp.specs.Words.{powered_on}
 use Rattle.exb_extender.specs.Control.{state_with}
 use Rattle.exb_extender.proofs.extender.Extender.new.Goals as goal
 

@@ -1,5 +1,5 @@
 use Rattle.std.proofs.Common.{sym, ◌∙◌}
-use Rattle.exb_csp.proofs.PlainLemmas.{all_rows_small}
+use Rattle.exb_csp.proofs.Loops.{all_rows_small}
 use Rattle.exb_extender.specs.Tables.{tables_of}
 use Rattle.exb_extender.proofs.TableLemmas.{rows_code_is, registered, register_refused}
 use Rattle.exb_extender.proofs.tables.Tables.register_many.Goals as goal

@@ -1,5 +1,5 @@
 use Rattle.std.proofs.Common.{sym, ◌∙◌}
-use Rattle.exb_csp.proofs.PlainLemmas.{code_stray, code_taken, code_none}
+use Rattle.exb_csp.proofs.Loops.{code_stray, code_taken, code_none}
 use Rattle.exb_extender.specs.Tables.{tables_of}
 use Rattle.exb_extender.proofs.tables.Tables.row_code.Goals as goal
 

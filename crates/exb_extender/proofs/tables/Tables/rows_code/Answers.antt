@@ -1,5 +1,5 @@
 use Rattle.std.proofs.Common.{length-drop, arith}
-use Rattle.exb_csp.proofs.PlainLemmas.{rows_stop, rows_next, rows_none}
+use Rattle.exb_csp.proofs.Loops.{rows_stop, rows_next, rows_none}
 use Rattle.exb_extender.specs.Tables.{tables_of}
 use Rattle.exb_extender.proofs.tables.Tables.rows_code.Goals as goal
 

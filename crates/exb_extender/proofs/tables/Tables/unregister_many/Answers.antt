@@ -1,5 +1,5 @@
 use Rattle.std.proofs.Common.{sym, ◌∙◌}
-use Rattle.exb_csp.proofs.PlainLemmas.{all_ecids_small, clears_good, clears_bad}
+use Rattle.exb_csp.proofs.Loops.{all_ecids_small, clears_good, clears_bad}
 use Rattle.exb_extender.proofs.TableLemmas.{clears_code_is, unregistered, unregister_refused}
 use Rattle.exb_extender.proofs.tables.Tables.unregister_many.Goals as goal
 
