@@ -16,7 +16,7 @@ pub struct GroupRow {
 }
 
 /// At most 64 rows, in order. Contracts see them as a list.
-#[derive(Debug, Drop)]
+#[derive(Drop)]
 pub struct GroupRows {
     rows: ArrayVec<GroupRow, 64>,
 }

@@ -8,7 +8,7 @@ use crate::group_rows::GroupRows;
 
 /// What the controlling bridge asks of an extender. Ports are counted from 1, and bit k - 1 of a mask
 /// is port k. A request may hold any numbers: the extender decides on them, and answers a code.
-#[derive(Debug, Drop)]
+#[derive(Drop)]
 pub enum Request {
     /// Begins the session: announcements stop.
     Open,
@@ -66,7 +66,7 @@ pub struct Response {
 }
 
 /// What a message carries.
-#[derive(Debug, Drop)]
+#[derive(Drop)]
 pub enum Body {
     /// What the bridge asks.
     Ask(Request),
@@ -75,7 +75,7 @@ pub enum Body {
 }
 
 /// A message of the control protocol.
-#[derive(Debug, Drop)]
+#[derive(Drop)]
 pub struct Message {
     /// Serials count a session's requests from 1; an answer has its request's.
     pub serial: u64,

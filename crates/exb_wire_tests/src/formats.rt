@@ -1,5 +1,5 @@
 //! What bytes are read as.
-use crate::messages::read_and_write;
+use crate::messages::expect_message;
 use crate::words::{bytes_of, expect, expect_read, row_of};
 use exb_frame::classify::classify;
 use exb_frame::etag::ETag;
@@ -21,7 +21,7 @@ fn expect_in(rt: &impl Abort, alloc: Global, format: Format, bytes: &[u8], wante
     match format {
         Format::Announcement => expect_read(rt, alloc, &exb_lldp::read(bytes), wanted, of),
         Format::Ecp => expect_read(rt, alloc, &exb_ecp::read(bytes), wanted, of),
-        Format::Message => expect_read(rt, alloc, &read_and_write(rt, bytes), wanted, of),
+        Format::Message => expect_message(rt, alloc, bytes, wanted, of),
         Format::ETag => expect(rt, alloc, &ETag::read(bytes), wanted, of),
         Format::Frame => expect(rt, alloc, &classify(bytes), wanted, of),
     }

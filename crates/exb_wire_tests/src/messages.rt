@@ -1,7 +1,7 @@
 //! Messages of the control protocol: what bytes say, or their first fault. What is read is written again as it was.
 use crate::formats::{Format, judge};
-use crate::words::{bytes_of, expect, row_of};
-use exb_csp::{CspFault, Message, read, write};
+use crate::words::{bytes_of, expect, row_of, same, told};
+use exb_csp::{Body, CspFault, Message, Request, read, write};
 use exb_model::buffers::ControlBuf;
 use std::alloc::Global;
 use std::process::Abort;
@@ -17,15 +17,52 @@ pub(crate) fn read_and_write(rt: &impl Abort, bytes: &[u8]) -> Result<Message, C
     read
 }
 
-const CASES: &str = "01 0000000000000001 0000>Message { serial: 1, body: Ask(Open) }\n\
-     81 0000000000000001 0002 0002>Message { serial: 1, body: Answer(Response { to: Open, code: 0, ports: 2 }) }\n\
-     06 0000000000000009 0014 1000 0000000000000002 1003 0000000000000004>Message { serial: 9, body: Ask(RegisterMany { rows: GroupRows { rows: [GroupRow { ecid: 4096, mask: 2 }, GroupRow { ecid: 4099, mask: 4 }] } }) }\n\
-     07 000000000000000A 0004 1001 1002>Message { serial: 10, body: Ask(UnregisterMany { ecids: Ecids { ecids: [4097, 4098] } }) }\n\
-     03 000000000000000B 0001 01>Message { serial: 11, body: Ask(PortDelete { port: 1 }) }\n\
-     02 0102030405060708 0004 09 01 0FFE>Message { serial: 72623859790382856, body: Ask(PortCreate { port: 9, cascade: true, channel: 4094 }) }\n\
-     04 0000000000000002 000A 3FFF 8000000000000001>Message { serial: 2, body: Ask(Register { ecid: 16383, mask: 9223372036854775809 }) }\n\
-     05 0000000000000003 0002 1000>Message { serial: 3, body: Ask(Unregister { ecid: 4096 }) }\n\
-     86 0000000000000009 0001 03>Message { serial: 9, body: Answer(Response { to: RegisterMany, code: 3, ports: 0 }) }\n\
+// What a request names, as values are told.
+fn told_request(rt: &impl Abort, alloc: Global, request: &Request) -> String {
+    match request {
+        Request::Open => told(rt, alloc, &()),
+        Request::PortCreate {
+            port,
+            cascade,
+            channel,
+        } => told(rt, alloc, &(*port, *cascade, *channel)),
+        Request::PortDelete { port } => told(rt, alloc, port),
+        Request::Register { ecid, mask } => told(rt, alloc, &(*ecid, *mask)),
+        Request::Unregister { ecid } => told(rt, alloc, ecid),
+        Request::RegisterMany { rows } => told(rt, alloc, &rows.as_slice()),
+        Request::UnregisterMany { ecids } => told(rt, alloc, &ecids.as_slice()),
+    }
+}
+
+/// How a message is told: its serial, and what it carries.
+pub(crate) fn told_message(rt: &impl Abort, alloc: Global, message: &Message) -> String {
+    match &message.body {
+        Body::Ask(request) => {
+            let names = told_request(rt, alloc, request);
+            let kind = request.kind();
+            format!(in alloc; "{} {kind:?} {names}", message.serial).expect(rt, "memory")
+        }
+        Body::Answer(response) => told(rt, alloc, &(message.serial, *response)),
+    }
+}
+
+/// Asserts what bytes say as a message, or their first fault.
+pub(crate) fn expect_message(rt: &impl Abort, alloc: Global, bytes: &[u8], wanted: &str, of: &str) {
+    match read_and_write(rt, bytes) {
+        Ok(message) => same(rt, told_message(rt, alloc, &message).as_str(), wanted, of),
+        Err(fault) => expect(rt, alloc, &fault, wanted, of),
+    }
+}
+
+const CASES: &str = "01 0000000000000001 0000>1 Open ()\n\
+     81 0000000000000001 0002 0002>(1, Response { to: Open, code: 0, ports: 2 })\n\
+     06 0000000000000009 0014 1000 0000000000000002 1003 0000000000000004>9 RegisterMany [GroupRow { ecid: 4096, mask: 2 }, GroupRow { ecid: 4099, mask: 4 }]\n\
+     07 000000000000000A 0004 1001 1002>10 UnregisterMany [4097, 4098]\n\
+     03 000000000000000B 0001 01>11 PortDelete 1\n\
+     02 0102030405060708 0004 09 01 0FFE>72623859790382856 PortCreate (9, true, 4094)\n\
+     04 0000000000000002 000A 3FFF 8000000000000001>2 Register (16383, 9223372036854775809)\n\
+     05 0000000000000003 0002 1000>3 Unregister 4096\n\
+     86 0000000000000009 0001 03>(9, Response { to: RegisterMany, code: 3, ports: 0 })\n\
      # A header cut short, whatever its type and length.\n\
      >Cut\n\
      44 0000000000000001 09>Cut\n\
@@ -50,9 +87,9 @@ const CASES: &str = "01 0000000000000001 0000>Message { serial: 1, body: Ask(Ope
      81 0000000000000001 0002 0000>Range\n\
      81 0000000000000001 0002 0041>Range\n\
      # The extender decides on other numbers.\n\
-     02 0000000000000001 0004 00 00 FFFF>Message { serial: 1, body: Ask(PortCreate { port: 0, cascade: false, channel: 65535 }) }\n\
-     05 0000000000000001 0002 0000>Message { serial: 1, body: Ask(Unregister { ecid: 0 }) }\n\
-     03 0000000000000001 0001 FF>Message { serial: 1, body: Ask(PortDelete { port: 255 }) }";
+     02 0000000000000001 0004 00 00 FFFF>1 PortCreate (0, false, 65535)\n\
+     05 0000000000000001 0002 0000>1 Unregister 0\n\
+     03 0000000000000001 0001 FF>1 PortDelete 255";
 
 #[test]
 fn bytes_say_what_they_must(rt: HostRuntime) {

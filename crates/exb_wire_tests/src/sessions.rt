@@ -1,6 +1,7 @@
 //! Sessions: what an asker takes as its answer and when a request is due again, and what an answerer executes.
-use crate::words::{bytes_of, expect, number, row_of};
-use exb_csp::{Answerer, Asker, Request, RequestKind, Response, Taken, read};
+use crate::messages::told_message;
+use crate::words::{bytes_of, expect, number, row_of, same, told};
+use exb_csp::{Answerer, Asker, Due, Request, RequestKind, Response, Taken, read};
 use std::alloc::Global;
 use std::process::Abort;
 
@@ -103,41 +104,41 @@ const DONE: Response = Response {
     ports: 2,
 };
 
+// Asserts what is due: the request that is to be executed, or none.
+fn expect_due(rt: &impl Abort, alloc: Global, due: &Due, wanted: &str) {
+    let told = match due {
+        Due::Execute(request) => told(rt, alloc, &request.kind()),
+        Due::Again => String::from_str(alloc, "again").expect(rt, "memory"),
+        Due::Ignore => String::from_str(alloc, "ignored").expect(rt, "memory"),
+    };
+    same(rt, told.as_str(), wanted, "a request");
+}
+
+// Asserts which answer is stored.
+fn expect_stored(rt: &impl Abort, alloc: Global, answerer: &Answerer, wanted: &str) {
+    let told = match answerer.stored() {
+        Some(message) => told_message(rt, alloc, &message),
+        None => String::new(alloc),
+    };
+    same(rt, told.as_str(), wanted, "what is stored");
+}
+
 #[test]
 fn each_request_is_executed_once(rt: HostRuntime) {
     let alloc = rt.alloc();
     let mut answerer = Answerer::new();
-    expect(&rt, alloc, &answerer.stored(), "None", "0");
-    expect(
-        &rt,
-        alloc,
-        &answerer.take(1, Request::Open),
-        "Execute(Open)",
-        "1",
-    );
+    expect_stored(&rt, alloc, &answerer, "");
+    expect_due(&rt, alloc, &answerer.take(1, Request::Open), "Open");
     answerer.store(DONE);
-    expect(
-        &rt,
-        alloc,
-        &answerer.take(2, Request::Open),
-        "Execute(Open)",
-        "2",
-    );
+    expect_due(&rt, alloc, &answerer.take(2, Request::Open), "Open");
     answerer.store(DONE);
-    expect(&rt, alloc, &answerer.take(2, Request::Open), "Again", "2");
-    expect(&rt, alloc, &answerer.take(4, Request::Open), "Ignore", "4");
-    expect(
-        &rt,
-        alloc,
-        &answerer.take(3, Request::Open),
-        "Execute(Open)",
-        "3",
-    );
-    expect(&rt, alloc, &answerer.stored(), "None", "3");
+    expect_due(&rt, alloc, &answerer.take(2, Request::Open), "again");
+    expect_due(&rt, alloc, &answerer.take(4, Request::Open), "ignored");
+    expect_due(&rt, alloc, &answerer.take(3, Request::Open), "Open");
+    expect_stored(&rt, alloc, &answerer, "");
     answerer.store(DONE);
-    let stored =
-        "Some(Message { serial: 3, body: Answer(Response { to: Open, code: 0, ports: 2 }) })";
-    expect(&rt, alloc, &answerer.stored(), stored, "3");
-    expect(&rt, alloc, &answerer.take(1, Request::Open), "Ignore", "1");
-    expect(&rt, alloc, &answerer.take(0, Request::Open), "Ignore", "0");
+    let stored = "(3, Response { to: Open, code: 0, ports: 2 })";
+    expect_stored(&rt, alloc, &answerer, stored);
+    expect_due(&rt, alloc, &answerer.take(1, Request::Open), "ignored");
+    expect_due(&rt, alloc, &answerer.take(0, Request::Open), "ignored");
 }

@@ -22,7 +22,7 @@ impl Model for Answerer {
 }
 
 /// What is due for a request.
-#[derive(Debug, Drop)]
+#[derive(Drop)]
 pub enum Due {
     /// It is the next one: it is to be executed, and its response stored.
     Execute(Request),
