@@ -227,6 +227,16 @@ fn put_key(keys: &mut Vec<u64>, place: u16, key: u64)
     }
 }
 
+// Equal items, with the room for so many.
+fn copied<T: Copy>(alloc: Global, items: &[T], room: usize) -> Result<Vec<T>, NoMemory>
+    ensures items { IfOk result (λ made. made.items ≡ items.now) }
+    ensures room { IfOk result (λ made. room ≤ vec_capacity made) }
+{
+    let mut made = Vec::with_capacity(alloc, room)?;
+    made.extend_from_slice(items)?;
+    Ok(made)
+}
+
 impl Groups {
     /// Groups 4096 to 4095 + `limit`, all free, with the room for every later claim. The limit is at most
     /// 12,288.
@@ -249,17 +259,12 @@ impl Groups {
         ensures { IfOk result (λ made. made ≡ self.now) }
     {
         let alloc = *self.sets.allocator();
-        let mut sets = Vec::with_capacity(alloc, self.limit as usize)?;
-        sets.extend_from_slice(self.sets.as_slice())?;
-        let mut keys = Vec::with_capacity(alloc, self.limit as usize)?;
-        keys.extend_from_slice(self.keys.as_slice())?;
-        let mut order = Vec::with_capacity(alloc, self.limit as usize)?;
-        order.extend_from_slice(self.order.as_slice())?;
+        let room = self.limit as usize;
         Ok(Groups {
             limit: self.limit,
-            sets,
-            keys,
-            order,
+            sets: copied(alloc, self.sets.as_slice(), room)?,
+            keys: copied(alloc, self.keys.as_slice(), room)?,
+            order: copied(alloc, self.order.as_slice(), room)?,
             free: self.free,
         })
     }
