@@ -2,10 +2,10 @@
 use Rattle.std.proofs.Common.{◌≡◌, ℕ, zero, suc, ◌+◌, ◌-◌, ◌<◌, ◌≤◌, Bool, true, false, cond, List, [], ◌∷◌, ◌++◌, length, get_or, replicate, refl, sym, ap, ◌∙◌, inl, inr, arith, length-append}
 use Rattle.std.specs.Prelude.{nat_lt, count_by, slice_set}
 use Rattle.std.specs.List.{range_with_len}
-use Rattle.std.proofs.lemmas.Bool.{cases_eq, cases_lt}
+use Rattle.std.proofs.lemmas.Bool.{cases_eq, cases_lt, lt-ltb}
 use Rattle.std.proofs.lemmas.List.{get_or_past, get_or_push, get_or_append_left, get_or-append_right, length-replicate, length-set, set-append_left, append_assoc, replicate-append-replicate}
 use Rattle.std.proofs.lemmas.Grind.{get_or_default_zero}
-use Rattle.std.proofs.lemmas.List.Sums.{sum_by-cons, sum_by-append}
+use Rattle.std.proofs.lemmas.List.Sums.{sum_by-cons, sum_by-append, sum_by-set}
 use Rattle.std.proofs.lemmas.List.Folds.{sum_by-replicate}
 use Rattle.exb_model.proofs.Words.{get_or-same}
 use Rattle.exb_model.specs.Tree.{Shape, is_cascade}
@@ -100,6 +100,48 @@ padded_raised n i x row kept few is here =
     let was : x ≡ get_or (padded n row) i 0 =
     here ∙ get_or_default_zero kept i x low ∙ sym (padded_at n i kept) ∙ ap (λ (ys : List ℕ). get_or ys i 0) same in
     sym (padded_set n i (x + 1) kept low) ∙ ap (λ (ys : List ℕ). slice_set ys i (x + 1)) same ∙ ap (λ (y : ℕ). slice_set (padded n row) i (y + 1)) was
+
+-- a group that has a use has one that is kept
+pub kept_within : (n i : ℕ) (row : List ℕ) → 0 < get_or (padded n row) i 0 → i < length row
+kept_within n i row some =
+    let same = padded_at n i row in
+    elim (cases_lt i (length row)) [
+      | inl l ↦ l
+      | inr l ↦ let past = get_or_past row i 0 l in absurd (omega (arith, some, same, past))
+    ]
+
+-- a use less at a place that has one
+pub padded_lowered : (n i x : ℕ) (row : List ℕ) → i < length row → x ≡ get_or row i x →
+    padded n (slice_set row i (x - 1)) ≡ slice_set (padded n row) i (get_or (padded n row) i 0 - 1)
+padded_lowered n i x row low here =
+    let was : x ≡ get_or (padded n row) i 0 = here ∙ get_or_default_zero row i x low ∙ sym (padded_at n i row) in
+    sym (padded_set n i (x - 1) row low) ∙ ap (λ (y : ℕ). slice_set (padded n row) i (y - 1)) was
+
+-- what is read there is that use
+pub kept_use : (n i x : ℕ) (row : List ℕ) → 0 < get_or (padded n row) i 0 → x ≡ get_or row i x → 0 < x
+kept_use n i x row some here =
+    let same = padded_at n i row in
+    let read = get_or_default_zero row i x (kept_within n i row some) in
+    omega (arith, some, here, same, read)
+
+one_use : (x : ℕ) → 0 < x → one_if (nat_lt 0) x ≡ 1
+one_use zero some = absurd (omega arith)
+one_use (suc x) some = ap (λ (b : Bool). cond b 1 0) (lt-ltb 0 (suc x) some)
+
+-- a group's last use goes, or one of several
+pub lowered_last : (i x : ℕ) (row : List ℕ) → i < length row → x ≡ get_or row i x → x ≡ 1 → count_by (nat_lt 0) (slice_set row i (x - 1)) + 1 ≡ count_by (nat_lt 0) row
+lowered_last i x row low here one =
+    let both = sum_by-set (one_if (nat_lt 0)) row i (x - 1) x low in
+    let was : one_if (nat_lt 0) (get_or row i x) ≡ 1 = ap (one_if (nat_lt 0)) (sym here ∙ one) in
+    let now : one_if (nat_lt 0) (x - 1) ≡ 0 = ap (λ (y : ℕ). one_if (nat_lt 0) (y - 1)) one in
+    omega (arith, both, was, now)
+
+pub lowered_one : (i x : ℕ) (row : List ℕ) → i < length row → x ≡ get_or row i x → 1 < x → count_by (nat_lt 0) (slice_set row i (x - 1)) ≡ count_by (nat_lt 0) row
+lowered_one i x row low here more =
+    let both = sum_by-set (one_if (nat_lt 0)) row i (x - 1) x low in
+    let was : one_if (nat_lt 0) (get_or row i x) ≡ 1 = ap (one_if (nat_lt 0)) (sym here) ∙ one_use x (omega (arith, more)) in
+    let now : one_if (nat_lt 0) (x - 1) ≡ 1 = one_use (x - 1) (omega (arith, more)) in
+    omega (arith, both, was, now)
 
 pub used_none : used_in [] ≡ 0
 used_none = sym (used_count [] (omega arith))
