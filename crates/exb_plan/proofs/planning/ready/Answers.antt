@@ -1,4 +1,5 @@
-use Rattle.std.proofs.Common.{◌≡◌, ◌∙◌, ℕ, List, Option, map, filter, not, sym, ap, subst}
+use Rattle.std.proofs.Common.{◌≡◌, ◌∙◌, ℕ, List, Option, map, filter, not, refl, sym, ap, subst}
+use Rattle.std.proofs.lemmas.Result.{err_from_is_err_and}
 use Rattle.exb_model.specs.Configuration.{after}
 use Rattle.exb_config.specs.Tables.{bridge_of}
 use Rattle.exb_changing.specs.Plans.Sets.{PortsAt, seen, sets_of}
@@ -114,6 +115,46 @@ raise_new-requires-clause-unused c =
     c.args.up.now (map seen c.as_slice-fresh.result.now) (ap (map seen) c.as_slice-fresh.ensures.value ∙ c.requires.touched.fresh) c.in_ok-change.ensures.alike (c.in_ok-change.ensures.held l has) c.in_ok-next.next
     (moved t b v l has c.requires.held c.args.uses.now c.requires.counted c.args.command.now is.less c.in_ok-next.next lowered raised))
 
+-- memory ran out before anything was claimed
+pub returns-in_err-next : goal.returns-in_err-next
+returns-in_err-next c =
+    let e = err_from_is_err_and c.from_residual.result c.from_residual.ensures.1 in
+    rw e.1 (record {
+      change = λ l has. tt;
+      held = λ l has. tt;
+      err = refl;
+      alike = record { spaces = λ k. refl; channels = λ k. refl; groups = λ k. refl };
+      counted = tt;
+      unchanged = refl;
+      rows = λ k. refl;
+    })
+
+pub returns-in_err-gone : goal.returns-in_err-gone
+returns-in_err-gone c =
+    let e = err_from_is_err_and c.from_residual-in_err-gone.result c.from_residual-in_err-gone.ensures.1 in
+    rw e.1 (record {
+      change = λ l has. tt;
+      held = λ l has. tt;
+      err = refl;
+      alike = record { spaces = λ k. refl; channels = λ k. refl; groups = λ k. refl };
+      counted = tt;
+      unchanged = refl;
+      rows = λ k. refl;
+    })
+
+pub returns-in_err-change : goal.returns-in_err-change
+returns-in_err-change c =
+    let e = err_from_is_err_and c.from_residual-in_err-change.result c.from_residual-in_err-change.ensures.1 in
+    rw e.1 (record {
+      change = λ l has. tt;
+      held = λ l has. tt;
+      err = c.in_err-change.ensures.err;
+      alike = c.in_err-change.ensures.alike;
+      counted = tt;
+      unchanged = refl;
+      rows = λ k. refl;
+    })
+
 pub returns-clause-change : goal.returns-clause-change
 returns-clause-change c l has =
     let t = c.args.tree.now in
@@ -140,6 +181,18 @@ returns-clause-held c l has =
     c.in_ok-change.ensures.held l has
     ∙ claims_are c.args.tree.now l b (after c.args.command.now b) (held_by c.args.spaces.now) c.args.up.now (map seen c.as_slice-fresh.result.now)
     c.requires.up (ap (map seen) c.as_slice-fresh.ensures.value ∙ c.requires.touched.fresh)
+
+pub returns-clause-err : goal.returns-clause-err
+returns-clause-err c = tt
+
+pub returns-clause-alike : goal.returns-clause-alike
+returns-clause-alike c = c.in_ok-change.ensures.alike
+
+pub returns-clause-unchanged : goal.returns-clause-unchanged
+returns-clause-unchanged c = tt
+
+pub returns-clause-rows : goal.returns-clause-rows
+returns-clause-rows c = λ k. c.raise_new.ensures.rows k ∙ c.in_ok-next.ensures.rows k
 
 pub returns-clause-counted : goal.returns-clause-counted
 returns-clause-counted c =
