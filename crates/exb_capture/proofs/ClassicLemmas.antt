@@ -5,6 +5,9 @@ use Rattle.std.proofs.lemmas.Bool.{ltb-false, ltb-true, le-ltb, lt-leb, ne_eqb, 
 use Rattle.std.proofs.lemmas.List.{take-append-le}
 use Rattle.exb_capture.specs.declared.fault.Fault.{Fault}
 use Rattle.exb_capture.specs.declared.fault.Flaw.TheVariants.{NotPcap, Version, LinkType, Cut, Length, Time}
+use Rattle.exb_capture.specs.declared.format.Front.{Front as Found}
+use Rattle.exb_capture.specs.declared.format.Front.TheVariants as found
+use Rattle.exb_capture.specs.declared.order.ByteOrder.{ByteOrder}
 use Rattle.exb_capture.specs.declared.classic.Form.{Form}
 use Rattle.exb_capture.specs.declared.classic.Reached.{Reached}
 use Rattle.exb_capture.specs.declared.classic.Reached.TheVariants.{Start, Behind}
@@ -12,7 +15,8 @@ use Rattle.exb_capture.specs.Fields.{◌>>=◌, refuse, word, half_word, agrees}
 use Rattle.exb_capture.specs.Formats.{Front, Nothing, Short, Holds, fault}
 use Rattle.exb_capture.specs.Pieces.{IsFormat}
 use Rattle.exb_capture.specs.Blocks.{most_held}
-use Rattle.exb_capture.specs.Classic.{digits, form_of, header_at, shown_header, magic_front, head_at, time_at, stored_front, record_front, classic_front}
+use Rattle.exb_capture.specs.Classic.{digits, form, form_of, header_at, shown_header, magic_front, head_at, time_at, stored_front, record_front, classic_front}
+use Rattle.exb_capture.specs.Within.{IsWithin, Keeps, Shows, told}
 use Rattle.exb_capture.proofs.BlockLemmas.{part_of}
 use Rattle.exb_capture.proofs.ClassicOpen.{form_by, same_by, form_more, record_in, classic_undecided, classic_blank}
 use Rattle.exb_capture.proofs.FormatLemmas.{IsDecided, longer, not_empty, IsMeasured, LiesWithin, then_within, refused_within, format_by, differs_on}
@@ -181,3 +185,22 @@ record_is f held n time fits head is =
     ∙ ap (λ x. stored_front f x held) head
     ∙ ap (λ b. cond b (Short (fault Cut 0)) (stored_front f (head_at f (take 16 held)) held)) (sym (le-ltb (length held) 16 (omega (arith, fits))))
     ∙ ap (λ b. cond b Nothing (cond (nat_lt (length held) 16) (Short (fault Cut 0)) (stored_front f (head_at f (take 16 held)) held))) (sym (ne_eqb (length held) 0 (λ none. omega (arith, none, fits))))
+
+-- ---- what the code finds at a front, by how far the file was read
+pub shows_start : (x : Found) (s new : Reached) (held : List ℕ) → s ≡ Start → Shows (magic_front (form_of held) held) held x s new → Shows (classic_front s held) held x s new
+unfolding classic_front
+shows_start x s new held is shows = subst (λ stood. Shows stood held x s new) (ap (λ r. classic_front r held) (sym is)) shows
+
+keeps : (x : Found) (s : Reached) → Keeps x (s ≡ s)
+keeps found.Nothing s = refl
+keeps (found.Short f) s = refl
+keeps (found.Bad f) s = refl
+keeps (found.Over n) s = tt
+keeps (found.Holds seen n) s = tt
+
+pub shows_behind : (x : Found) (s : Reached) (f : Form) (order : ByteOrder) (held : List ℕ) → s ≡ Behind f → f.order ≡ order
+    → told x (Behind (form order f.resolution)) held ≡ record_front (form order f.resolution) held → IsWithin held x → Shows (classic_front s held) held x s s
+unfolding classic_front
+shows_behind x s f order held is same value within =
+    let here : s ≡ Behind (form order f.resolution) = is ∙ ap (λ o. Behind (form o f.resolution)) same in
+    record { value = ap (λ r. told x r held) here ∙ value ∙ sym (ap (λ r. classic_front r held) here); same = keeps x s; within = within }

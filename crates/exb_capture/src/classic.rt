@@ -150,7 +150,6 @@ impl Format for Reached {
 
     ghost stands = { classic_front };
 
-    #[tactic(auto, unfolding(crate::specs::Classic::classic_front))]
     #[inline(always)]
     fn front(&mut self, held: &[u8]) -> Front {
         match *self {
