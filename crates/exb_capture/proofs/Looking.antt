@@ -1,6 +1,6 @@
 -- What a look ahead says of a file that is read.
 use Rattle.std.proofs.Common.{◌≡◌, ◌≤◌, ◌<◌, ◌+◌, ◌-◌, ℕ, Bool, true, false, List, length, take, drop, None, Result, Ok, Err, cond, refl, ap, sym, subst, inl, inr, ◌∙◌, arith}
-use Rattle.std.specs.Prelude.{◌⊎◌, IsErrOf}
+use Rattle.std.specs.Prelude.{◌≢◌, ◌⊎◌, IsErrOf}
 use Rattle.std.proofs.lemmas.Bool.{cases_lt}
 use Rattle.exb_model.specs.Input.{Record}
 use Rattle.exb_capture.specs.declared.fault.Fault.{Fault}
@@ -14,7 +14,7 @@ use Rattle.exb_capture.specs.declared.format.Seen.{Seen}
 use Rattle.exb_capture.specs.declared.file.Halt.{Halt}
 use Rattle.exb_capture.specs.declared.file.Halt.TheVariants.{Memory, Failed, Broken, Large}
 use Rattle.exb_shelf.specs.Files.{Files, SameFiles, bytes_of}
-use Rattle.exb_shelf.specs.Shelf.{Id, Faults, NoFewer}
+use Rattle.exb_shelf.specs.Shelf.{Id, Faults, IsReadingOf, NoFewer, moved}
 use Rattle.exb_capture.specs.Reading.{IsAt, MovesOn, IsSound, HasRead, IsWhole, HaltsBy, ComesNext, left_to_read}
 use Rattle.exb_capture.specs.Blocks.{most_held}
 use Rattle.exb_capture.specs.Captures.{capture_front}
@@ -114,6 +114,13 @@ pub kept_bytes : (file now : Files) (given ids : ℕ → Id) (id j got : ℕ) �
 kept_bytes file now given ids id j got at moves same e =
     let named = (moves.same (given id).name (record { given = at.given; reads = at.reads; named = refl })).named in
     ap (λ k. bytes_of (now (ids k).name)) e ∙ ap (λ n. bytes_of (now n)) named ∙ ap bytes_of (same (given id).name)
+
+-- nothing of this one was read, or so many bytes were
+pub moves_not : (id : ℕ) (a b : ℕ → Id) → b id ≡ a id → ((j : ℕ) → j ≢ id → b j ≡ a j) → MovesOn id a b
+moves_not id a b is others = record { others = others; same = λ name reads. subst (IsReadingOf name) (sym is) reads }
+
+pub moves_by : (id n : ℕ) (a b : ℕ → Id) → b id ≡ moved (a id) n → ((j : ℕ) → j ≢ id → b j ≡ a j) → MovesOn id a b
+moves_by id n a b is others = record { others = others; same = λ name r. subst (IsReadingOf name) (sym is) (record { given = r.given; reads = r.reads; named = r.named }) }
 
 pub moves_then : (id j : ℕ) (a b c : ℕ → Id) → MovesOn id a b → MovesOn j b c → j ≡ id → MovesOn id a c
 moves_then id j a b c p q e =
