@@ -1,10 +1,10 @@
 -- Captures that are read again, while one is opened or read on a shelf.
-use Rattle.std.proofs.Common.{◌≡◌, ℕ, suc, ◌+◌, ◌^◌, ◌<◌, ◌≤◌, true, false, List, ◌∷◌, ◌++◌, map, refl, sym, ap, subst, inl, inr, ◌∙◌, arith}
+use Rattle.std.proofs.Common.{◌≡◌, ℕ, suc, ◌+◌, ◌≤◌, true, false, List, ◌∷◌, ◌++◌, map, refl, sym, ap, subst, inl, inr, ◌∙◌, arith}
 use Rattle.std.specs.Prelude.{◌≢◌, ◌⊎◌, Option, Some, None, Err, IfSome, IsErrOf}
 use Rattle.std.specs.List.{AllByRecursion}
-use Rattle.std.proofs.lemmas.Bool.{cases_eq, cases_lt}
+use Rattle.std.proofs.lemmas.Bool.{cases_eq}
 use Rattle.exb_shelf.specs.Files.{Files, SameFiles}
-use Rattle.exb_shelf.specs.Shelf.{Id, IsReadingOf, Opens, Rose, reading}
+use Rattle.exb_shelf.specs.Shelf.{Faults, Id, IsReadingOf, NoFewer, Opens}
 use Rattle.exb_capture.specs.declared.replay.Replay.{Replay}
 use Rattle.exb_capture.specs.declared.replay.ReplayFault.{ReplayFault}
 use Rattle.exb_capture.specs.declared.replay.ReplayFault.TheVariants as replay
@@ -29,13 +29,6 @@ pub read_is : (port : ℕ) (fault : ReplayFault) → fault_at port fault ≡ Rea
 read_is port replay.Memory e = absurd (cc)
 read_is port replay.Read e = refl
 read_is port (replay.Changed n) e = absurd (cc)
-
-pub rose_later : (old mid new : ℕ) → old ≤ mid → mid ≤ new → Rose mid new → Rose old new
-rose_later old mid new low high rose small = by_size (cases_lt (mid + 1) (2 ^ 64))
-  where
-    by_size : (mid + 1 < 2 ^ 64) ⊎ (2 ^ 64 ≤ mid + 1) → old < new
-    by_size (inl t) = omega (arith, low, rose t)
-    by_size (inr t) = omega (arith, low, high, small, t)
 
 -- ---- one id has moved
 stays_opened : (given ids : ℕ → Id) (s : Again) → Stays given ids s → IsOpened given s → IsOpened ids s
@@ -110,26 +103,11 @@ stay_opened P given mid ids id ss fresh opens moves each =
     all_on (IsOpened given) (Stays given ids) ss
     (λ s o. moves.others s.replay.file.id (λ e. not_new given id s fresh o (sym e)) ∙ opens.kept s.replay.file.id o.at.given) each
 
-pub opens_on : (name : List ℕ) (given mid ids : ℕ → Id) (id : ℕ) → (given id).given ≡ false → mid id ≡ reading name 0 → Opens (IsReadingOf name) given mid → MovesOn id mid ids → Opens (IsReadingOf name) given ids
-opens_on name given mid ids id fresh is opens moves = record {
-  fresh = λ j not_given now. by_id j not_given now (cases_eq j id);
-  rises = λ i j was not_given now. opens.rises i j was not_given (known j now (cases_eq j id));
-  kept = λ j was. moves.others j (λ e. let no : true ≡ false = sym was ∙ ap (λ k. (given k).given) e ∙ fresh in cc) ∙ opens.kept j was;
-}
-  where
-    known : (j : ℕ) → (ids j).given ≡ true → (j ≡ id) ⊎ (j ≡ id → ⊥) → (mid j).given ≡ true
-    known j now (inl e) = ap (λ (k : ℕ). (mid k).given) e ∙ ap (λ (i : Id). i.given) is
-    known j now (inr other) = ap (λ (i : Id). i.given) (sym (moves.others j other)) ∙ now
-
-    by_id : (j : ℕ) → (given j).given ≡ false → (ids j).given ≡ true → (j ≡ id) ⊎ (j ≡ id → ⊥) → IsReadingOf name (ids j)
-    by_id j not_given now (inl e) =
-        subst (λ k. IsReadingOf name (ids k)) (sym e)
-        (moves.same name (record { given = ap (λ (i : Id). i.given) is; reads = ap (λ (i : Id). i.reads) is; named = ap (λ (i : Id). i.name) is }))
-    by_id j not_given now (inr other) =
-        subst (λ (i : Id). IsReadingOf name i) (sym (moves.others j other)) (opens.fresh j not_given (ap (λ (i : Id). i.given) (sym (moves.others j other)) ∙ now))
-
 pub files_then : (a b c : Files) → SameFiles a b → SameFiles b c → SameFiles a c
 files_then a b c p q n = q n ∙ p n
 
 pub own_fault : {X : Type 0} (f k : CaptureFault) → IsErrOf {T = X} (Err f) k → f ≡ k
 own_fault f k e = cc
+
+pub no_fewer : (f : Faults) → NoFewer f f
+no_fewer f = record { missing = omega arith; reads = omega arith; writes = omega arith }

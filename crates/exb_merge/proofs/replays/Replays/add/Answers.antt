@@ -1,10 +1,11 @@
-use Rattle.std.proofs.Common.{◌≡◌, ◌+◌, ℕ, List, [], ◌∷◌, ◌++◌, map, Err, sym, ap, subst, ◌∙◌, arith}
+use Rattle.std.proofs.Common.{◌≡◌, ℕ, List, [], ◌∷◌, ◌++◌, map, Err, sym, ap, subst, ◌∙◌, arith}
 use Rattle.std.specs.List.{AllByRecursion}
 use Rattle.std.specs.Prelude.{Option, Some, None}
 use Rattle.exb_shelf.specs.Files.{bytes_of}
 use Rattle.exb_capture.specs.Counts.{after_fault}
 use Rattle.exb_capture.proofs.Looking.{fewer_then}
 use Rattle.exb_capture.proofs.Replaying.{never_replayed}
+use Rattle.exb_capture.proofs.Telling.{opens_on, rose_later}
 use Rattle.exb_merge.specs.declared.replays.Again.{Again}
 use Rattle.exb_merge.specs.declared.replays.CaptureFault.TheVariants.{Read, Changed}
 use Rattle.exb_merge.specs.Replays.{Apart, AreReplays, IsOpened, next_in}
@@ -12,7 +13,7 @@ use Rattle.exb_merge.specs.Streams.{stream_of}
 use Rattle.exb_merge.specs.Turns.{AreTurns}
 use Rattle.exb_merge.proofs.Adding.{apart_new, each_more, fine, ids_more, left_first, left_most, one_more, opened_first, replay_first, replays_more, since_more, standings_more, when_ok}
 use Rattle.exb_merge.proofs.Counts.{not_opened, not_read, port_at}
-use Rattle.exb_merge.proofs.Moving.{changed_at, files_then, opens_on, own_fault, read_is, rose_later}
+use Rattle.exb_merge.proofs.Moving.{changed_at, files_then, own_fault, read_is}
 use Rattle.exb_merge.proofs.Seen.{small_next}
 use Rattle.exb_merge.proofs.Told.{replaying_opened}
 use Rattle.exb_merge.proofs.Turning.{turns_more}
