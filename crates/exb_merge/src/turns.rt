@@ -67,6 +67,24 @@ fn settle(moments: &[u64], firsts: &mut [usize], pending: usize)
     }
 }
 
+/// Puts a racer behind those so far, with a leaf and two nodes that aren't its own yet.
+fn add_racer(
+    racer: usize,
+    moment: u64,
+    moments: &mut Vec<u64>,
+    leaves: &mut Vec<usize>,
+    firsts: &mut Vec<usize>,
+) -> Result<(), NoMemory>
+    ensures moments { OnOk result (moments.new.items ≡ moments.old.items ++ moment ∷ []) }
+    ensures leaves { OnOk result (leaves.new.items ≡ leaves.old.items ++ racer ∷ []) }
+    ensures firsts { OnOk result (firsts.new.items ≡ (firsts.old.items ++ racer ∷ []) ++ racer ∷ []) }
+{
+    moments.push(moment)?;
+    leaves.push(racer)?;
+    firsts.push(racer)?;
+    Ok(firsts.push(racer)?)
+}
+
 impl Turns {
     /// No place yet.
     pub fn new(alloc: Global) -> Turns
@@ -94,10 +112,13 @@ impl Turns {
             return Ok(());
         };
         self.places.push(place)?;
-        self.moments.push(moment)?;
-        self.leaves.push(racer)?;
-        self.firsts.push(racer)?;
-        self.firsts.push(racer)?;
+        add_racer(
+            racer,
+            moment,
+            &mut self.moments,
+            &mut self.leaves,
+            &mut self.firsts,
+        )?;
         let beside = self.firsts[racer];
         self.firsts[2 * racer] = beside;
         self.leaves[beside] = 2 * racer;

@@ -23,12 +23,11 @@ pub settle-requires : goal.settle-requires
 settle-requires c =
     let t = c.args.self.now in
     let racer = c.len-racer.result in
-    let firsts = c.in_ok-push-6.ensures.items ∙ ap (λ xs. xs ++ racer ∷ []) c.in_ok-push-5.ensures.items in
-    let done = pending_grown t.moments.items t.leaves.items t.firsts.items c.requires.turns.1.tree c.in-Some.moment racer c.index-beside.result.now (c.len-racer.ensures ∙ t.moments.ok.0) c.push-3.new.self.items
-    c.push-4.new.self.items c.push-6.new.self.items c.in_ok-push-3.ensures.items c.in_ok-push-4.ensures.items firsts c.index-beside.ensures in
+    let done = pending_grown t.moments.items t.leaves.items t.firsts.items c.requires.turns.1.tree c.in-Some.moment racer c.index-beside.result.now (c.len-racer.ensures ∙ t.moments.ok.0) c.add_racer.new.moments.items
+    c.add_racer.new.leaves.items c.add_racer.new.firsts.items c.in_ok-add_racer.ensures.moments c.in_ok-add_racer.ensures.leaves c.in_ok-add_racer.ensures.firsts c.index-beside.ensures in
     record {
       pending = subst (λ ms. HasPending ms c.as_mut_slice.result.now racer) (sym c.as_slice.ensures.value)
-          (subst (λ fs. HasPending c.push-3.new.self.items fs racer) (sym c.as_mut_slice.ensures.value) done);
+          (subst (λ fs. HasPending c.add_racer.new.moments.items fs racer) (sym c.as_mut_slice.ensures.value) done);
     }
 
 pub returns : goal.returns
@@ -38,10 +37,9 @@ returns c = λ moments are.
     let racer = c.len-racer.result in
     let m = c.in-Some.moment in
     let beside = c.index-beside.result.now in
-    let ms = c.push-3.new.self.items in
+    let ms = c.add_racer.new.moments.items in
     let done = c.settle.new.firsts in
     let was = c.as_mut_slice.result.now in
-    let firsts = c.in_ok-push-6.ensures.items ∙ ap (λ xs. xs ++ racer ∷ []) c.in_ok-push-5.ensures.items in
     let settled : HasPending ms done 0 = subst (λ xs. HasPending xs done 0) c.as_slice.ensures.value c.settle.ensures.settled in
     let leaves : HasLeaves (length ms) was done = subst (λ xs. HasLeaves (length xs) was done) c.as_slice.ensures.value c.settle.ensures.leaves in
     let place_is : place ≡ length t.racers.items = c.len-place.ensures ∙ t.racers.ok.0 in
@@ -49,13 +47,13 @@ returns c = λ moments are.
     let more = racing_some moments t.moments.items t.places.items t.racers.items are.racing m in
     record {
       racing = subst (λ o. AreRacing (moments ++ o ∷ []) ms c.push-2.new.self.items c.push.new.self.items) (sym c.in-Some.is)
-          (subst (λ xs. AreRacing (moments ++ Some m ∷ []) xs c.push-2.new.self.items c.push.new.self.items) (sym c.in_ok-push-3.ensures.items)
+          (subst (λ xs. AreRacing (moments ++ Some m ∷ []) xs c.push-2.new.self.items c.push.new.self.items) (sym c.in_ok-add_racer.ensures.moments)
           (subst (λ xs. AreRacing (moments ++ Some m ∷ []) (t.moments.items ++ m ∷ []) xs c.push.new.self.items) (sym (c.in_ok-push-2.ensures.items ∙ ap (λ k. t.places.items ++ k ∷ []) place_is))
           (subst (AreRacing (moments ++ Some m ∷ []) (t.moments.items ++ m ∷ []) (t.places.items ++ length t.racers.items ∷ []))
           (sym (c.in_ok-push.ensures.items ∙ ap (λ k. t.racers.items ++ k ∷ []) racer_is)) more)));
       small = all_join (λ o. IfSome o (λ m. m < 18446744073709551615)) moments (c.args.moment ∷ []) are.small (c.requires.small, tt);
-      tree = subst (λ fs. IsTree ms (set (set c.push-4.new.self.items beside (2 * racer)) racer (2 * racer + 1)) fs)
-          (sym (with_items_is (with_item c.push-6.new.self (2 * racer) beside) done (leaves.count ∙ c.as_mut_slice.ensures.len)))
-          (tree_grown t.moments.items t.leaves.items t.firsts.items are.tree m racer beside racer_is ms c.push-4.new.self.items c.push-6.new.self.items c.in_ok-push-3.ensures.items
-          c.in_ok-push-4.ensures.items firsts c.index-beside.ensures was done c.as_mut_slice.ensures.value settled leaves);
+      tree = subst (λ fs. IsTree ms (set (set c.add_racer.new.leaves.items beside (2 * racer)) racer (2 * racer + 1)) fs)
+          (sym (with_items_is (with_item c.add_racer.new.firsts (2 * racer) beside) done (leaves.count ∙ c.as_mut_slice.ensures.len)))
+          (tree_grown t.moments.items t.leaves.items t.firsts.items are.tree m racer beside racer_is ms c.add_racer.new.leaves.items c.add_racer.new.firsts.items c.in_ok-add_racer.ensures.moments
+          c.in_ok-add_racer.ensures.leaves c.in_ok-add_racer.ensures.firsts c.index-beside.ensures was done c.as_mut_slice.ensures.value settled leaves);
     }
