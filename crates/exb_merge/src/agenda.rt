@@ -107,8 +107,7 @@ impl<'a> Agenda<'a> {
     {
         let turn = programme.turn();
         self.seats.push(Seat { programme, turn })?;
-        self.turns.add(turn)?;
-        Ok(())
+        self.turns.add(turn)
     }
 
     /// Takes what comes next of all bridges; None exactly where nothing is left. A record's bytes come in `buffer`, which is written

@@ -1,19 +1,22 @@
-use Rattle.std.proofs.Common.{true, false, Some, None, arith, rules}
+use Rattle.std.proofs.Common.{true, false, Some, None, Err, refl, ap, arith, rules}
 use Rattle.std.proofs.lemmas.Grind.{common_steps}
+use Rattle.std.proofs.lemmas.Result.{err_from_is_err_and}
 use Rattle.exb_model.specs.Input.{Captured}
+use Rattle.exb_merge.specs.declared.replays.CaptureFault.TheVariants.{Read, Changed}
 use Rattle.exb_merge.specs.Programmes.{played_with}
 use Rattle.exb_merge.specs.Streams.{to_come}
 use Rattle.exb_merge.proofs.Among.{record-next, none-left}
+use Rattle.exb_merge.proofs.Moving.{no_fewer, own_fault, reads_none}
 use Rattle.exb_merge.proofs.Programming.{captured_soonest, record_coming, record_kept, first_told, told_still, all_taken}
 use Rattle.exb_merge.proofs.programme.Programme.next.Goals as goal
 
 pub returns-then-comes_first : goal.returns-then-comes_first
 returns-then-comes_first g c =
     record {
-      programme = first_of (search rules, grind (arith, common_steps));
-      coming = first_of (search rules, grind (arith, common_steps));
+      programme = c.take_command.ensures.programme _ c.requires.programme;
+      coming = c.take_command.ensures.coming;
       soonest = first_of (search rules, grind (arith, common_steps));
-      end = first_of (search rules, grind (arith, common_steps));
+      end = tt;
       order = (
           λ tells streams told.
           (let S = g.S.Shelf in
@@ -23,15 +26,15 @@ returns-then-comes_first g c =
           let first = first_told files ids p streams c.command_moment.result c.moment.result c.comes_first.result true c.requires.programme told c.command_moment.ensures.value c.moment.ensures c.comes_first.ensures
           c.if-comes_first.true in
           (streams, c.take_command.ensures.order streams first, told_still files ids p.captures c.take_command.new.self.captures streams c.take_command.ensures.captures told)));
-      nothing = first_of (search rules, grind (arith, common_steps));
-      never = first_of (search rules, grind (arith, common_steps));
-      reads = first_of (search rules, grind (arith, common_steps));
-      files = first_of (search rules, grind (arith, common_steps));
-      port = first_of (search rules, grind (arith, common_steps));
-      place = first_of (search rules, grind (arith, common_steps));
-      counts = first_of (search rules, grind (arith, common_steps));
-      faults = first_of (search rules, grind (arith, common_steps));
-      failed = first_of (search rules, grind (arith, common_steps));
+      nothing = λ tells. tt;
+      never = λ tells p at e. absurd (cc);
+      reads = reads_none _ _;
+      files = λ name. refl;
+      port = λ p at e. absurd (cc);
+      place = λ p at e. absurd (cc);
+      counts = refl;
+      faults = no_fewer (g.S.Shelf.faults c.args.shelf.now);
+      failed = λ e. absurd (cc);
     }
 
 pub returns-in-Some : goal.returns-in-Some
@@ -56,7 +59,7 @@ returns-in-Some g c =
           let first = rw c.in-Some.is at c.in_ok-came.ensures.earliest in
           captured_soonest c.args.self.now c.command_moment.result c.moment.result (Some c.in-Some.came.moment) c.comes_first.result c.command_moment.ensures.value c.moment.ensures c.comes_first.ensures
           c.if-comes_first.false first);
-      end = first_of (search rules, grind (arith, common_steps));
+      end = tt;
       order = (
           λ tells streams told.
           (let S = g.S.Shelf in
@@ -66,15 +69,15 @@ returns-in-Some g c =
           let behind = first_told (S.file c.args.shelf.now) (S.ids c.args.shelf.now) p streams c.command_moment.result c.moment.result c.comes_first.result false c.requires.programme told
           c.command_moment.ensures.value c.moment.ensures c.comes_first.ensures c.if-comes_first.false in
           (first.0, record-next (played_with streams p) (Captured c.in-Some.came) (to_come first.0) c.requires.programme.rising first.1 behind, first.2)));
-      nothing = first_of (search rules, grind (arith, common_steps));
-      never = first_of (search rules, grind (arith, common_steps));
-      reads = first_of (search rules, grind (arith, common_steps));
-      files = first_of (search rules, grind (arith, common_steps));
-      port = first_of (search rules, grind (arith, common_steps));
-      place = first_of (search rules, grind (arith, common_steps));
-      counts = first_of (search rules, grind (arith, common_steps));
-      faults = first_of (search rules, grind (arith, common_steps));
-      failed = first_of (search rules, grind (arith, common_steps));
+      nothing = λ tells. tt;
+      never = λ tells p at e. absurd (cc);
+      reads = c.in_ok-came.ensures.reads;
+      files = c.in_ok-came.ensures.files;
+      port = λ p at e. absurd (cc);
+      place = λ p at e. absurd (cc);
+      counts = c.in_ok-came.ensures.counts;
+      faults = c.in_ok-came.ensures.faults;
+      failed = λ e. absurd (cc);
     }
 
 pub returns-in-None : goal.returns-in-None
@@ -84,7 +87,7 @@ returns-in-None g c =
           let S = g.S.Shelf in
           let p = c.args.self.now in
           record_kept (S.ids c.args.shelf.now) (S.ids c.next.new.shelf) p c.next.new.self c.requires.programme c.in_ok-came.ensures.opened (c.in_ok-came.ensures.told p.start c.requires.programme.since));
-      coming = first_of (search rules, grind (arith, common_steps));
+      coming = tt;
       soonest = (
           let end = rw c.in-None.is at c.in_ok-came.ensures.end in
           captured_soonest c.args.self.now c.command_moment.result c.moment.result None c.comes_first.result c.command_moment.ensures.value c.moment.ensures c.comes_first.ensures c.if-comes_first.false end);
@@ -96,7 +99,7 @@ returns-in-None g c =
                 c.if-comes_first.false end,
             end,
           ));
-      order = first_of (search rules, grind (arith, common_steps));
+      order = λ tells. tt;
       nothing = (
           λ tells streams told.
           (let S = g.S.Shelf in
@@ -106,12 +109,34 @@ returns-in-None g c =
           let behind = first_told (S.file c.args.shelf.now) (S.ids c.args.shelf.now) p streams c.command_moment.result c.moment.result c.comes_first.result false c.requires.programme told
           c.command_moment.ensures.value c.moment.ensures c.comes_first.ensures c.if-comes_first.false in
           none-left (played_with streams p) none behind));
-      never = first_of (search rules, grind (arith, common_steps));
-      reads = first_of (search rules, grind (arith, common_steps));
-      files = first_of (search rules, grind (arith, common_steps));
-      port = first_of (search rules, grind (arith, common_steps));
-      place = first_of (search rules, grind (arith, common_steps));
-      counts = first_of (search rules, grind (arith, common_steps));
-      faults = first_of (search rules, grind (arith, common_steps));
-      failed = first_of (search rules, grind (arith, common_steps));
+      never = λ tells p at e. absurd (cc);
+      reads = c.in_ok-came.ensures.reads;
+      files = c.in_ok-came.ensures.files;
+      port = λ p at e. absurd (cc);
+      place = λ p at e. absurd (cc);
+      counts = c.in_ok-came.ensures.counts;
+      faults = c.in_ok-came.ensures.faults;
+      failed = λ e. absurd (cc);
     }
+
+pub returns-in_err-came : goal.returns-in_err-came
+returns-in_err-came g c =
+    let e = err_from_is_err_and c.from_residual.result c.from_residual.ensures.1 in
+    let fault = c.in_err-came.field-0.0 in
+    let next = c.in_err-came.ensures in
+    rw (e.1, e.2) (record {
+      programme = tt;
+      coming = tt;
+      soonest = tt;
+      end = tt;
+      order = λ tells. tt;
+      nothing = λ tells. tt;
+      never = λ tells p at is. next.never tells p at (ap Err (own_fault fault (Changed p at) is));
+      reads = next.reads;
+      files = next.files;
+      port = λ p at is. next.port p at (ap Err (own_fault fault (Changed p at) is));
+      place = λ p at is. next.place p at (ap Err (own_fault fault (Changed p at) is));
+      counts = next.counts;
+      faults = next.faults;
+      failed = λ is. next.failed (ap Err (own_fault fault Read is));
+    })
