@@ -62,6 +62,13 @@ fn hex_digit(number: u8) -> u8
     }
 }
 
+/// Puts bytes behind a text.
+fn push(text: &mut Vec<u8>, bytes: &[u8]) -> Result<(), NoMemory>
+    ensures { OnOk result (text.new.items ≡ text.old.items ++ bytes.now) }
+{
+    Ok(text.extend_from_slice(bytes)?)
+}
+
 /// Puts two digits for each byte behind a text.
 fn push_hexadecimal(text: &mut Vec<u8>, bytes: &[u8]) -> Result<(), NoMemory>
     ensures { OnOk result (text.new.items ≡ text.old.items ++ hexadecimal bytes.now) }
@@ -77,8 +84,7 @@ fn push_head(text: &mut Vec<u8>, way: &str, who: u8, side: u8) -> Result<(), NoM
     ensures { OnOk result (text.new.items ≡ text.old.items ++ head_text way.now who side) }
 {
     let head = format!(in *text.allocator(); "{way} {} {} ", DeviceName(who), SideName(side))?;
-    text.extend_from_slice(head.as_bytes())?;
-    Ok(())
+    push(text, head.as_bytes())
 }
 
 /// Puts the line of a frame that passed behind a text, without its newline.
@@ -103,10 +109,10 @@ fn push_line(text: &mut Vec<u8>, line: &TraceLine) -> Result<(), NoMemory>
     match line.way {
         TraceWay::In => push_frame(text, "in", line.who, line.side, line.bytes.as_slice()),
         TraceWay::Out => push_frame(text, "out", line.who, line.side, line.bytes.as_slice()),
-        TraceWay::Beat => Ok(text.extend_from_slice(b"beat")?),
+        TraceWay::Beat => push(text, b"beat"),
         TraceWay::Journal => {
-            text.extend_from_slice(b"= ")?;
-            Ok(text.extend_from_slice(line.bytes.as_slice())?)
+            push(text, b"= ")?;
+            push(text, line.bytes.as_slice())
         }
     }
 }
