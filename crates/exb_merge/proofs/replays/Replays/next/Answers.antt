@@ -5,9 +5,9 @@ use Rattle.exb_capture.proofs.Replaying.{never_replayed}
 use Rattle.exb_merge.specs.declared.replays.Again.{Again}
 use Rattle.exb_model.specs.declared.arrival.Arrival.{Arrival}
 use Rattle.exb_merge.specs.Replays.{IsOpened, next_in}
-use Rattle.exb_merge.specs.declared.replays.CaptureFault.TheVariants.{Changed}
+use Rattle.exb_merge.specs.declared.replays.CaptureFault.TheVariants.{Read, Changed}
 use Rattle.exb_merge.proofs.Counts.{not_read, port_at, turn_port, turn_within}
-use Rattle.exb_merge.proofs.Moving.{changed_at, opened_next, own_fault, rises_next}
+use Rattle.exb_merge.proofs.Moving.{changed_at, no_fewer, opened_next, own_fault, read_is, reads_none, rises_next}
 use Rattle.exb_merge.proofs.Playing.{at_taken, has_rest, moves_taken, next_apart, next_come, next_each, next_earliest, next_ids, next_left, next_reads, next_rises, next_since, order_next}
 use Rattle.exb_merge.proofs.Seen.{own_comes, own_of, small_next, whose_turn}
 use Rattle.exb_merge.proofs.Told.{none_told}
@@ -23,25 +23,25 @@ returns-in_default g c =
     let xs = c.args.self.now.sources.items in
     let none = none_left next_in xs (c.in_default.ensures.none (map next_in xs) c.requires.opened.turns) in
     record {
-      opened = first_of (search rules, grind (arith, common_steps));
-      come = first_of (search rules, grind (arith, common_steps));
-      earliest = first_of (search rules, grind (arith, common_steps));
-      rises = first_of (search rules, grind (arith, common_steps));
-      since = first_of (search rules, grind (arith, common_steps));
-      told = first_of (search rules, grind (arith, common_steps));
-      left = first_of (search rules, grind (arith, common_steps));
+      opened = c.requires.opened;
+      come = tt;
+      earliest = tt;
+      rises = tt;
+      since = λ second told. tt;
+      told = λ second told. told;
+      left = tt;
       end = none;
-      same = first_of (search rules, grind (arith, common_steps));
+      same = refl;
       order = λ tells streams told. none_told (S.file c.args.shelf.now) (S.ids c.args.shelf.now) xs streams c.requires.opened.each told none;
-      never = first_of (search rules, grind (arith, common_steps));
-      ids = first_of (search rules, grind (arith, common_steps));
-      reads = first_of (search rules, grind (arith, common_steps));
-      files = first_of (search rules, grind (arith, common_steps));
-      port = first_of (search rules, grind (arith, common_steps));
-      place = first_of (search rules, grind (arith, common_steps));
-      counts = first_of (search rules, grind (arith, common_steps));
-      faults = first_of (search rules, grind (arith, common_steps));
-      failed = first_of (search rules, grind (arith, common_steps));
+      never = λ tells p at e. absurd (cc);
+      ids = refl;
+      reads = reads_none _ _;
+      files = λ name. refl;
+      port = λ p at e. absurd (cc);
+      place = λ p at e. absurd (cc);
+      counts = refl;
+      faults = no_fewer (g.S.Shelf.faults c.args.shelf.now);
+      failed = λ e. absurd (cc);
     }
 
 pub index_mut-source-requires : goal.index_mut-source-requires
@@ -90,6 +90,31 @@ ahead-requires-clause-at g c =
     let own = own_of (IsOpened given) xs place s h.at c.requires.opened.each in
     at_taken given s taken c.take.ensures.same c.take.ensures.got own.at
 
+-- memory ran out, and nothing was read
+pub returns-in-Err : goal.returns-in-Err
+returns-in-Err g c =
+    record {
+      opened = tt;
+      come = tt;
+      earliest = tt;
+      rises = tt;
+      since = λ second told. tt;
+      told = λ second told. tt;
+      left = tt;
+      end = tt;
+      same = tt;
+      order = λ tells. tt;
+      never = λ tells p at e. absurd (cc);
+      ids = tt;
+      reads = reads_none _ _;
+      files = λ name. refl;
+      port = λ p at e. absurd (cc);
+      place = λ p at e. absurd (cc);
+      counts = refl;
+      faults = no_fewer (g.S.Shelf.faults c.args.shelf.now);
+      failed = λ e. absurd (cc);
+    }
+
 pub returns-in-Err-ahead : goal.returns-in-Err-ahead
 returns-in-Err-ahead g c =
     let S = g.S.Shelf in
@@ -104,25 +129,25 @@ returns-in-Err-ahead g c =
     let h = whose_turn xs m place (c.in-Some.ensures.some (map next_in xs) c.requires.opened.turns) s c.index_mut-source.ensures.value in
     let taken = c.take.new.self in
     record {
-      opened = first_of (search rules, grind (arith, common_steps));
-      come = first_of (search rules, grind (arith, common_steps));
-      earliest = first_of (search rules, grind (arith, common_steps));
-      rises = first_of (search rules, grind (arith, common_steps));
-      since = first_of (search rules, grind (arith, common_steps));
-      told = first_of (search rules, grind (arith, common_steps));
-      left = first_of (search rules, grind (arith, common_steps));
-      end = first_of (search rules, grind (arith, common_steps));
-      same = first_of (search rules, grind (arith, common_steps));
-      order = first_of (search rules, grind (arith, common_steps));
+      opened = tt;
+      come = tt;
+      earliest = tt;
+      rises = tt;
+      since = λ second told. tt;
+      told = λ second told. tt;
+      left = tt;
+      end = tt;
+      same = tt;
+      order = λ tells. tt;
       never = (
           λ tells p at e streams told.
           let t = has_rest file given xs m place s h c.requires.opened.each taken c.take.ensures.same c.in-Ok.ensures.given streams c.in-Ok.bytes c.in-Ok.ensures.bytes told in
           let fault = changed_at s.port p at c.in-Err-ahead.fault (sym c.fault_at.ensures ∙ own_fault c.fault_at.result (Changed p at) e) in
           never_replayed (bytes_of (file (given taken.file.id).name)) t.rest taken at t.left
           (c.in-Err-ahead.ensures.changed tells at (ap Err fault) t.left.given t.left.has));
-      ids = first_of (search rules, grind (arith, common_steps));
+      ids = tt;
       reads = next_reads xs m place s h given ids (moves_taken given s taken c.take.ensures.same ids c.ahead.ensures.moves);
-      files = first_of (search rules, grind (arith, common_steps));
+      files = c.ahead.ensures.files;
       port = (
           λ p at e.
           turn_port xs m place s h p (port_at s.port p at c.in-Err-ahead.fault (sym c.fault_at.ensures ∙ own_fault c.fault_at.result (Changed p at) e)));
@@ -133,8 +158,8 @@ returns-in-Err-ahead g c =
           let told : taken.told.bytes ≡ s.replay.told.bytes = ap (λ t. t.bytes) c.take.ensures.same.told in
           turn_within xs m place s h p at (port_at s.port p at c.in-Err-ahead.fault told_at) (omega (arith, low, told)));
       counts = not_read s.port c.in-Err-ahead.fault c.fault_at.result _ _ c.fault_at.ensures c.in-Err-ahead.ensures.counts;
-      faults = first_of (search rules, grind (arith, common_steps));
-      failed = first_of (search rules, grind (arith, common_steps));
+      faults = c.ahead.ensures.faults;
+      failed = λ e. c.in-Err-ahead.ensures.failed (ap Err (read_is s.port c.in-Err-ahead.fault (sym c.fault_at.ensures ∙ own_fault c.fault_at.result Read e)));
     }
 
 pub put-requires-clause-turn : goal.put-requires-clause-turn
@@ -183,8 +208,8 @@ returns g c =
       since = λ second told. next_since xs m place s h second m refl comes.since told;
       told = first_of (search rules, grind (arith, common_steps));
       left = next_left xs m place s s' h (omega (arith, c.take.ensures.left, c.in-Ok-ahead.ensures.left));
-      end = first_of (search rules, grind (arith, common_steps));
-      same = first_of (search rules, grind (arith, common_steps));
+      end = tt;
+      same = tt;
       order = (
           λ tells streams told.
           let t = has_rest file given xs m place s h c.requires.opened.each taken c.take.ensures.same c.in-Ok.ensures.given streams c.in-Ok.bytes c.in-Ok.ensures.bytes told in
@@ -192,13 +217,13 @@ returns g c =
           c.in-Ok-ahead.next came streams c.requires.opened.apart first refl refl refl refl (omega (arith)) least
           (at_taken given s taken c.take.ensures.same c.take.ensures.got own.at) c.ahead.ensures.moves c.ahead.ensures.files c.ahead.ensures.same (c.in-Ok-ahead.ensures.given tells)
           (c.in-Ok-ahead.ensures.end tells) told t);
-      never = first_of (search rules, grind (arith, common_steps));
+      never = λ tells p at e. absurd (cc);
       ids = next_ids xs m place s s' h id;
       reads = next_reads xs m place s h given ids moves;
-      files = first_of (search rules, grind (arith, common_steps));
-      port = first_of (search rules, grind (arith, common_steps));
-      place = first_of (search rules, grind (arith, common_steps));
-      counts = first_of (search rules, grind (arith, common_steps));
-      faults = first_of (search rules, grind (arith, common_steps));
-      failed = first_of (search rules, grind (arith, common_steps));
+      files = c.ahead.ensures.files;
+      port = λ p at e. absurd (cc);
+      place = λ p at e. absurd (cc);
+      counts = c.in-Ok-ahead.ensures.counts;
+      faults = c.ahead.ensures.faults;
+      failed = λ e. absurd (cc);
     }
