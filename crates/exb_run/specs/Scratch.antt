@@ -1,7 +1,12 @@
 -- The captures of an input that is made, as they are kept in memory while it is played.
-use Rattle.std.specs.Prelude.{◌≡◌, ◌<◌, ◌≤◌, ◌++◌, ◌∷◌, [], ℕ, List, Option, Some, Ok, All, codes, decimal, length, map}
+use Rattle.std.specs.Prelude.{◌≡◌, ◌<◌, ◌≤◌, ◌^◌, ◌++◌, ◌∷◌, [], ℕ, List, Option, Some, Ok, All, AllPairs, codes, decimal, length, map, sum_by}
 use Rattle.exb_made.specs.declared.captures.Capture.{Capture}
-use Rattle.exb_model.specs.Input.{Record}
+use Rattle.exb_made.specs.declared.making.Made.{Made}
+use Rattle.exb_made.specs.Made.{made}
+use Rattle.exb_made.specs.Pieces.{read_of}
+use Rattle.exb_model.specs.Input.{Record, given_by, tree_of}
+use Rattle.exb_model.specs.Setup.{IsValid, NamesExternal}
+use Rattle.exb_model.specs.Tree.{external_ports}
 use Rattle.exb_capture.specs.Captures.{capture_records}
 use Rattle.exb_shelf.specs.Files.{Files}
 use Rattle.exb_tables.specs.declared.rows.Named.{Named}
@@ -39,3 +44,15 @@ pub record KeepsMore (c : Capture) (names more : List Named) (old new : Files) :
 pub record KeepsFirst (captures firsts : List Capture) (names : List Named) (file : Files) : Type 0 where
   pub ports : map (λ n. n.port) names ≡ map (λ c. c.port) firsts
   pub kept : (records : ℕ → List Record) → All (IsReadAs records) captures → AreKept records names file
+
+-- what was made of a number: its setup, commands and captures are those of the input of this number
+pub record IsInputOf (number : ℕ) (input : Made) : Type 0 where
+  pub valid : IsValid input.setup
+  pub setup : input.setup ≡ (made number).setup
+  pub commands : map given_by input.commands ≡ (made number).commands
+  pub no_fate : All (λ c. c.fate ≡ []) input.commands
+  pub named : All (λ c. NamesExternal (tree_of (made number)) c.command) input.commands
+  pub few : length input.commands ≡ 20
+  pub rising : AllPairs (λ a b. a.at ≤ b.at) input.commands
+  pub captures : map read_of input.captures.items ≡ map (λ q. (q, Ok ((made number).records q))) (external_ports (tree_of (made number)))
+  pub small : sum_by (λ c. length c.file.items) input.captures.items ≤ 2 ^ 22

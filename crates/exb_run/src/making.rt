@@ -3,12 +3,12 @@ ghost use Rattle.std.specs.Prelude.{◌≡◌, ◌<◌, ◌^◌, IfOk, IfErr, On
 ghost use Rattle.exb_made.specs.Made.{made};
 ghost use Rattle.exb_shelf.specs.Memory.{scratch_files};
 ghost use Rattle.exb_run.specs.Answers.{eager_summary};
-ghost use Rattle.exb_run.specs.Scratch.{KeepsFirst, KeepsMore};
+ghost use Rattle.exb_run.specs.Scratch.{IsInputOf, KeepsFirst, KeepsMore};
 
 use exb_fate::Fate;
 use exb_inputs::{Fault, check_captures};
 use exb_made::laws::arrives_at_externals;
-use exb_made::{Capture, make};
+use exb_made::{Capture, Made, make};
 use exb_model::memory::NoMemory;
 use exb_model::text::Text;
 use exb_outputs::Manifest;
@@ -54,31 +54,68 @@ fn put_all(
     Ok(names)
 }
 
-/// Plays the input of a number on files in memory, and answers the summary line.
-pub(crate) fn make_input(alloc: Global, number: u64, fate: Box<dyn Fate>) -> Result<String, Fault>
-    requires { left fate < 2 ^ 56 }
+/// Plays an input of which the captures are kept, and answers the summary line. Its number is for the contract alone.
+fn play_kept(
+    alloc: Global,
+    number: u64,
+    input: &Made,
+    shelf: &mut ScratchShelf,
+    names: &[Named],
+    fate: Box<dyn Fate>,
+) -> Result<String, Fault>
+    requires made { IsInputOf number input.now }
+    requires kept { KeepsFirst input.now.captures.items input.now.captures.items names.now (scratch_files shelf.old) }
+    requires fate { left fate < 2 ^ 56 }
     ensures line { IfOk result (λ line. string_bytes line ≡ eager_summary (made number)) }
     ensures memory { IfErr result (λ fault. fault ≡ Fault.Memory) }
 {
-    arrives_at_externals();
-    let input = make(alloc, number)?;
-    let mut shelf = ScratchShelf::new(alloc);
-    let names = put_all(alloc, &mut shelf, input.captures.as_slice())?;
-    let checked = check_captures(alloc, &mut shelf, names.as_slice())?;
+    let checked = check_captures(alloc, shelf, names)?;
     let manifest = Manifest::new(alloc, &input.setup, PREFIX, Options::eager(false))?;
     let script = Script {
         setup: &input.setup,
         commands: input.commands.as_slice(),
         fate: &[],
     };
-    play(
+    arrives_at_externals();
+    let played = play(
         alloc,
-        &mut shelf,
+        shelf,
         &manifest,
         &script,
-        names.as_slice(),
+        names,
         checked.as_slice(),
         Schedule::Eager,
         fate,
-    )
+    );
+    // By calls, since a block's end is far longer to prove where it lets these go.
+    drop(manifest);
+    drop(checked);
+    played
+}
+
+/// Keeps the captures of an input on files in memory, plays it there, and answers the summary line.
+fn play_made(alloc: Global, number: u64, input: &Made, fate: Box<dyn Fate>) -> Result<String, Fault>
+    requires made { IsInputOf number input.now }
+    requires fate { left fate < 2 ^ 56 }
+    ensures line { IfOk result (λ line. string_bytes line ≡ eager_summary (made number)) }
+    ensures memory { IfErr result (λ fault. fault ≡ Fault.Memory) }
+{
+    let mut shelf = ScratchShelf::new(alloc);
+    let names = put_all(alloc, &mut shelf, input.captures.as_slice())?;
+    let played = play_kept(alloc, number, input, &mut shelf, names.as_slice(), fate);
+    drop(names);
+    drop(shelf);
+    played
+}
+
+/// Plays the input of a number on files in memory, and answers the summary line.
+pub(crate) fn make_input(alloc: Global, number: u64, fate: Box<dyn Fate>) -> Result<String, Fault>
+    requires { left fate < 2 ^ 56 }
+    ensures line { IfOk result (λ line. string_bytes line ≡ eager_summary (made number)) }
+    ensures memory { IfErr result (λ fault. fault ≡ Fault.Memory) }
+{
+    let input = make(alloc, number)?;
+    let played = play_made(alloc, number, &input, fate);
+    drop(input);
+    played
 }
