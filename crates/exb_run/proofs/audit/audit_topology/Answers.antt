@@ -31,16 +31,16 @@ returns-clause-came g c =
     let found = c.in_ok-topology.ensures in
     let f = S.file c.args.shelf.now in
     let read = S.file c.read_topology.new.shelf in
-    let o = c.audit.result in
+    let o = c.audit-audited.result in
     let same = files_same f read found.files in
-    came_audited S.tells c.args.name.now f (S.file c.audit.new.shelf) t found.read (λ n. c.audit.ensures.files n ∙ found.files n) o
-    (λ told. subst (λ (k : Files). IfOk o (λ text. IsFoundLegal (scope_of t) k (string_bytes text))) same (c.audit.ensures.legal told)) c.audit.ensures.says
-    (λ told. subst (λ (k : Files). IfErr o (λ x. StopsAudit (scope_of t) k x ⊎ (x ≡ Read) ⊎ (x ≡ Memory))) same (c.audit.ensures.cause told)) c.audit.ensures.causes
+    came_audited S.tells c.args.name.now f (S.file c.audit-audited.new.shelf) t found.read (λ n. c.audit-audited.ensures.files n ∙ found.files n) o
+    (λ told. subst (λ (k : Files). IfOk o (λ text. IsFoundLegal (scope_of t) k (string_bytes text))) same (c.audit-audited.ensures.legal told)) c.audit-audited.ensures.says
+    (λ told. subst (λ (k : Files). IfErr o (λ x. StopsAudit (scope_of t) k x ⊎ (x ≡ Read) ⊎ (x ≡ Memory))) same (c.audit-audited.ensures.cause told)) c.audit-audited.ensures.causes
 
 pub returns-clause-opens : goal.returns-clause-opens
 returns-clause-opens g c =
     let found = c.in_ok-topology.ensures in
-    opens_by_audit g.S.Shelf.tells _ c.args.name.now _ _ found.opened c.audit.result c.in_ok-topology.topology _ found.read c.audit.ensures.causes c.audit.ensures.opened
+    opens_by_audit g.S.Shelf.tells _ c.args.name.now _ _ found.opened c.audit-audited.result c.in_ok-topology.topology _ found.read c.audit-audited.ensures.causes c.audit-audited.ensures.opened
 
 pub returns-clause-faults : goal.returns-clause-faults
-returns-clause-faults g c = counts_from c.audit.result _ _ _ c.in_ok-topology.ensures.faults.once c.audit.ensures.faults
+returns-clause-faults g c = counts_from c.audit-audited.result _ _ _ c.in_ok-topology.ensures.faults.once c.audit-audited.ensures.faults

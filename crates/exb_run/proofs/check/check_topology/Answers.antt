@@ -21,11 +21,11 @@ pub returns-clause-came : goal.returns-clause-came
 returns-clause-came g c =
     let S = g.S.Shelf in
     let found = c.in_ok-topology.ensures in
-    came_checked S.tells c.args.name.now (S.file c.args.shelf.now) (S.file c.read_topology.new.shelf) c.in_ok-topology.topology c.lines_of.result
-    found.read found.files c.lines_of.ensures.lines c.lines_of.ensures.memory
+    came_checked S.tells c.args.name.now (S.file c.args.shelf.now) (S.file c.read_topology.new.shelf) c.in_ok-topology.topology c.lines_of-lines.result
+    found.read found.files c.lines_of-lines.ensures.lines c.lines_of-lines.ensures.memory
 
 pub returns-clause-opens : goal.returns-clause-opens
 returns-clause-opens g c = check_opens g.S.Shelf.tells _ c.args.name.now _ _ c.in_ok-topology.ensures.opened _
 
 pub returns-clause-faults : goal.returns-clause-faults
-returns-clause-faults g c = made-later c.lines_of.result _ _ c.in_ok-topology.ensures.faults.once c.lines_of.ensures.memory
+returns-clause-faults g c = made-later c.lines_of-lines.result _ _ c.in_ok-topology.ensures.faults.once c.lines_of-lines.ensures.memory
