@@ -13,7 +13,7 @@ use Rattle.exb_inputs.specs.declared.fault.Fault.TheVariants.{Usage, Missing, To
 use Rattle.exb_words.specs.declared.asked.Options.{Options}
 use Rattle.exb_outputs.specs.Manifests.{Listed, kind_at, output_count, output_name}
 use Rattle.exb_inputs.specs.Checks.{AreAllGood}
-use Rattle.exb_inputs.specs.Reading.{IsOfPlay, IsOfAudit, IsOfCapture, IsOfPlaying}
+use Rattle.exb_inputs.specs.Reading.{IsChange, IsOfPlay, IsOfAudit, IsOfCapture, IsOfPlaying}
 use Rattle.exb_play.specs.Shelving.{IsOfRun}
 use Rattle.exb_outputs.specs.Shelving.{WritesListed}
 use Rattle.exb_inputs.specs.Answers.{HoldsTopology, status_of}
@@ -67,6 +67,26 @@ play_plays Memory is = tt
 pub played_plays : (o : Outcome) → IfErr o IsOfPlay → IfErr o IsOfPlaying
 played_plays (Ok line) is = tt
 played_plays (Err x) is = play_plays x is
+
+-- where no capture has become another one, the shelf failed or memory ran out
+pub play_fails : (o : Outcome) → IfErr o IsOfPlay → IfErr o (λ x. IsChange x → ⊥) → IfErr o (λ x. (x ≡ Read) ⊎ (x ≡ Write) ⊎ (x ≡ Memory))
+play_fails (Ok line) is never = tt
+play_fails (Err Usage) is never = absurd is
+play_fails (Err (Missing name)) is never = absurd is
+play_fails (Err (BadTopology fault)) is never = absurd is
+play_fails (Err (Capture p flaw)) is never = absurd is
+play_fails (Err (Changed p at)) is never = absurd (never tt)
+play_fails (Err (BadNet fault)) is never = absurd is
+play_fails (Err (BadMember name fault)) is never = absurd is
+play_fails (Err (MemberCapture name p flaw)) is never = absurd is
+play_fails (Err (MemberChanged name p at)) is never = absurd is
+play_fails (Err (Output p broke)) is never = absurd is
+play_fails (Err (TooLarge what)) is never = absurd is
+play_fails (Err (BadLine what n)) is never = absurd is
+play_fails (Err (Illegal r)) is never = absurd is
+play_fails (Err Read) is never = inl refl
+play_fails (Err Write) is never = inr (inl refl)
+play_fails (Err Memory) is never = inr (inr refl)
 
 -- the topology is not at fault
 not_three : (o : Outcome) → IfErr o IsOfPlaying → status_of o ≢ 3

@@ -105,7 +105,7 @@ fn play_topology<S: Shelf>(
         fate: topology.fate.as_slice(),
     };
     let schedule = schedule_of(options.seed);
-    play(
+    let played = play(
         alloc,
         shelf,
         &manifest,
@@ -114,7 +114,11 @@ fn play_topology<S: Shelf>(
         checked.as_slice(),
         schedule,
         fate,
-    )
+    );
+    // By calls, since a block's end is far longer to prove where it lets these go.
+    drop(manifest);
+    drop(checked);
+    played
 }
 
 /// Reads the topology of this name, plays it, and answers the summary line.
@@ -132,7 +136,10 @@ fn run_topology<S: Shelf>(
     ensures faults { CountsFaults result (S.faults shelf.old) (S.faults shelf.new) }
 {
     let topology = read_topology(alloc, shelf, name)?;
-    play_topology(alloc, shelf, &topology, options, fate)
+    let played = play_topology(alloc, shelf, &topology, options, fate);
+    // By a call, since a block's end is far longer to prove where it lets a topology go.
+    drop(topology);
+    played
 }
 
 /// Does all but print: what the words ask for.
@@ -244,5 +251,7 @@ pub fn run<S: Shelf, O: Sink>(
         → ¬ Rose (O.faults out.old) (O.faults out.new) → result ≢ 1 → result ≡ 0 }
 {
     let outcome = work(alloc, words, shelf, fate, more);
-    report(alloc, out, &outcome)
+    let status = report(alloc, out, &outcome);
+    drop(outcome);
+    status
 }

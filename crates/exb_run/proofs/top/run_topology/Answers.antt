@@ -30,9 +30,9 @@ returns-clause-came g c =
     let t = c.in_ok-topology.topology in
     let found = c.in_ok-topology.ensures in
     let f = S.file c.args.shelf.now in
-    let h = S.file c.play_topology.new.shelf in
-    let o = c.play_topology.result in
-    let is = c.play_topology.ensures in
+    let h = S.file c.play_topology-played.new.shelf in
+    let o = c.play_topology-played.result in
+    let is = c.play_topology-played.ensures in
     came_played S.tells c.args.name.now c.args.options t f h found.read o
     (subst (λ (k : Files). PlaysOut S.tells c.args.options t o k h) (files_same f (S.file c.read_topology.new.shelf) found.files) (record {
       good = is.good;
@@ -54,8 +54,8 @@ returns-clause-opens g c =
     let found = c.in_ok-topology.ensures in
     let f = S.file c.args.shelf.now in
     let read = S.file c.read_topology.new.shelf in
-    opens_by_run S.tells f c.args.name.now _ _ found.opened c.args.options c.play_topology.result c.in_ok-topology.topology read _ found.read
-    (files_same f read found.files) c.play_topology.ensures.causes c.play_topology.ensures.opened c.play_topology.ensures.played
+    opens_by_run S.tells f c.args.name.now _ _ found.opened c.args.options c.play_topology-played.result c.in_ok-topology.topology read _ found.read
+    (files_same f read found.files) c.play_topology-played.ensures.causes c.play_topology-played.ensures.opened c.play_topology-played.ensures.played
 
 pub returns-in_err-topology-clause-order : goal.returns-in_err-topology-clause-order
 returns-in_err-topology-clause-order g c =
@@ -67,10 +67,10 @@ returns-clause-order g c =
     let S = g.S.Shelf in
     let t = c.in_ok-topology.topology in
     let found = c.in_ok-topology.ensures in
-    let is = c.play_topology.ensures in
-    inr (run_opens S.tells c.args.name.now c.args.options c.play_topology.result t (S.file c.args.shelf.now) _ _ _ found.opened found.read is.files is.made is.behind is.port is.own
-    (subst (λ (k : Files). S.tells → (p : ℕ) (fault : Fault) → FirstFault t.captures k p fault → Opens (ReadsBelow t.captures (p + 1)) (S.ids c.read_topology.new.shelf) (S.ids c.play_topology.new.shelf))
+    let is = c.play_topology-played.ensures in
+    inr (run_opens S.tells c.args.name.now c.args.options c.play_topology-played.result t (S.file c.args.shelf.now) _ _ _ found.opened found.read is.files is.made is.behind is.port is.own
+    (subst (λ (k : Files). S.tells → (p : ℕ) (fault : Fault) → FirstFault t.captures k p fault → Opens (ReadsBelow t.captures (p + 1)) (S.ids c.read_topology.new.shelf) (S.ids c.play_topology-played.new.shelf))
     (files_same (S.file c.args.shelf.now) (S.file c.read_topology.new.shelf) found.files) is.upto))
 
 pub returns-clause-faults : goal.returns-clause-faults
-returns-clause-faults g c = counts_from c.play_topology.result _ _ _ c.in_ok-topology.ensures.faults.once c.play_topology.ensures.faults
+returns-clause-faults g c = counts_from c.play_topology-played.result _ _ _ c.in_ok-topology.ensures.faults.once c.play_topology-played.ensures.faults
