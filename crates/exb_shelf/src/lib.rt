@@ -7,13 +7,11 @@
 mod entries;
 mod files;
 mod known;
-mod memory;
 pub mod pieces;
 mod scratch;
 mod shelf;
 
 pub use files::{FileShelf, OutSink};
-pub use memory::{MemShelf, MemSink};
 pub use pieces::{PIECE, ReadFault, print_text, read_file, room, write_text};
 pub use scratch::ScratchShelf;
 pub use shelf::{OpenFault, Shelf, ShelfFault, Sink};

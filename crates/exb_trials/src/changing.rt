@@ -2,8 +2,7 @@
 use crate::compare::{holds, same_status};
 use crate::hex::bytes_of;
 use crate::runs::play;
-use exb_faulty::ChangingShelf;
-use exb_shelf::MemSink;
+use exb_faulty::{ChangingShelf, MemSink};
 use std::alloc::Global;
 use std::process::Abort;
 

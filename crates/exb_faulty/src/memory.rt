@@ -5,10 +5,10 @@ ghost use Rattle.exb_model.specs.Frames.{IsBytes};
 ghost use Rattle.exb_shelf.specs.Files.{SameFiles, Puts, bytes_of};
 ghost use Rattle.exb_shelf.specs.Shelf.{Faults, IsReading, IsWriting, reading, writing, moved, no_id, Rose, NoFewer};
 ghost use Rattle.exb_shelf.specs.Counting.{one_more, after_open, after_read, after_write, after_print};
-ghost use Rattle.exb_shelf.specs.Memory.{file_in, files_of, ids_of, faults_of, calls_of, failing_of, text_of, sink_faults_of, sink_calls_of, sink_failing_of};
+ghost use Rattle.exb_faulty.specs.Memory.{files_of, ids_of, faults_of, calls_of, failing_of, text_of, sink_faults_of, sink_calls_of, sink_failing_of};
 
-use crate::{OpenFault, ScratchShelf, Shelf, ShelfFault, Sink};
 use exb_model::memory::NoMemory;
+use exb_shelf::{OpenFault, ScratchShelf, Shelf, ShelfFault, Sink};
 use std::alloc::Global;
 
 // Counts a call, and says whether its number is listed. Numbers begin at 1; no list has a number
