@@ -4,3 +4,4 @@ pub mod PieceLemmas
 pub mod MemoryLemmas
 pub mod IdLemmas
 pub mod CountLemmas
+pub mod ReadingLemmas

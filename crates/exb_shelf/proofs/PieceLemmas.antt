@@ -1,5 +1,5 @@
 -- Pieces that follow one another.
-use Rattle.std.proofs.Common.{◌≡◌, ◌≢◌, true, false, subst, ◌+◌, ◌-◌, ℕ, zero, suc, List, [], ◌∷◌, ◌++◌, Option, Some, length, take, drop, ap, sym, ◌∙◌, refl, arith, append_assoc, take-add}
+use Rattle.std.proofs.Common.{◌≡◌, ◌≢◌, ◌≤◌, true, false, subst, ◌+◌, ◌-◌, ℕ, zero, suc, List, [], ◌∷◌, ◌++◌, Option, Some, length, take, drop, ap, sym, ◌∙◌, refl, arith, append_assoc, take-add}
 use Rattle.std.proofs.lemmas.List.{take_rest}
 use Rattle.std.proofs.lemmas.Grind.{common_steps}
 use Rattle.std.proofs.lemmas.Bool.{false≢true}
@@ -58,3 +58,18 @@ pub front_read : (f g : Files) (i : Id) (name old new : List ℕ) (n : ℕ) → 
 front_read f g i name old new n e same front is =
     front_more (bytes_of (f name)) old new n front
     (is ∙ ap (λ (x : Id). old ++ take n (drop x.place (bytes_of (g x.name)))) e ∙ ap (λ (o : Option (List ℕ)). old ++ take n (drop (length old) (bytes_of o))) (same name))
+
+whole_by : (xs old new : List ℕ) (n : ℕ) → take (length old) xs ≡ old → drop (length old) xs ≡ [] → new ≡ old ++ take n [] → xs ≡ new
+whole_by xs old new n front rest all = grind (arith, common_steps)
+
+-- where nothing is left behind what was read, that is the whole file
+pub whole_read : (f g : Files) (i : Id) (name old new : List ℕ) (n : ℕ) → i ≡ reading name (length old) → SameFiles f g → take (length old) (bytes_of (f name)) ≡ old
+    → new ≡ old ++ take n (drop i.place (bytes_of (g i.name))) → drop i.place (bytes_of (g i.name)) ≡ [] → bytes_of (f name) ≡ new
+whole_read f g i name old new n e same front is none =
+    let rest : drop (length old) (bytes_of (f name)) ≡ [] = sym (ap (λ (x : Id). drop x.place (bytes_of (g x.name))) e ∙ ap (λ (o : Option (List ℕ)). drop (length old) (bytes_of o)) (same name)) ∙ none in
+    let all : new ≡ old ++ take n [] = is ∙ ap (λ (xs : List ℕ). old ++ take n xs) none in
+    whole_by (bytes_of (f name)) old new n front rest all
+
+-- what was read isn't longer than the file
+pub front_within : (xs ys : List ℕ) → take (length ys) xs ≡ ys → length ys ≤ length xs
+front_within xs ys e = let same : length (take (length ys) xs) ≡ length ys = ap length e in grind (arith, common_steps)
