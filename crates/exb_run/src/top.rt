@@ -121,7 +121,8 @@ fn play_topology<S: Shelf>(
     played
 }
 
-/// Reads the topology of this name, plays it, and answers the summary line.
+/// Reads the topology of this name, plays it, and answers the summary line. Within `work` a frame would take a few instructions more.
+#[inline(never)]
 fn run_topology<S: Shelf>(
     alloc: Global,
     shelf: &mut S,
