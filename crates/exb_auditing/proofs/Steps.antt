@@ -2,7 +2,7 @@
 use mathlib.Core.Path.{fun_ext}
 use Rattle.std.specs.Prelude.{IfErr, IfOk, String, string_bytes}
 use Rattle.std.specs.declared.alloc.Global.{Global}
-use Rattle.std.proofs.Common.{◌≡◌, ◌⊎◌, inl, inr, ℕ, List, Result, Ok, Err, length, ap, subst, ◌∙◌}
+use Rattle.std.proofs.Common.{◌≡◌, ◌⊎◌, inl, inr, ℕ, List, Result, Ok, Err, length, ap, subst, sym, ◌∙◌}
 use Rattle.exb_model.specs.Traces.{TraceLine}
 use Rattle.exb_audit.specs.declared.frames.PortFrames.{PortFrames}
 use Rattle.exb_audit.specs.Judging.{files_by}
@@ -11,11 +11,14 @@ use Rattle.exb_topology.specs.declared.topology.Topology.{Topology}
 use Rattle.exb_inputs.specs.declared.fault.Fault.{Fault}
 use Rattle.exb_inputs.specs.declared.fault.Fault.TheVariants.{Illegal, Memory, Read}
 use Rattle.exb_inputs.specs.Answers.{IsRule}
+use Rattle.exb_inputs.specs.Reading.{IsOfAudit}
 use Rattle.exb_shelf.specs.Files.{Files, SameFiles}
-use Rattle.exb_auditing.specs.Audits.{AreCaptures, AreEntries, AreLines, AreOutputs, IsFoundLegal, IsSeen, JournalStops, OutputsStop, Seen, StopsAudit, TraceStops, evidence_of, legal_line}
-use Rattle.exb_shelf.specs.Shelf.{Id, IsReading, IsReadingOf}
+use Rattle.exb_auditing.specs.Audits.{AreCaptures, AreEntries, AreLines, AreOutputs, CapturesStop, IsFoundLegal, IsSeen, JournalStops, OutputsStop, Seen, StopsAudit, TraceStops, evidence_of, legal_line}
+use Rattle.exb_shelf.specs.Shelf.{Id, IsReading, IsReadingOf, Opens}
+use Rattle.exb_shelf.proofs.IdLemmas.{opens_weaker}
+use Rattle.exb_evidence.specs.Frames.{ReadsOneOf}
 use Rattle.exb_auditing.specs.Reads.{ReadsEvidence}
-use Rattle.exb_auditing.specs.Scopes.{Scope, scope_of}
+use Rattle.exb_auditing.specs.Scopes.{Scope, capture_files, scope_of}
 
 reading_of : (name : List ℕ) (i : Id) → IsReadingOf name i → IsReading i
 reading_of name i reads = record { given = reads.given; reads = reads.reads }
@@ -31,7 +34,15 @@ reads_evidence s i (inr (inr (inr reads))) = reading_of _ i reads
 pub back : (P : Files → Type 0) (f g : Files) → SameFiles f g → P g → P f
 back P f g same = subst P (fun_ext λ n. same n)
 
+-- what is opened first are captures
+pub opens_captures : (s : Scope) (a b : ℕ → Id) → Opens (ReadsOneOf (capture_files s.captures)) a b → Opens (ReadsEvidence s) a b
+opens_captures s a b opens = opens_weaker (ReadsOneOf (capture_files s.captures)) (ReadsEvidence s) a b (λ i reads. inl reads) opens
+
 -- ---- what stops it, over the files at the beginning
+pub captures_cause : (s : Scope) (f : Files) (x : Fault) → CapturesStop s f x ⊎ (x ≡ Read) ⊎ (x ≡ Memory) → StopsAudit s f x ⊎ (x ≡ Read) ⊎ (x ≡ Memory)
+captures_cause s f x (inl stop) = inl (inl stop)
+captures_cause s f x (inr other) = inr other
+
 module _ (s : Scope) (f : Files) (captures : List PortFrames) (are_captures : AreCaptures s f captures) (g : Files) (same : SameFiles f g) where
   pub outputs_cause : (x : Fault) → OutputsStop s g x ⊎ (x ≡ Read) ⊎ (x ≡ Memory) → StopsAudit s f x ⊎ (x ≡ Read) ⊎ (x ≡ Memory)
   outputs_cause x (inl stop) = inl (inr ((captures, are_captures), inl (back (λ k. OutputsStop s k x) f g same stop)))
@@ -69,6 +80,16 @@ module _ (s : Scope) (f : Files) (captures : List PortFrames) (are_captures : Ar
 -- ---- what is found
 abbrev Finds : Evidence → Fault → Type 0
 Finds e fault = ((r : ℕ) × IsRule r × IsLowestBroken e r × (fault ≡ Illegal r)) ⊎ (fault ≡ Memory)
+
+-- what is said of it, and which faults it can be
+pub legal_says : (e : Evidence) (n : ℕ) (o : Result (String Global) Fault) → IfOk o (λ text. IsLegal e × (string_bytes text ≡ legal_line n)) → IfOk o (λ text. (k : ℕ) × (string_bytes text ≡ legal_line k))
+legal_says e n (Ok text) found = (n, found.1)
+legal_says e n (Err fault) found = tt
+
+pub judged_of : (e : Evidence) (o : Result (String Global) Fault) → IfErr o (Finds e) → IfErr o IsOfAudit
+judged_of e (Ok text) finds = tt
+judged_of e (Err x) (inl (r, rule, lowest, is)) = subst IsOfAudit (sym is) rule
+judged_of e (Err x) (inr memory) = subst IsOfAudit (sym memory) tt
 
 module _ (t : Topology) (f : Files) (x : Seen) (is : IsSeen (scope_of t) f x) where
   pub legal_found : (a : List PortFrames) (b : List (List ℕ)) (c : List TraceLine) (d : List PortFrames) → a ≡ x.captures → b ≡ x.journal → c ≡ x.lines → d ≡ x.outputs
