@@ -4,20 +4,20 @@ use Rattle.std.specs.Prelude.{All, if◌then◌else◌, is_some, option_map, sli
 use Rattle.std.specs.Bool.{Decides}
 use Rattle.std.specs.List.{list_all}
 use Rattle.std.proofs.lemmas.Bool.{cases_Bool, cases_eq, and_from, false≢true, eq-eqb, ne_eqb, le-leb, leb-true}
-use Rattle.std.proofs.lemmas.List.{length-append, get_or-set_same, get_or-set_other, take_rest}
+use Rattle.std.proofs.lemmas.List.{length-append, get_or-set_same, get_or-set_other, length-drop, take_all, take_rest}
 use Rattle.std.proofs.lemmas.List.Concat.{flat_map-append}
 use Rattle.std.proofs.lemmas.List.Elements.{All-head, All-tail}
-use Rattle.std.proofs.lemmas.Option.{slice_get-get_or}
+use Rattle.std.proofs.lemmas.Option.{get_or_from_slice_get, slice_get-get_or}
 use Rattle.exb_model.specs.declared.trace.TraceWay.{TraceWay}
 use Rattle.exb_model.specs.declared.trace.TraceWay.TheVariants as way
 use Rattle.exb_model.specs.Traces.{TraceLine, In, Out, Beat, Journal, line_by}
 use Rattle.exb_model.specs.ETags.{Tag}
 use Rattle.exb_model.specs.Tree.{Shape}
 use Rattle.exb_legal.specs.Decided.{Rule5IsDecided, AreFrames}
-use Rattle.exb_legal.specs.Deciding.{through, is_here, names_here, says_none, no_data, few_at, is_step, is_part, Steps, start_5, step_5, verdict_5}
+use Rattle.exb_legal.specs.Deciding.{through, is_entered, is_here, names_here, says_none, no_data, few_at, is_step, is_part, Steps, start_5, step_5, verdict_5}
 use Rattle.exb_legal.specs.Entering.{entries, is_data_at, relays, sent_at, sent, AreSteps}
 use Rattle.exb_legal.specs.Reading.{begins, until_next}
-use Rattle.exb_audit.specs.Entering.{is_relay_line, is_entry_line, is_sending, text_at, AreCounts, HasLowSide, each_is_right, are_right}
+use Rattle.exb_audit.specs.Entering.{is_relay_line, is_entry_line, is_sending, text_at, AreCounts, EntersAt, HasLowSide, IsFirstEntry, each_is_right, are_right}
 use Rattle.exb_legal.specs.Entries.{Entry}
 use Rattle.exb_audit.specs.Words.{Names}
 use Rattle.exb_audit.proofs.Cuts.{item_first}
@@ -243,3 +243,28 @@ pub step_first : (t : Shape) (captures : ℕ → List (List ℕ)) (lines : List 
 step_first t captures lines i x r is l e =
     ap (each_is_right t captures) (item_first lines i x is l)
     ∙ ap (λ b. b && each_is_right t captures (drop (i + 1) lines)) (sym (e ∙ ap (λ ls. if begins x then is_step t captures x (until_next ls) else true) (take_rest lines (i + 1))))
+
+-- ---- exactly one line says what became of a record
+pub rest_whole : (lines : List TraceLine) (n : ℕ) → take (length lines - n) (drop n lines) ≡ drop n lines
+rest_whole lines n = take_all (length lines - n) (drop n lines) (omega (arith, length-drop n lines))
+
+entry_text : (w : TraceWay) (who side : ℕ) (bytes : List ℕ) (l : TraceLine) → line_by w who side bytes ≡ l → is_entry_line l ≡ true → bytes ≡ text_at (Some l)
+entry_text way.In who side bytes l is entry = absurd (false≢true (ap is_entry_line is ∙ entry))
+entry_text way.Out who side bytes l is entry = absurd (false≢true (ap is_entry_line is ∙ entry))
+entry_text way.Beat who side bytes l is entry = absurd (false≢true (ap is_entry_line is ∙ entry))
+entry_text way.Journal who side bytes l is entry = ap (λ o. text_at (Some o)) is
+
+module _ (t : Shape) (captures : ℕ → List (List ℕ)) (k : ℕ) (f : List ℕ) (lines rest : List TraceLine) (i : ℕ) where
+  pub entered_twice : (second : Option ℕ) → EntersAt lines i → rest ≡ drop (i + 1) lines → IsFirstEntry rest second → true ≡ is_some second → false ≡ is_entered t captures k f (entries lines)
+  entered_twice None first same next some = absurd (false≢true (sym some))
+  entered_twice (Some j) first same next some = sym (ap (is_entered t captures k f) (first.is ∙ ap (λ es. text_at (Some first.line) ∷ es) (ap entries (sym same) ∙ next.is)))
+
+  pub entered_once : (second : Option ℕ) → EntersAt lines i → rest ≡ drop (i + 1) lines → IsFirstEntry rest second → false ≡ is_some second
+      → (w : TraceWay) (who side : ℕ) (bytes : List ℕ) (l : TraceLine) → l ≡ get_or lines i l → line_by w who side bytes ≡ l → (text : List ℕ) → text ≡ bytes
+      → (b : Bool) → b ≡ is_entered t captures k f (text ∷ []) → b ≡ is_entered t captures k f (entries lines)
+  entered_once (Some j) first same next none w who side bytes l at view text is b says = absurd (false≢true none)
+  entered_once None first same next none w who side bytes l at view text is b says =
+      let line : l ≡ first.line = at ∙ get_or_from_slice_get lines i first.line l first.at in
+      let one : text ≡ text_at (Some first.line) = is ∙ entry_text w who side bytes first.line (view ∙ line) first.entry in
+      let all : entries lines ≡ text ∷ [] = first.is ∙ (ap (λ es. text_at (Some first.line) ∷ es) (ap entries (sym same) ∙ next) ∙ ap (λ x. x ∷ []) (sym one)) in
+      says ∙ ap (is_entered t captures k f) (sym all)
