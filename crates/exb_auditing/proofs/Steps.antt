@@ -2,7 +2,7 @@
 use mathlib.Core.Path.{fun_ext}
 use Rattle.std.specs.Prelude.{IfErr, IfOk, String, string_bytes}
 use Rattle.std.specs.declared.alloc.Global.{Global}
-use Rattle.std.proofs.Common.{◌≡◌, ◌⊎◌, inl, inr, ℕ, List, Result, Ok, Err, length, ap, subst, sym, ◌∙◌}
+use Rattle.std.proofs.Common.{◌≡◌, ◌⊎◌, inl, inr, ℕ, List, Result, Ok, Err, length, ap, refl, subst, sym, ◌∙◌}
 use Rattle.exb_model.specs.Traces.{TraceLine}
 use Rattle.exb_audit.specs.declared.frames.PortFrames.{PortFrames}
 use Rattle.exb_audit.specs.Judging.{files_by}
@@ -13,12 +13,16 @@ use Rattle.exb_inputs.specs.declared.fault.Fault.TheVariants.{Illegal, Memory, R
 use Rattle.exb_inputs.specs.Answers.{IsRule}
 use Rattle.exb_inputs.specs.Reading.{IsOfAudit}
 use Rattle.exb_shelf.specs.Files.{Files, SameFiles}
-use Rattle.exb_auditing.specs.Audits.{AreCaptures, AreEntries, AreLines, AreOutputs, CapturesStop, IsFoundLegal, IsSeen, JournalStops, OutputsStop, Seen, StopsAudit, TraceStops, evidence_of, legal_line}
+use Rattle.exb_auditing.specs.Audits.{AreCaptures, AreEntries, AreLines, AreOutputs, CapturesStop, IsFoundLegal, IsSeen, JournalStops, OutputsStop, Seen, StopsAudit, TraceStops, evidence_of, legal_line, most, outputs_fault}
 use Rattle.exb_shelf.specs.Shelf.{Id, IsReading, IsReadingOf, Opens}
 use Rattle.exb_shelf.proofs.IdLemmas.{opens_weaker}
-use Rattle.exb_evidence.specs.Frames.{ReadsOneOf}
+use Rattle.exb_evidence.specs.declared.frames.FramesFault.{FramesFault}
+use Rattle.exb_evidence.specs.declared.frames.FramesFault.TheVariants as frames
+use Rattle.exb_evidence.specs.declared.frames.Grammar.TheVariants.{Classic}
+use Rattle.exb_evidence.specs.declared.frames.PortFile.{PortFile}
+use Rattle.exb_evidence.specs.Frames.{IsFirstFault, IsOfPort, ReadsOneOf, records_by}
 use Rattle.exb_auditing.specs.Reads.{ReadsEvidence}
-use Rattle.exb_auditing.specs.Scopes.{Scope, capture_files, scope_of}
+use Rattle.exb_auditing.specs.Scopes.{Scope, capture_files, output_files, scope_of}
 
 reading_of : (name : List ℕ) (i : Id) → IsReadingOf name i → IsReading i
 reading_of name i reads = record { given = reads.given; reads = reads.reads }
@@ -37,6 +41,24 @@ back P f g same = subst P (fun_ext λ n. same n)
 -- what is opened first are captures
 pub opens_captures : (s : Scope) (a b : ℕ → Id) → Opens (ReadsOneOf (capture_files s.captures)) a b → Opens (ReadsEvidence s) a b
 opens_captures s a b opens = opens_weaker (ReadsOneOf (capture_files s.captures)) (ReadsEvidence s) a b (λ i reads. inl reads) opens
+
+-- and output files later
+pub opens_outputs : (s : Scope) (xs : List PortFile) (a b : ℕ → Id) → xs ≡ output_files s.tree s.prefix → Opens (ReadsOneOf xs) a b → Opens (ReadsEvidence s) a b
+opens_outputs s xs a b is opens = opens_weaker (ReadsOneOf xs) (ReadsEvidence s) a b (λ i reads. inr (inl (subst (λ (ys : List PortFile). ReadsOneOf ys i) is reads))) opens
+
+-- ---- what is wrong with output files
+pub outputs_stop : (s : Scope) (f : Files) (xs : List PortFile) (x : FramesFault) → xs ≡ output_files s.tree s.prefix → IsFirstFault (records_by Classic) f most xs x ⊎ (x ≡ frames.Read) ⊎ (x ≡ frames.Memory)
+    → OutputsStop s f (outputs_fault x) ⊎ (outputs_fault x ≡ Read) ⊎ (outputs_fault x ≡ Memory)
+outputs_stop s f xs x is (inl first) = inl (x, subst (λ (ys : List PortFile). IsFirstFault (records_by Classic) f most ys x) is first, refl)
+outputs_stop s f xs x is (inr (inl read)) = inr (inl (ap outputs_fault read))
+outputs_stop s f xs x is (inr (inr memory)) = inr (inr (ap outputs_fault memory))
+
+pub outputs_of : (x : FramesFault) → IsOfPort x → IsOfAudit (outputs_fault x)
+outputs_of frames.Memory port = tt
+outputs_of frames.Read port = tt
+outputs_of (frames.Missing name) port = tt
+outputs_of (frames.Broken p broke) port = port
+outputs_of frames.Large port = tt
 
 -- ---- what stops it, over the files at the beginning
 pub captures_cause : (s : Scope) (f : Files) (x : Fault) → CapturesStop s f x ⊎ (x ≡ Read) ⊎ (x ≡ Memory) → StopsAudit s f x ⊎ (x ≡ Read) ⊎ (x ≡ Memory)
