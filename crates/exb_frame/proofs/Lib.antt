@@ -1,1 +1,2 @@
 mod EgressLemmas
+pub mod TagLemmas
