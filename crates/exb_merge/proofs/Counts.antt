@@ -1,6 +1,6 @@
 -- What is counted where a capture can't be opened or read again, and of which port that is told.
 use Rattle.std.proofs.Common.{◌≡◌, ℕ, ◌+◌, ◌≤◌, List, [], ◌∷◌, ◌++◌, map, sym, subst, inl, inr}
-use Rattle.std.specs.Prelude.{Err}
+use Rattle.std.specs.Prelude.{Err, IsErrOf, Ok}
 use Rattle.exb_shelf.specs.Shelf.{Faults}
 use Rattle.exb_capture.specs.Counts.{after_fault, after_opening}
 use Rattle.exb_capture.specs.declared.replay.Replay.{Replay}
@@ -8,7 +8,7 @@ use Rattle.exb_capture.specs.declared.replay.ReplayFault.{ReplayFault}
 use Rattle.exb_capture.specs.declared.replay.ReplayFault.TheVariants as replay
 use Rattle.exb_merge.specs.declared.replays.Again.{Again}
 use Rattle.exb_merge.specs.declared.replays.CaptureFault.{CaptureFault}
-use Rattle.exb_merge.specs.declared.replays.CaptureFault.TheVariants.{Changed}
+use Rattle.exb_merge.specs.declared.replays.CaptureFault.TheVariants.{Changed, Memory, Read}
 use Rattle.exb_merge.specs.Counting.{CountsFault}
 use Rattle.exb_merge.specs.Replays.{HasPort, IsWithin, fault_at, standing_of}
 use Rattle.exb_merge.proofs.Seen.{IsNext}
@@ -53,3 +53,13 @@ within_of (t ∷ before) after s p at is low = inr (within_of before after s p a
 -- and the byte lies within it
 pub turn_within : (xs : List Again) (m place : ℕ) (s : Again) → IsNext xs m place s → (p at : ℕ) → p ≡ s.port → at ≤ s.replay.told.bytes + 1 → IsWithin p at xs
 turn_within xs m place s h p at is low = subst (IsWithin p at) (sym h.at.split) (within_of h.at.before h.at.after s p at (sym is) low)
+
+-- ---- an answer is no other one
+pub ok_not : {X E : Type 0} (x : X) (fault : E) → IsErrOf (Ok x) fault → ⊥
+ok_not x fault e = cc
+
+pub memory_not_changed : {X : Type 0} (p at : ℕ) → IsErrOf {T = X} (Err Memory) (Changed p at) → ⊥
+memory_not_changed p at e = cc
+
+pub memory_not_read : {X : Type 0} → IsErrOf {T = X} (Err Memory) Read → ⊥
+memory_not_read e = cc

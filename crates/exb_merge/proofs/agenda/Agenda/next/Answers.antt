@@ -3,6 +3,7 @@ use Rattle.std.proofs.lemmas.List.{length-set}
 use Rattle.exb_merge.specs.declared.agenda.NetNext.{NetNext}
 use Rattle.exb_merge.specs.declared.replays.CaptureFault.TheVariants.{Read, Changed}
 use Rattle.exb_merge.specs.NetAgendas.{turn_in}
+use Rattle.exb_merge.proofs.Counts.{ok_not}
 use Rattle.exb_merge.proofs.Moving.{no_fewer, reads_none}
 use Rattle.exb_merge.proofs.NetSteps.{apart_next, comes_next, each_next, fault_is, ids_next, no_turn, none_told, order_next, own_seated, own_told, reads_all, there}
 use Rattle.exb_merge.proofs.Turning.{ahead_of, behind_of, is_there, none_left, turns_next, whose_turn}
@@ -23,15 +24,15 @@ returns-in_default g c =
       same = refl;
       order = λ tells streams told.
           none_told (S.file c.args.shelf.now) (S.ids c.args.shelf.now) a.seats.items streams all.each told (none_left turn_in a.seats.items (c.in_default.ensures.none (map turn_in a.seats.items) all.turns));
-      never = λ tells b p at e. absurd (cc);
+      never = λ tells b p at e. absurd (ok_not _ _ e);
       ids = refl;
       reads = reads_none _ _;
       files = λ name. refl;
-      port = λ b p at e. absurd (cc);
-      place = λ b p at e. absurd (cc);
+      port = λ b p at e. absurd (ok_not _ _ e);
+      place = λ b p at e. absurd (ok_not _ _ e);
       counts = refl;
       faults = no_fewer (S.faults c.args.shelf.now);
-      failed = λ b e. absurd (cc);
+      failed = λ b e. absurd (ok_not _ _ e);
     }
 
 pub overflow_cast-bridge : goal.overflow_cast-bridge
@@ -138,15 +139,15 @@ returns-in-Some-next g c =
           let taken = rw c.in-Some-next.is at order in
           order_next ss place s h.at s' given ids coming.ids all.apart took.reads (S.file c.args.shelf.now) (S.file c.take.new.shelf) c.in-Some.field-0-0 d took.files h.next_is all.each ahead behind refl
           taken streams told);
-      never = λ tells b p at e. absurd (cc);
+      never = λ tells b p at e. absurd (ok_not _ _ e);
       ids = ids_next ss place s h.at s' given ids coming.ids;
       reads = reads_all ss place s h.at given (S.ids c.take.new.shelf) took.reads;
       files = took.files;
-      port = λ b p at e. absurd (cc);
-      place = λ b p at e. absurd (cc);
+      port = λ b p at e. absurd (ok_not _ _ e);
+      place = λ b p at e. absurd (ok_not _ _ e);
       counts = took.counts;
       faults = took.faults;
-      failed = λ b e. absurd (cc);
+      failed = λ b e. absurd (ok_not _ _ e);
     }
 
 -- what has its turn has something left

@@ -5,6 +5,7 @@ use Rattle.exb_model.specs.Input.{Captured}
 use Rattle.exb_merge.specs.declared.replays.CaptureFault.TheVariants.{Read, Changed}
 use Rattle.exb_merge.specs.Programmes.{played_with}
 use Rattle.exb_merge.specs.Streams.{to_come}
+use Rattle.exb_merge.proofs.Counts.{ok_not}
 use Rattle.exb_merge.proofs.Among.{record-next, none-left}
 use Rattle.exb_merge.proofs.Moving.{no_fewer, own_fault, reads_none}
 use Rattle.exb_merge.proofs.Programming.{captured_soonest, record_coming, record_kept, first_told, told_still, all_taken}
@@ -27,14 +28,14 @@ returns-then-comes_first g c =
           c.if-comes_first.true in
           (streams, c.take_command.ensures.order streams first, told_still files ids p.captures c.take_command.new.self.captures streams c.take_command.ensures.captures told)));
       nothing = λ tells. tt;
-      never = λ tells p at e. absurd (cc);
+      never = λ tells p at e. absurd (ok_not _ (Changed p at) e);
       reads = reads_none _ _;
       files = λ name. refl;
-      port = λ p at e. absurd (cc);
-      place = λ p at e. absurd (cc);
+      port = λ p at e. absurd (ok_not _ (Changed p at) e);
+      place = λ p at e. absurd (ok_not _ (Changed p at) e);
       counts = refl;
       faults = no_fewer (g.S.Shelf.faults c.args.shelf.now);
-      failed = λ e. absurd (cc);
+      failed = λ e. absurd (ok_not _ Read e);
     }
 
 pub returns-in-Some : goal.returns-in-Some
@@ -70,14 +71,14 @@ returns-in-Some g c =
           c.command_moment.ensures.value c.moment.ensures c.comes_first.ensures c.if-comes_first.false in
           (first.0, record-next (played_with streams p) (Captured c.in-Some.came) (to_come first.0) c.requires.programme.rising first.1 behind, first.2)));
       nothing = λ tells. tt;
-      never = λ tells p at e. absurd (cc);
+      never = λ tells p at e. absurd (ok_not _ (Changed p at) e);
       reads = c.in_ok-came.ensures.reads;
       files = c.in_ok-came.ensures.files;
-      port = λ p at e. absurd (cc);
-      place = λ p at e. absurd (cc);
+      port = λ p at e. absurd (ok_not _ (Changed p at) e);
+      place = λ p at e. absurd (ok_not _ (Changed p at) e);
       counts = c.in_ok-came.ensures.counts;
       faults = c.in_ok-came.ensures.faults;
-      failed = λ e. absurd (cc);
+      failed = λ e. absurd (ok_not _ Read e);
     }
 
 pub returns-in-None : goal.returns-in-None
@@ -109,14 +110,14 @@ returns-in-None g c =
           let behind = first_told (S.file c.args.shelf.now) (S.ids c.args.shelf.now) p streams c.command_moment.result c.moment.result c.comes_first.result false c.requires.programme told
           c.command_moment.ensures.value c.moment.ensures c.comes_first.ensures c.if-comes_first.false in
           none-left (played_with streams p) none behind));
-      never = λ tells p at e. absurd (cc);
+      never = λ tells p at e. absurd (ok_not _ (Changed p at) e);
       reads = c.in_ok-came.ensures.reads;
       files = c.in_ok-came.ensures.files;
-      port = λ p at e. absurd (cc);
-      place = λ p at e. absurd (cc);
+      port = λ p at e. absurd (ok_not _ (Changed p at) e);
+      place = λ p at e. absurd (ok_not _ (Changed p at) e);
       counts = c.in_ok-came.ensures.counts;
       faults = c.in_ok-came.ensures.faults;
-      failed = λ e. absurd (cc);
+      failed = λ e. absurd (ok_not _ Read e);
     }
 
 pub returns-in_err-came : goal.returns-in_err-came

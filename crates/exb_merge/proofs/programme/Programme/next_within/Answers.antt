@@ -1,5 +1,6 @@
 use Rattle.std.proofs.Common.{refl, ap, sym, ◌∙◌}
 use Rattle.exb_merge.specs.Agendas.{is_of}
+use Rattle.exb_merge.proofs.Counts.{ok_not}
 use Rattle.exb_merge.proofs.Moving.{no_fewer, reads_none}
 use Rattle.exb_merge.proofs.Programming.{within_second, some_within, soonest_told}
 use Rattle.exb_merge.proofs.programme.Programme.next_within.Goals as goal
@@ -38,12 +39,12 @@ returns-else-is_of g c =
           (let S = g.S.Shelf in
           let moment = soonest_told (S.file c.args.shelf.now) (S.ids c.args.shelf.now) c.args.self.now streams c.next_moment.result c.requires.programme told c.next_moment.ensures in
           ap (λ o. is_of o c.args.second) (sym moment) ∙ sym c.is_of.ensures ∙ c.if-is_of.false));
-      never = λ tells p at e. absurd (cc);
+      never = λ tells p at e. absurd (ok_not _ _ e);
       reads = reads_none _ _;
       files = λ name. refl;
-      port = λ p at e. absurd (cc);
-      place = λ p at e. absurd (cc);
+      port = λ p at e. absurd (ok_not _ _ e);
+      place = λ p at e. absurd (ok_not _ _ e);
       counts = refl;
       faults = no_fewer (g.S.Shelf.faults c.args.shelf.now);
-      failed = λ e. absurd (cc);
+      failed = λ e. absurd (ok_not _ _ e);
     }

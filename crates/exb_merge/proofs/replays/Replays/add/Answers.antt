@@ -12,7 +12,7 @@ use Rattle.exb_merge.specs.Replays.{Apart, AreReplays, IsOpened, next_in}
 use Rattle.exb_merge.specs.Streams.{stream_of}
 use Rattle.exb_merge.specs.Turns.{AreTurns}
 use Rattle.exb_merge.proofs.Adding.{apart_new, each_more, fine, ids_more, left_first, left_most, one_more, opened_first, replay_first, replays_more, since_more, standings_more, when_ok}
-use Rattle.exb_merge.proofs.Counts.{not_opened, not_read, port_at}
+use Rattle.exb_merge.proofs.Counts.{not_opened, not_read, ok_not, port_at}
 use Rattle.exb_merge.proofs.Moving.{changed_at, files_then, own_fault, read_is}
 use Rattle.exb_merge.proofs.Seen.{small_next}
 use Rattle.exb_merge.proofs.Told.{replaying_opened}
@@ -124,7 +124,7 @@ returns g c =
           let all = replays_more given (S.ids c.open.new.shelf) ids xs s c.args.name.now opened.file.id c.in-Ok.ensures.new c.open.ensures.opened c.ahead.ensures.moves c.requires.opened.each
           (S.file c.args.shelf.now) (S.file c.open.new.shelf) (S.file c.ahead.new.shelf) streams (stream_of c.args.port records) c.open.ensures.files c.ahead.ensures.files own t in
           subst (λ ss. AreReplays (S.file c.ahead.new.shelf) ids ss (streams ++ stream_of c.args.port records ∷ [])) (sym items) all);
-      never = λ tells p at e bytes records there whole told. absurd (cc);
+      never = λ tells p at e bytes records there whole told. absurd (ok_not _ _ e);
       id = (
           let xs = c.args.self.now.sources.items in
           let s : Again = one_more c.args.port c.args.told c.in-Ok.replay c.ahead.new.self c.in-Ok-ahead.next c.in-Ok.ensures.told.0 c.in-Ok.ensures.begun c.ahead.ensures.same in
@@ -133,11 +133,11 @@ returns g c =
       opens = opens_on c.args.name.now (g.S.Shelf.ids c.args.shelf.now) (g.S.Shelf.ids c.open.new.shelf) (g.S.Shelf.ids c.ahead.new.shelf) c.in-Ok.replay.file.id c.in-Ok.ensures.new c.in-Ok.ensures.id
           c.open.ensures.opened c.ahead.ensures.moves;
       files = files_then (g.S.Shelf.file c.args.shelf.now) (g.S.Shelf.file c.open.new.shelf) (g.S.Shelf.file c.ahead.new.shelf) c.open.ensures.files c.ahead.ensures.files;
-      port_is = λ p at e. absurd (cc);
-      place = λ p at e. absurd (cc);
+      port_is = λ p at e. absurd (ok_not _ _ e);
+      place = λ p at e. absurd (ok_not _ _ e);
       counts = c.in-Ok-ahead.ensures.counts ∙ c.in-Ok.ensures.counts;
       faults = fewer_then (g.S.Shelf.faults c.args.shelf.now) (g.S.Shelf.faults c.open.new.shelf) (g.S.Shelf.faults c.ahead.new.shelf) c.open.ensures.faults c.ahead.ensures.faults;
-      failed = λ e. absurd (cc);
+      failed = λ e. absurd (ok_not _ _ e);
     }
 
 pub returns-in-Err : goal.returns-in-Err

@@ -6,7 +6,7 @@ use Rattle.exb_merge.specs.declared.replays.Again.{Again}
 use Rattle.exb_model.specs.declared.arrival.Arrival.{Arrival}
 use Rattle.exb_merge.specs.Replays.{IsOpened, next_in}
 use Rattle.exb_merge.specs.declared.replays.CaptureFault.TheVariants.{Read, Changed}
-use Rattle.exb_merge.proofs.Counts.{not_read, port_at, turn_port, turn_within}
+use Rattle.exb_merge.proofs.Counts.{memory_not_changed, memory_not_read, not_read, ok_not, port_at, turn_port, turn_within}
 use Rattle.exb_merge.proofs.Moving.{changed_at, no_fewer, opened_next, own_fault, read_is, reads_none, rises_next}
 use Rattle.exb_merge.proofs.Playing.{at_taken, has_rest, moves_taken, next_apart, next_come, next_each, next_earliest, next_ids, next_left, next_reads, next_rises, next_since, order_next}
 use Rattle.exb_merge.proofs.Seen.{own_comes, own_of, small_next, whose_turn}
@@ -33,15 +33,15 @@ returns-in_default g c =
       end = none;
       same = refl;
       order = λ tells streams told. none_told (S.file c.args.shelf.now) (S.ids c.args.shelf.now) xs streams c.requires.opened.each told none;
-      never = λ tells p at e. absurd (cc);
+      never = λ tells p at e. absurd (ok_not _ (Changed p at) e);
       ids = refl;
       reads = reads_none _ _;
       files = λ name. refl;
-      port = λ p at e. absurd (cc);
-      place = λ p at e. absurd (cc);
+      port = λ p at e. absurd (ok_not _ (Changed p at) e);
+      place = λ p at e. absurd (ok_not _ (Changed p at) e);
       counts = refl;
       faults = no_fewer (g.S.Shelf.faults c.args.shelf.now);
-      failed = λ e. absurd (cc);
+      failed = λ e. absurd (ok_not _ Read e);
     }
 
 pub index_mut-source-requires : goal.index_mut-source-requires
@@ -104,15 +104,15 @@ returns-in-Err g c =
       end = tt;
       same = tt;
       order = λ tells. tt;
-      never = λ tells p at e. absurd (cc);
+      never = λ tells p at e. absurd (memory_not_changed p at e);
       ids = tt;
       reads = reads_none _ _;
       files = λ name. refl;
-      port = λ p at e. absurd (cc);
-      place = λ p at e. absurd (cc);
+      port = λ p at e. absurd (memory_not_changed p at e);
+      place = λ p at e. absurd (memory_not_changed p at e);
       counts = refl;
       faults = no_fewer (g.S.Shelf.faults c.args.shelf.now);
-      failed = λ e. absurd (cc);
+      failed = λ e. absurd (memory_not_read e);
     }
 
 pub returns-in-Err-ahead : goal.returns-in-Err-ahead
@@ -217,13 +217,13 @@ returns g c =
           c.in-Ok-ahead.next came streams c.requires.opened.apart first refl refl refl refl (omega (arith)) least
           (at_taken given s taken c.take.ensures.same c.take.ensures.got own.at) c.ahead.ensures.moves c.ahead.ensures.files c.ahead.ensures.same (c.in-Ok-ahead.ensures.given tells)
           (c.in-Ok-ahead.ensures.end tells) told t);
-      never = λ tells p at e. absurd (cc);
+      never = λ tells p at e. absurd (ok_not _ (Changed p at) e);
       ids = next_ids xs m place s s' h id;
       reads = next_reads xs m place s h given ids moves;
       files = c.ahead.ensures.files;
-      port = λ p at e. absurd (cc);
-      place = λ p at e. absurd (cc);
+      port = λ p at e. absurd (ok_not _ (Changed p at) e);
+      place = λ p at e. absurd (ok_not _ (Changed p at) e);
       counts = c.in-Ok-ahead.ensures.counts;
       faults = c.ahead.ensures.faults;
-      failed = λ e. absurd (cc);
+      failed = λ e. absurd (ok_not _ Read e);
     }
