@@ -1,12 +1,15 @@
 -- What reading counts, one call after the other.
 use Rattle.std.proofs.Common.{◌≡◌, ◌∙◌, ℕ, Result, Ok, Err, ap, arith, sym, subst}
 use Rattle.std.specs.Prelude.{IfErr}
-use Rattle.exb_shelf.specs.Counting.{one_more}
+use Rattle.exb_shelf.specs.Counting.{after_open, one_more}
+use Rattle.exb_shelf.specs.declared.shelf.OpenFault.{OpenFault}
+use Rattle.exb_shelf.specs.declared.shelf.OpenFault.TheVariants as opening
 use Rattle.exb_shelf.specs.Shelf.{Faults, NoFewer, Rose}
 use Rattle.exb_evidence.specs.declared.frames.FramesFault.{FramesFault}
 use Rattle.exb_evidence.specs.declared.frames.FramesFault.TheVariants as frames
 use Rattle.exb_evidence.specs.declared.texts.LinesFault.{LinesFault}
 use Rattle.exb_evidence.specs.declared.texts.LinesFault.TheVariants as lines
+use Rattle.exb_evidence.specs.Feeding.{unopened}
 use Rattle.exb_evidence.specs.Frames.{CountsFrame, CountsFrames, CountsFramesOnce}
 use Rattle.exb_evidence.specs.Lines.{CountsLines, after_lines, after_lines_fault}
 
@@ -47,3 +50,8 @@ lines_from x a b c fewer same is = counted_lines (Err x) a c fewer (is ∙ ap (a
 pub finish_counts : {X : Type 0} (P : ℕ → Type 0) (result : Result X LinesFault) (a b : Faults) → NoFewer a b → b ≡ a → IfErr result (λ fault. (n : ℕ) × (fault ≡ lines.Bad n) × P n) → CountsLines result a b
 finish_counts P (Ok x) a b fewer same bad = counted_lines (Ok x) a b fewer same
 finish_counts P (Err x) a b fewer same (n, is, told) = counted_lines (Err x) a b fewer (same ∙ ap (λ (y : LinesFault). after_lines_fault y a) (sym is))
+
+pub unopened_counts : {X : Type 0} (fault : OpenFault) (a b : Faults) → NoFewer a b → b ≡ after_open {X = ℕ} (Err fault) a → CountsLines {X = X} (Err (unopened fault)) a b
+unopened_counts opening.Missing a b fewer is = counted_lines (Err lines.Missing) a b fewer is
+unopened_counts opening.Failed a b fewer is = counted_lines (Err lines.Read) a b fewer is
+unopened_counts opening.Memory a b fewer is = counted_lines (Err lines.Memory) a b fewer is

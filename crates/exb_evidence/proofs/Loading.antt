@@ -1,12 +1,18 @@
 -- A text on a shelf that is read piece by piece.
-use Rattle.std.proofs.Common.{◌≡◌, ◌≤◌, ◌+◌, ℕ, false, List, [], ◌++◌, length, take, drop, Option, Some, None, refl, ap, sym, subst, inl, inr, ◌∙◌, arith, take-add, length-take}
-use Rattle.std.specs.Prelude.{◌⊎◌, IsSome}
+use Rattle.std.proofs.Common.{◌≡◌, ◌<◌, ◌≤◌, ◌+◌, ◌^◌, ℕ, false, List, [], ◌++◌, length, take, drop, Option, Some, None, Result, Ok, Err, refl, ap, sym, subst, inl, inr, ◌∙◌, arith, take-add, length-take}
+use Rattle.std.specs.Prelude.{◌⊎◌, IfErr, IfOk, IsErrOf, IsSome, Vec}
+use Rattle.std.specs.declared.alloc.Global.{Global}
 use Rattle.std.proofs.lemmas.Bool.{cases_lt}
 use Rattle.std.proofs.lemmas.List.{length-drop, length-take-le, take_all}
+use Rattle.exb_shelf.specs.declared.shelf.OpenFault.{OpenFault}
+use Rattle.exb_shelf.specs.declared.shelf.OpenFault.TheVariants as opening
 use Rattle.exb_shelf.specs.Files.{Files, SameFiles, bytes_of}
 use Rattle.exb_shelf.specs.Shelf.{Id, reading}
 use Rattle.exb_evidence.specs.declared.lines.Lines.{Lines}
-use Rattle.exb_evidence.specs.Feeding.{HasCut, HasCutBy, CutsOn, IsOneLine}
+use Rattle.exb_evidence.specs.declared.texts.LinesFault.{LinesFault}
+use Rattle.exb_evidence.specs.declared.texts.LinesFault.TheVariants.{Memory, Read, Bad}
+use Rattle.exb_evidence.specs.Feeding.{HasCut, HasCutBy, CutsOn, IsOneLine, unopened}
+use Rattle.exb_evidence.specs.Lines.{AreLines, FirstBadLine, HoldsLines, IsLinesFault}
 use Rattle.std.proofs.lemmas.List.Elements.{All-nil}
 
 pub there_whole : (o : Option (List ℕ)) → IsSome o → o ≡ Some (bytes_of o)
@@ -47,8 +53,38 @@ within_on f g i name got n e same had (inl h) = subst (λ (o : Option (List ℕ)
 within_on f g i name got n e same had (inr z) = omega (arith, had, z)
 
 -- the whole text
-pub all_read_on : (f g : Files) (i : Id) (name : List ℕ) (got : ℕ) → i ≡ reading name got → SameFiles f g → drop i.place (bytes_of (g i.name)) ≡ [] → take (got + 0) (bytes_of (f name)) ≡ bytes_of (f name)
-all_read_on f g i name got e same none =
+left_none : (f g : Files) (i : Id) (name : List ℕ) (got : ℕ) → i ≡ reading name got → SameFiles f g → drop i.place (bytes_of (g i.name)) ≡ [] → drop got (bytes_of (f name)) ≡ []
+left_none f g i name got e same none = sym (ap (λ (x : Id). drop x.place (bytes_of (g x.name))) e ∙ ap (λ (o : Option (List ℕ)). drop got (bytes_of o)) (same name)) ∙ none
+
+pub within_whole : (f g : Files) (i : Id) (name : List ℕ) (got : ℕ) → i ≡ reading name got → SameFiles f g → drop i.place (bytes_of (g i.name)) ≡ [] → length (bytes_of (f name)) ≤ got
+within_whole f g i name got e same none = omega (arith, ap length (left_none f g i name got e same none), length-drop got (bytes_of (f name)))
+
+pub cut_whole : {A : Type 0} (read : List ℕ → Option A) (old new : Lines A) (f g : Files) (i : Id) (name : List ℕ) (got n : ℕ) → i ≡ reading name got → SameFiles f g → HasCut read (take got (bytes_of (f name))) old
+    → CutsOn read old new (take n (drop i.place (bytes_of (g i.name)))) → drop i.place (bytes_of (g i.name)) ≡ [] → HasCut read (bytes_of (f name)) new
+cut_whole read old new f g i name got n e same had on none =
     let bytes : List ℕ = bytes_of (f name) in
-    let left : drop got bytes ≡ [] = sym (ap (λ (x : Id). drop x.place (bytes_of (g x.name))) e ∙ ap (λ (o : Option (List ℕ)). drop got (bytes_of o)) (same name)) ∙ none in
-    take_all (got + 0) bytes (omega (arith, ap length left, length-drop got bytes))
+    let all : take (got + n) bytes ≡ bytes = take_all (got + n) bytes (omega (arith, within_whole f g i name got e same none)) in
+    subst (λ (t : List ℕ). HasCut read t new) all (cut_on read old new f g i name got n e same had on)
+
+-- ---- what is answered
+abbrev Answer : Type 0 → Type 0
+Answer A = Result (Vec A Global) LinesFault
+
+pub lines_held : {A : Type 0} (read : List ℕ → Option A) (limit : ℕ) (file : Option (List ℕ)) (s : Lines A) (result : Answer A) → file ≡ Some (bytes_of file) → length (bytes_of file) ≤ limit
+    → HasCut read (bytes_of file) s → IfOk result (λ lines. (text : List ℕ) → HasCut read text s → AreLines read text lines.items) → IfOk result (λ lines. HoldsLines (AreLines read) limit file lines.items)
+lines_held read limit file s (Ok lines) there small cut are = record { text = bytes_of file; there = there; small = small; gives = are (bytes_of file) cut }
+lines_held read limit file s (Err fault) there small cut are = tt
+
+pub lines_refused : {A : Type 0} (read : List ℕ → Option A) (limit : ℕ) (file : Option (List ℕ)) (s : Lines A) (result : Answer A) → file ≡ Some (bytes_of file) → length (bytes_of file) ≤ limit → limit < 2 ^ 33
+    → HasCut read (bytes_of file) s
+    → IfErr result (λ fault. (number : ℕ) × (fault ≡ Bad number) × ((text : List ℕ) → length text < 2 ^ 33 → HasCut read text s → FirstBadLine read text number))
+    → IfErr result (λ fault. IsLinesFault read limit file fault ⊎ (fault ≡ Read) ⊎ (fault ≡ Memory))
+lines_refused read limit file s (Ok lines) there small low cut bad = tt
+lines_refused read limit file s (Err fault) there small low cut (number, is, bad) =
+    inl (subst (λ (f : LinesFault). IsLinesFault read limit file f) (sym is) (bytes_of file, there, small, bad (bytes_of file) (omega (arith, small, low)) cut))
+
+pub unopened_told : {A : Type 0} (read : List ℕ → Option A) (limit : ℕ) (file : Option (List ℕ)) (fault : OpenFault) → (IsErrOf {T = ℕ} (Err fault) opening.Missing → file ≡ None)
+    → IsLinesFault read limit file (unopened fault) ⊎ (unopened fault ≡ Read) ⊎ (unopened fault ≡ Memory)
+unopened_told read limit file opening.Missing none = inl (none refl)
+unopened_told read limit file opening.Failed none = inr (inl refl)
+unopened_told read limit file opening.Memory none = inr (inr refl)
