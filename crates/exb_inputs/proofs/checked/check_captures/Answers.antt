@@ -14,7 +14,7 @@ use Rattle.exb_inputs.proofs.Asking.{none_or_some, some_once}
 use Rattle.exb_inputs.proofs.EndingAt.{ends_at, opened_any, opened_higher, opened_next}
 use Rattle.exb_inputs.proofs.FaultLemmas.{all_more}
 use Rattle.exb_inputs.proofs.Passing.{passed_none, passed_here, passed_not}
-use Rattle.exb_inputs.proofs.ShelvingLemmas.{counts_as, counts_from, counts_memory, each_next, each_none}
+use Rattle.exb_inputs.proofs.ShelvingLemmas.{counts_as, counts_from, counts_memory, counts_ok, each_next, each_none}
 use Rattle.exb_inputs.proofs.checked.check_captures.Goals as goal
 
 pub checking-init : goal.checking-init
@@ -52,8 +52,9 @@ checking-preserved-in_default g c =
       same = inv.same;
     }
 
-pub returns-in_err-one-clause-flaw : goal.returns-in_err-one-clause-flaw
-returns-in_err-one-clause-flaw g c t =
+-- a capture has a fault
+pub returns-in_err-one : goal.returns-in_err-one
+returns-in_err-one g c =
     let S = g.S.Shelf in
     let inv = c.checking.invariant in
     let p = c.checking.number in
@@ -61,22 +62,55 @@ returns-in_err-one-clause-flaw g c t =
     let f = S.file c.args.shelf.now in
     let name = c.in-Some.name.now in
     let x = c.in_err-one.field-0.0 in
+    let stop = c.in_err-one.ensures in
     let is = c.port_of-port.ensures in
     let named : name_of names p ≡ Some name = ap (name_of names) (sym is) ∙ c.in-Some.ensures.found in
     let made = err_from_is_err_and c.from_residual.result c.from_residual.ensures.1 in
-    rw (made.1, made.2) (elim (c.in_err-one.ensures.flaw t) [
-      | inl flaw ↦ inl (
-        p,
-        record {
-          port = omega arith;
-          before = inv.good t;
-          here =
-              subst (λ (n : Option (List ℕ)). HasFaultNamed p n f x) (sym named)
-              (subst (λ (o : Option (List ℕ)). HasFault p name o x) (inv.files name) (subst (λ (q : ℕ). HasFault q name (S.file c.checking.shelf name) x) is flaw));
-        },
-      )
-      | inr other ↦ inr other
-    ])
+    rw (made.1, made.2) (record {
+      checked = tt;
+      good = λ t. tt;
+      flaw = λ t. elim (stop.flaw t) [
+        | inl flaw ↦ inl (
+          p,
+          record {
+            port = omega arith;
+            before = inv.good t;
+            here =
+                subst (λ (n : Option (List ℕ)). HasFaultNamed p n f x) (sym named)
+                (subst (λ (o : Option (List ℕ)). HasFault p name o x) (inv.files name) (subst (λ (q : ℕ). HasFault q name (S.file c.checking.shelf name) x) is flaw));
+          },
+        )
+        | inr other ↦ inr other
+      ];
+      causes = stop.causes;
+      ends = ends_at S.tells names f p name _ _ _ x named inv.opened stop.opened inv.good (λ q flaw e. stop.own q flaw e ∙ is);
+      each = tt;
+      opened = opened_any names (p + 1) _ _ (opened_next names p name _ _ _ named inv.opened stop.opened);
+      files = λ m. stop.files m ∙ inv.files m;
+      faults = counts_from _ _ _ _ inv.same (counts_as x _ _ stop.faults);
+    })
+
+-- there is no memory for what was told of it
+pub returns-then-is_err : goal.returns-then-is_err
+returns-then-is_err g c =
+    let S = g.S.Shelf in
+    let inv = c.checking.invariant in
+    let p = c.checking.number in
+    let names = c.args.names.now in
+    let name = c.in-Some.name.now in
+    let one = c.in_ok-one.ensures in
+    let named : name_of names p ≡ Some name = ap (name_of names) (sym c.port_of-port.ensures) ∙ c.in-Some.ensures.found in
+    record {
+      checked = tt;
+      good = λ t. tt;
+      flaw = λ t. inr (inr refl);
+      causes = tt;
+      ends = ends_at S.tells names (S.file c.args.shelf.now) p name _ _ _ Memory named inv.opened one.opened inv.good (λ q flaw e. absurd (cc));
+      each = tt;
+      opened = opened_any names (p + 1) _ _ (opened_next names p name _ _ _ named inv.opened one.opened);
+      files = λ m. one.files m ∙ inv.files m;
+      faults = counts_memory _ _ (one.faults.once ∙ inv.same);
+    }
 
 pub checking-preserved : goal.checking-preserved
 checking-preserved g c =
@@ -108,40 +142,25 @@ checking-preserved g c =
       same = c.in_ok-one.ensures.faults.once ∙ inv.same;
     }
 
-pub returns-in_err-one-clause-opened : goal.returns-in_err-one-clause-opened
-returns-in_err-one-clause-opened g c =
+-- all are good
+pub returns : goal.returns
+returns g c =
     let inv = c.checking.invariant in
     let names = c.args.names.now in
-    let p = c.checking.number in
-    let named : name_of names p ≡ Some c.in-Some.name.now = ap (name_of names) (sym c.port_of-port.ensures) ∙ c.in-Some.ensures.found in
-    opened_any names (p + 1) _ _ (opened_next names p c.in-Some.name.now _ _ _ named inv.opened c.in_err-one.ensures.opened)
-
-pub returns-in_err-one-clause-ends : goal.returns-in_err-one-clause-ends
-returns-in_err-one-clause-ends g c =
-    let S = g.S.Shelf in
-    let inv = c.checking.invariant in
-    let names = c.args.names.now in
-    let p = c.checking.number in
-    let x = c.in_err-one.field-0.0 in
-    let named : name_of names p ≡ Some c.in-Some.name.now = ap (name_of names) (sym c.port_of-port.ensures) ∙ c.in-Some.ensures.found in
-    let made = err_from_is_err_and c.from_residual.result c.from_residual.ensures.1 in
-    rw (made.1, made.2) (ends_at S.tells names (S.file c.args.shelf.now) p c.in-Some.name.now _ _ _ x named inv.opened c.in_err-one.ensures.opened inv.good
-    (λ q flaw e. c.in_err-one.ensures.own q flaw e ∙ c.port_of-port.ensures))
-
-pub returns-then-is_err-clause-ends : goal.returns-then-is_err-clause-ends
-returns-then-is_err-clause-ends g c =
-    let S = g.S.Shelf in
-    let inv = c.checking.invariant in
-    let names = c.args.names.now in
-    let p = c.checking.number in
-    let named : name_of names p ≡ Some c.in-Some.name.now = ap (name_of names) (sym c.port_of-port.ensures) ∙ c.in-Some.ensures.found in
-    ends_at S.tells names (S.file c.args.shelf.now) p c.in-Some.name.now _ _ _ Memory named inv.opened c.in_ok-one.ensures.opened inv.good (λ q flaw e. absurd (cc))
-
--- ---- what was counted
-pub returns-in_err-one-clause-faults : goal.returns-in_err-one-clause-faults
-returns-in_err-one-clause-faults g c =
-    let made = err_from_is_err_and c.from_residual.result c.from_residual.ensures.1 in
-    rw (made.1, made.2) (counts_from _ _ _ _ c.checking.invariant.same (counts_as c.in_err-one.field-0.0 _ _ c.in_err-one.ensures.faults))
-
-pub returns-then-is_err-clause-faults : goal.returns-then-is_err-clause-faults
-returns-then-is_err-clause-faults g c = counts_memory _ _ (c.in_ok-one.ensures.faults.once ∙ c.checking.invariant.same)
+    let all : c.checking.number ≡ 4160 = omega (arith, c.checking-test.false, c.checking.auto.number-end) in
+    record {
+      checked = record {
+        ports = inv.ports ∙ ap (λ n. filter (is_named names) (below n)) all;
+        small = inv.small;
+        in_time = inv.in_time;
+        told = inv.told;
+      };
+      good = λ t q low. inv.good t q (omega (arith, low, all));
+      flaw = λ t. tt;
+      causes = tt;
+      ends = tt;
+      each = λ q name low. inv.each q name (omega (arith, low, all));
+      opened = opened_any names c.checking.number _ _ inv.opened;
+      files = inv.files;
+      faults = counts_ok c.checking.checked _ _ inv.same;
+    }
