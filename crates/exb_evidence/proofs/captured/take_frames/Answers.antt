@@ -1,34 +1,80 @@
-use Rattle.std.proofs.Common.{rules, ◌≡◌, ◌++◌, ◌∷◌, [], ℕ, List, Option, sym, subst, ap, ◌∙◌}
+use Rattle.std.proofs.Common.{rules, Err, ◌≡◌, ◌++◌, ◌∷◌, [], ℕ, List, Option, sym, subst, ap, ◌∙◌, arith}
 use Rattle.std.specs.Prelude.{IfSome, IfNone}
 use Rattle.std.proofs.lemmas.Result.{err_from_is_err_and}
 use Rattle.exb_model.specs.Input.{Record}
 use Rattle.exb_shelf.specs.Files.{bytes_of}
+use Rattle.exb_shelf.specs.Shelf.{Faults, Rose}
 use Rattle.exb_capture.specs.Counts.{after_halt}
+use Rattle.exb_capture.specs.declared.file.Halt.{Halt}
+use Rattle.exb_capture.specs.declared.file.Halt.TheVariants.{Failed}
 use Rattle.exb_capture.specs.Reading.{IsAt, IsWhole, HasRead, HaltsBy, ComesNext}
 use Rattle.exb_capture.proofs.Looking.{kept_bytes, moves_then, fewer_then}
 use Rattle.exb_evidence.proofs.Taking.{all_taken, one_taken}
 use Rattle.exb_evidence.proofs.captured.take_frames.Goals as goal
 
-pub returns-in_err-ahead-clause-halts : goal.returns-in_err-ahead-clause-halts
-returns-in_err-ahead-clause-halts g c =
+-- the file isn't read on
+pub returns-in_err-ahead : goal.returns-in_err-ahead
+returns-in_err-ahead g c =
     let p = err_from_is_err_and c.from_residual.result c.from_residual.ensures.1 in
     let S = g.S.Shelf in
     let inv = c.records.invariant in
     let f = c.records.file in
     let halt = c.in_err-ahead.field-0.0 in
+    let on = c.in_err-ahead.ensures in
     let bytes = bytes_of (S.file c.args.shelf.now (S.ids c.args.shelf.now c.args.file.now.id).name) in
     let same = kept_bytes (S.file c.args.shelf.now) (S.file c.records.shelf) (S.ids c.args.shelf.now) (S.ids c.records.shelf) c.args.file.now.id f.id c.args.file.now.got c.requires.at inv.moves inv.files inv.same.id in
-    rw (p.1, p.2)
-    (λ tells h.
-    let taken = inv.taken tells h in
-    subst (λ (n : ℕ). HaltsBy bytes n halt) inv.same.limit_is
-    (subst (λ (b : List ℕ). HaltsBy b f.limit halt) same
-    (c.in_err-ahead.ensures.halts tells taken.taken (subst (λ (b : List ℕ). HasRead b taken.taken f) (sym same) taken.read))))
+    rw (p.1, p.2) (record {
+      whole = λ tells. tt;
+      halts = λ tells h.
+          let taken = inv.taken tells h in
+          subst (λ (n : ℕ). HaltsBy bytes n halt) inv.same.limit_is
+          (subst (λ (b : List ℕ). HaltsBy b f.limit halt) same
+          (on.halts tells taken.taken (subst (λ (b : List ℕ). HasRead b taken.taken f) (sym same) taken.read)));
+      bytes = tt;
+      moves = moves_then c.args.file.now.id f.id (S.ids c.args.shelf.now) (S.ids c.records.shelf) (S.ids c.ahead.new.shelf) inv.moves on.moves inv.same.id;
+      files = λ n. on.files n ∙ inv.files n;
+      counts = on.counts ∙ ap (after_halt halt) inv.counted;
+      faults = fewer_then (S.faults c.args.shelf.now) (S.faults c.records.shelf) (S.faults c.ahead.new.shelf) inv.faults on.faults;
+      failed = λ why.
+          let is : halt ≡ Failed = cc in
+          subst (λ (k : Faults). Rose k.reads (S.faults c.ahead.new.shelf).reads) inv.counted (on.failed (ap (λ (h : Halt). Err h) is));
+    })
 
-pub returns-in_err-ahead-clause-counts : goal.returns-in_err-ahead-clause-counts
-returns-in_err-ahead-clause-counts g c =
-    let p = err_from_is_err_and c.from_residual.result c.from_residual.ensures.1 in
-    rw (p.1, p.2) (c.in_err-ahead.ensures.counts ∙ ap (after_halt c.in_err-ahead.field-0.0) c.records.invariant.counted)
+-- there is no memory for a frame
+pub returns-in_default-take : goal.returns-in_default-take
+returns-in_default-take g c =
+    let S = g.S.Shelf in
+    let inv = c.records.invariant in
+    let f = c.records.file in
+    let on = c.in_ok-ahead.ensures in
+    record {
+      whole = λ tells. tt;
+      halts = λ tells h. tt;
+      bytes = tt;
+      moves = moves_then c.args.file.now.id f.id (S.ids c.args.shelf.now) (S.ids c.records.shelf) (S.ids c.ahead.new.shelf) inv.moves on.moves inv.same.id;
+      files = λ n. on.files n ∙ inv.files n;
+      counts = on.counts ∙ inv.counted;
+      faults = fewer_then (S.faults c.args.shelf.now) (S.faults c.records.shelf) (S.faults c.ahead.new.shelf) inv.faults on.faults;
+      failed = λ other. absurd (cc);
+    }
+
+-- there is none to keep it
+pub returns-then-is_err : goal.returns-then-is_err
+returns-then-is_err g c =
+    let S = g.S.Shelf in
+    let inv = c.records.invariant in
+    let f = c.records.file in
+    let on = c.in_ok-ahead.ensures in
+    record {
+      whole = λ tells. tt;
+      halts = λ tells h. tt;
+      bytes = tt;
+      moves = moves_then c.args.file.now.id f.id (S.ids c.args.shelf.now) (S.ids c.records.shelf) (S.ids c.ahead.new.shelf) inv.moves on.moves inv.same.id;
+      files = λ n. on.files n ∙ inv.files n;
+      counts = on.counts ∙ inv.counted;
+      faults = fewer_then (S.faults c.args.shelf.now) (S.faults c.records.shelf) (S.faults c.ahead.new.shelf) inv.faults on.faults;
+      failed = λ other. absurd (cc);
+    }
 
 pub records-preserved : goal.records-preserved
 records-preserved g c =
@@ -69,18 +115,31 @@ records-preserved g c =
       counted = found.counts ∙ inv.counted;
     }
 
-pub returns-clause-whole : goal.returns-clause-whole
-returns-clause-whole g c = λ tells h.
+-- all frames were taken
+pub returns : goal.returns
+returns g c =
     let S = g.S.Shelf in
     let inv = c.records.invariant in
     let f = c.records.file in
     let seen = c.ahead.new.self in
+    let on = c.in_ok-ahead.ensures in
     let bytes = bytes_of (S.file c.args.shelf.now (S.ids c.args.shelf.now c.args.file.now.id).name) in
     let there = bytes_of (S.file c.records.shelf (S.ids c.records.shelf f.id).name) in
     let same = kept_bytes (S.file c.args.shelf.now) (S.file c.records.shelf) (S.ids c.args.shelf.now) (S.ids c.records.shelf) c.args.file.now.id f.id c.args.file.now.got c.requires.at inv.moves inv.files inv.same.id in
-    let taken = inv.taken tells h in
-    let ends =
-    subst (λ (o : Option ℕ). IfNone o ((xs : List Record) → HasRead there xs f → IsWhole there xs seen)) c.in_default.is (c.in_ok-ahead.ensures.end tells) in
-    all_taken bytes f seen (record { frames = c.records.frames; bytes = c.got.result }) c.args.file.now.limit taken
-    (subst (λ (b : List ℕ). IsWhole b taken.taken seen) same (ends taken.taken (subst (λ (b : List ℕ). HasRead b taken.taken f) (sym same) taken.read)))
-    c.got.ensures (c.ahead.ensures.same.limit_is ∙ inv.same.limit_is)
+    let limit = on.same.limit_is ∙ inv.same.limit_is in
+    record {
+      whole = λ tells h.
+          let taken = inv.taken tells h in
+          let ends =
+          subst (λ (o : Option ℕ). IfNone o ((xs : List Record) → HasRead there xs f → IsWhole there xs seen)) c.in_default.is (on.end tells) in
+          all_taken bytes f seen (record { frames = c.records.frames; bytes = c.got.result }) c.args.file.now.limit taken
+          (subst (λ (b : List ℕ). IsWhole b taken.taken seen) same (ends taken.taken (subst (λ (b : List ℕ). HasRead b taken.taken f) (sym same) taken.read)))
+          c.got.ensures limit;
+      halts = λ tells. tt;
+      bytes = omega (arith, c.got.ensures, limit, on.sound.fits);
+      moves = moves_then c.args.file.now.id f.id (S.ids c.args.shelf.now) (S.ids c.records.shelf) (S.ids c.ahead.new.shelf) inv.moves on.moves inv.same.id;
+      files = λ n. on.files n ∙ inv.files n;
+      counts = on.counts ∙ inv.counted;
+      faults = fewer_then (S.faults c.args.shelf.now) (S.faults c.records.shelf) (S.faults c.ahead.new.shelf) inv.faults on.faults;
+      failed = λ other. absurd (cc);
+    }
