@@ -1,19 +1,24 @@
-use Rattle.std.proofs.Common.{rules, ◌≡◌, ◌+◌, ◌-◌, ◌++◌, ◌∷◌, [], ◌∙◌, inl, inr, ℕ, List, Option, take, drop, sym, subst, arith, refl}
+use Rattle.std.proofs.Common.{rules, ◌≡◌, ◌+◌, ◌-◌, ◌++◌, ◌∷◌, [], ◌∙◌, inl, inr, ℕ, List, Option, Ok, Err, take, drop, sym, subst, arith, refl}
+use Rattle.std.proofs.lemmas.List.{take_all}
 use Rattle.std.proofs.lemmas.Result.{err_from_is_err_and}
 use Rattle.exb_shelf.proofs.IdLemmas.{opens_weaker, opens_then}
+use Rattle.exb_shelf.specs.Shelf.{NoFewer}
 use Rattle.exb_audit.proofs.Cuts.{item_is, item_more}
 use Rattle.exb_audit.proofs.Entered.{get_item}
 use Rattle.exb_audit.specs.declared.frames.PortFrames.{PortFrames}
 use Rattle.exb_evidence.specs.declared.frames.PortFile.{PortFile}
 use Rattle.exb_evidence.specs.Frames.{EachIsRead, IsFlaw, records_by, total}
-use Rattle.exb_evidence.proofs.Counted.{frames_from}
+use Rattle.exb_evidence.specs.declared.frames.FramesFault.TheVariants.{Memory}
+use Rattle.exb_evidence.proofs.Counted.{counted_frames, frames_from}
 use Rattle.exb_evidence.proofs.Filing.{all_good, each_more, rest_more}
 use Rattle.exb_evidence.proofs.frames.read_frames.Goals as goal
 
-pub returns-in_err-taken-clause-refused : goal.returns-in_err-taken-clause-refused
-returns-in_err-taken-clause-refused g c t =
+-- a file wasn't read
+pub returns-in_err-taken : goal.returns-in_err-taken
+returns-in_err-taken g c =
     let S = g.S.Shelf in
     let inv = c.files.invariant in
+    let stop = c.in_err-taken.ensures in
     let files = c.args.files.now in
     let i = c.files.one-index in
     let one = c.one-item.result in
@@ -21,37 +26,48 @@ returns-in_err-taken-clause-refused g c t =
     let f = S.file c.args.shelf.now in
     let x = c.in_err-taken.field-0.0 in
     let made = err_from_is_err_and c.from_residual.result c.from_residual.ensures.1 in
-    rw (made.1, made.2) (elim (c.in_err-taken.ensures.flaw t) [
-      | inl flaw ↦ inl (record {
-        before = take i files;
-        one = one;
-        after = drop (i + 1) files;
-        is = item_is files i one c.one-item.is c.files-test.true;
-        good = all_good read f (take i files) c.files.all.items (inv.each t);
-        within = omega (arith, inv.rest t);
-        here = subst (λ (n : ℕ). IsFlaw read n one (f one.name) x) (omega (arith, inv.rest t)) (subst (λ (o : Option (List ℕ)). IsFlaw read c.files.left one o x) (inv.kept one.name) flaw);
-      })
-      | inr other ↦ inr other
-    ])
+    rw (made.1, made.2) (record {
+      frames = λ t. tt;
+      refused = λ t. elim (stop.flaw t) [
+        | inl flaw ↦ inl (record {
+          before = take i files;
+          one = one;
+          after = drop (i + 1) files;
+          is = item_is files i one c.one-item.is c.files-test.true;
+          good = all_good read f (take i files) c.files.all.items (inv.each t);
+          within = omega (arith, inv.rest t);
+          here = subst (λ (n : ℕ). IsFlaw read n one (f one.name) x) (omega (arith, inv.rest t)) (subst (λ (o : Option (List ℕ)). IsFlaw read c.files.left one o x) (inv.kept one.name) flaw);
+        })
+        | inr other ↦ inr other
+      ];
+      port = stop.port;
+      opened =
+          opens_then _ _ _ _ inv.opened
+          (opens_weaker _ _ _ _ (λ k reads. record { at = i; one = one; is = get_item files i one c.one-item.is c.files-test.true; reads = reads }) stop.opened);
+      files = λ n. stop.files n ∙ inv.kept n;
+      faults = frames_from x _ _ _ inv.counted stop.faults;
+    })
 
-pub returns-in_err-taken-clause-opened : goal.returns-in_err-taken-clause-opened
-returns-in_err-taken-clause-opened g c =
-    let one = c.one-item.result in
+-- there is no memory for its frames
+pub returns-then-is_err : goal.returns-then-is_err
+returns-then-is_err g c =
+    let S = g.S.Shelf in
+    let inv = c.files.invariant in
+    let taken = c.in_ok-taken.ensures in
+    let files = c.args.files.now in
     let i = c.files.one-index in
-    opens_then _ _ _ _ c.files.invariant.opened
-    (opens_weaker _ _ _ _ (λ k reads. record { at = i; one = one; is = get_item c.args.files.now i one c.one-item.is c.files-test.true; reads = reads }) c.in_err-taken.ensures.opened)
-
-pub returns-in_err-taken-clause-faults : goal.returns-in_err-taken-clause-faults
-returns-in_err-taken-clause-faults g c =
-    let made = err_from_is_err_and c.from_residual.result c.from_residual.ensures.1 in
-    rw (made.1, made.2) (frames_from c.in_err-taken.field-0.0 _ _ _ c.files.invariant.counted c.in_err-taken.ensures.faults)
-
-pub returns-then-is_err-clause-opened : goal.returns-then-is_err-clause-opened
-returns-then-is_err-clause-opened g c =
     let one = c.one-item.result in
-    let i = c.files.one-index in
-    opens_then _ _ _ _ c.files.invariant.opened
-    (opens_weaker _ _ _ _ (λ k reads. record { at = i; one = one; is = get_item c.args.files.now i one c.one-item.is c.files-test.true; reads = reads }) c.in_ok-taken.ensures.opened)
+    let fewer : NoFewer (S.faults c.args.shelf.now) (S.faults c.take_file.new.shelf) = search (arith, taken.faults.none_fell, inv.faults) in
+    record {
+      frames = λ t. tt;
+      refused = λ t. inr (inr refl);
+      port = tt;
+      opened =
+          opens_then _ _ _ _ inv.opened
+          (opens_weaker _ _ _ _ (λ k reads. record { at = i; one = one; is = get_item files i one c.one-item.is c.files-test.true; reads = reads }) taken.opened);
+      files = λ n. taken.files n ∙ inv.kept n;
+      faults = counted_frames (Err Memory) _ _ fewer (inl (taken.faults.once ∙ inv.counted));
+    }
 
 pub files-preserved : goal.files-preserved
 files-preserved g c =
@@ -82,4 +98,26 @@ files-preserved g c =
       kept = λ n. c.in_ok-taken.ensures.files n ∙ inv.kept n;
       faults = search (arith, c.in_ok-taken.ensures.faults.none_fell, inv.faults);
       counted = c.in_ok-taken.ensures.faults.once ∙ inv.counted;
+    }
+
+-- all were read
+pub returns : goal.returns
+returns g c =
+    let S = g.S.Shelf in
+    let inv = c.files.invariant in
+    let files = c.args.files.now in
+    let i = c.files.one-index in
+    let read = records_by c.args.grammar in
+    let f = S.file c.args.shelf.now in
+    let all : take i files ≡ files = take_all i files (omega (arith, c.files-test.false)) in
+    record {
+      frames = λ t. record {
+        each = subst (λ (xs : List PortFile). EachIsRead read f xs c.files.all.items) all (inv.each t);
+        within = let sum : total f files + c.files.left ≡ c.args.limit = subst (λ (xs : List PortFile). total f xs + c.files.left ≡ c.args.limit) all (inv.rest t) in omega (arith, sum);
+      };
+      refused = λ t. tt;
+      port = tt;
+      opened = inv.opened;
+      files = inv.kept;
+      faults = counted_frames (Ok c.files.all) _ _ inv.faults inv.counted;
     }
