@@ -1,6 +1,7 @@
-use Rattle.std.proofs.Common.{rules, ◌≡◌, ◌≤◌, ◌++◌, ◌∷◌, [], false, List, map, take, sum_by, refl, ap, sym, subst, ◌∙◌, arith}
+use Rattle.std.proofs.Common.{rules, ◌≡◌, ◌≤◌, ◌+◌, ◌++◌, ◌∷◌, [], false, List, map, take, sum_by, refl, ap, sym, subst, ◌∙◌, arith}
 use Rattle.std.specs.List.{AllByRecursion}
 use Rattle.std.specs.Prelude.{IfSome}
+use Rattle.std.proofs.lemmas.List.{take_all}
 use Rattle.std.proofs.lemmas.Result.{err_from_is_err_and}
 use Rattle.exb_merge.specs.declared.replays.Again.{Again}
 use Rattle.exb_merge.specs.Replays.{AreReplays, HasPort, ids_in, left_in, standing_of}
@@ -15,7 +16,7 @@ use Rattle.exb_inputs.specs.Again.{first_standing, stream_told}
 use Rattle.exb_inputs.specs.Shelving.{ReadsCapture}
 use Rattle.exb_inputs.proofs.Reopening.{bytes-more, fresh-more, opened-so, port-named, port-new, since-none, standings-more, stream-told-same, streams-more}
 use Rattle.exb_inputs.proofs.Outcomes.{files_same}
-use Rattle.exb_inputs.proofs.ShelvingLemmas.{fewer_then, counts_as, counts_from}
+use Rattle.exb_inputs.proofs.ShelvingLemmas.{fewer_then, counts_as, counts_from, counts_ok}
 use Rattle.exb_inputs.proofs.again.open_all.Goals as goal
 
 pub open_one-requires-clause-named : goal.open_one-requires-clause-named
@@ -49,16 +50,33 @@ opening-init g c =
       counted = refl;
     }
 
-pub returns-in_err-open_one-clause-never : goal.returns-in_err-open_one-clause-never
-returns-in_err-open_one-clause-never g c t =
+-- one wasn't opened, or not read on
+pub returns-in_err-open_one : goal.returns-in_err-open_one
+returns-in_err-open_one g c =
     let S = g.S.Shelf in
     let e = err_from_is_err_and c.from_residual.result c.from_residual.ensures.1 in
+    let inv = c.opening.invariant in
+    let stop = c.in_err-open_one.ensures in
     let names = c.args.names.now in
     let file = S.file c.args.shelf.now in
     let one = c.one-item.result in
-    let told : IsToldOf names file one = subst (IsToldOf names file) (sym c.one-item.is) (c.requires.checked.told t c.opening.one-index one c.opening-test.true) in
-    let own : IsToldOf names (S.file c.opening.shelf) one = stream-told-same names file (S.file c.opening.shelf) one c.opening.invariant.files told in
-    rw (e.1, e.2) (λ change. c.in_err-open_one.ensures.never t change own)
+    rw (e.1, e.2) (record {
+      opened = tt;
+      named = tt;
+      fresh = tt;
+      standings = tt;
+      left = tt;
+      since = tt;
+      streams = λ t. tt;
+      never = λ t change.
+          let told : IsToldOf names file one = subst (IsToldOf names file) (sym c.one-item.is) (c.requires.checked.told t c.opening.one-index one c.opening-test.true) in
+          stop.never t change (stream-told-same names file (S.file c.opening.shelf) one inv.files told);
+      opens = opens_then (ReadsCapture names) _ _ _ inv.opens stop.opens;
+      files = λ n. stop.files n ∙ inv.files n;
+      port = stop.port;
+      causes = stop.causes;
+      faults = counts_from _ _ _ _ inv.counted (counts_as c.in_err-open_one.field-0.0 _ _ stop.faults);
+    })
 
 pub opening-preserved : goal.opening-preserved
 opening-preserved g c =
@@ -92,12 +110,26 @@ opening-preserved g c =
       counted = ok.faults.once ∙ inv.counted;
     }
 
-pub returns-in_err-open_one-clause-faults : goal.returns-in_err-open_one-clause-faults
-returns-in_err-open_one-clause-faults g c =
-    let e = err_from_is_err_and c.from_residual.result c.from_residual.ensures.1 in
-    rw (e.1, e.2) (counts_from _ _ _ _ c.opening.invariant.counted (counts_as c.in_err-open_one.field-0.0 _ _ c.in_err-open_one.ensures.faults))
-
-pub returns-in_err-open_one-clause-port : goal.returns-in_err-open_one-clause-port
-returns-in_err-open_one-clause-port g c =
-    let e = err_from_is_err_and c.from_residual.result c.from_residual.ensures.1 in
-    rw (e.1, e.2) c.in_err-open_one.ensures.port
+-- all were
+pub returns : goal.returns
+returns g c =
+    let inv = c.opening.invariant in
+    let names = c.args.names.now in
+    let cs = c.args.checked.now in
+    let file = g.S.Shelf.file c.args.shelf.now in
+    let all : take c.opening.one-index cs ≡ cs = take_all c.opening.one-index cs (omega (arith, c.opening-test.false)) in
+    record {
+      opened = inv.opened;
+      named = inv.named;
+      fresh = inv.fresh;
+      standings = inv.standing ∙ ap (map first_standing) all;
+      left = subst (λ (xs : List Checked). left_in c.opening.captures ≤ sum_by (λ (d : Checked). d.told.bytes + 1) xs) all inv.left;
+      since = inv.since;
+      streams = λ t. subst (λ (xs : List Checked). AreReplays (g.S.Shelf.file c.opening.shelf) (g.S.Shelf.ids c.opening.shelf) c.opening.captures.sources.items (map (stream_told names file) xs)) all (inv.streams t);
+      never = λ t. tt;
+      opens = inv.opens;
+      files = inv.files;
+      port = tt;
+      causes = tt;
+      faults = counts_ok c.opening.captures _ _ inv.counted;
+    }
