@@ -10,3 +10,4 @@ pub mod Outcomes
 pub mod Beginning
 pub mod Reopening
 pub mod Ports
+pub mod Scanning
