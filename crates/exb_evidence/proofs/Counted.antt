@@ -1,15 +1,17 @@
 -- What reading counts, one call after the other.
 use Rattle.std.proofs.Common.{◌≡◌, ◌∙◌, ℕ, Result, Ok, Err, ap, arith, sym, subst}
 use Rattle.std.specs.Prelude.{IfErr}
-use Rattle.exb_shelf.specs.Counting.{after_open, one_more}
+use Rattle.exb_shelf.specs.Counting.{after_open, after_read, one_more}
 use Rattle.exb_shelf.specs.declared.shelf.OpenFault.{OpenFault}
 use Rattle.exb_shelf.specs.declared.shelf.OpenFault.TheVariants as opening
+use Rattle.exb_shelf.specs.declared.shelf.ShelfFault.{ShelfFault}
+use Rattle.exb_shelf.specs.declared.shelf.ShelfFault.TheVariants as shelf
 use Rattle.exb_shelf.specs.Shelf.{Faults, NoFewer, Rose}
 use Rattle.exb_evidence.specs.declared.frames.FramesFault.{FramesFault}
 use Rattle.exb_evidence.specs.declared.frames.FramesFault.TheVariants as frames
 use Rattle.exb_evidence.specs.declared.texts.LinesFault.{LinesFault}
 use Rattle.exb_evidence.specs.declared.texts.LinesFault.TheVariants as lines
-use Rattle.exb_evidence.specs.Feeding.{unopened}
+use Rattle.exb_evidence.specs.Feeding.{unopened, unread}
 use Rattle.exb_evidence.specs.Frames.{CountsFrame, CountsFrames, CountsFramesOnce}
 use Rattle.exb_evidence.specs.Lines.{CountsLines, after_lines, after_lines_fault}
 
@@ -55,3 +57,7 @@ pub unopened_counts : {X : Type 0} (fault : OpenFault) (a b : Faults) → NoFewe
 unopened_counts opening.Missing a b fewer is = counted_lines (Err lines.Missing) a b fewer is
 unopened_counts opening.Failed a b fewer is = counted_lines (Err lines.Read) a b fewer is
 unopened_counts opening.Memory a b fewer is = counted_lines (Err lines.Memory) a b fewer is
+
+pub unread_counts : (fault : ShelfFault) (a b : Faults) → b ≡ after_read {X = ℕ} (Err fault) a → b ≡ after_lines_fault (unread fault) a
+unread_counts shelf.Failed a b is = is
+unread_counts shelf.Memory a b is = is

@@ -6,12 +6,14 @@ use Rattle.std.proofs.lemmas.Bool.{cases_lt}
 use Rattle.std.proofs.lemmas.List.{length-drop, length-take-le, take_all}
 use Rattle.exb_shelf.specs.declared.shelf.OpenFault.{OpenFault}
 use Rattle.exb_shelf.specs.declared.shelf.OpenFault.TheVariants as opening
+use Rattle.exb_shelf.specs.declared.shelf.ShelfFault.{ShelfFault}
+use Rattle.exb_shelf.specs.declared.shelf.ShelfFault.TheVariants as shelf
 use Rattle.exb_shelf.specs.Files.{Files, SameFiles, bytes_of}
-use Rattle.exb_shelf.specs.Shelf.{Id, reading}
+use Rattle.exb_shelf.specs.Shelf.{Id, IsReadingOf, moved, reading}
 use Rattle.exb_evidence.specs.declared.lines.Lines.{Lines}
 use Rattle.exb_evidence.specs.declared.texts.LinesFault.{LinesFault}
 use Rattle.exb_evidence.specs.declared.texts.LinesFault.TheVariants.{Memory, Read, Bad}
-use Rattle.exb_evidence.specs.Feeding.{HasCut, HasCutBy, CutsOn, IsOneLine, unopened}
+use Rattle.exb_evidence.specs.Feeding.{HasCut, HasCutBy, CutsOn, IsOneLine, unopened, unread}
 use Rattle.exb_evidence.specs.Lines.{AreLines, FirstBadLine, HoldsLines, IsLinesFault}
 use Rattle.std.proofs.lemmas.List.Elements.{All-nil}
 
@@ -37,6 +39,9 @@ cut_empty read bytes s good lines rest = subst (λ b. HasCutBy b read [] s.lines
 })
 
 -- one piece more
+pub reads_moved : (name : List ℕ) (i j : Id) (n : ℕ) → j ≡ moved i n → IsReadingOf name i → IsReadingOf name j
+reads_moved name i j n e reads = subst (λ (k : Id). IsReadingOf name k) (sym e) (record { given = reads.given; reads = reads.reads; named = reads.named })
+
 pub text_on : (f g : Files) (i : Id) (name : List ℕ) (got n : ℕ) → i ≡ reading name got → SameFiles f g → take got (bytes_of (f name)) ++ take n (drop i.place (bytes_of (g i.name))) ≡ take (got + n) (bytes_of (f name))
 text_on f g i name got n e same =
     let bytes : List ℕ = bytes_of (f name) in
@@ -88,3 +93,21 @@ pub unopened_told : {A : Type 0} (read : List ℕ → Option A) (limit : ℕ) (f
 unopened_told read limit file opening.Missing none = inl (none refl)
 unopened_told read limit file opening.Failed none = inr (inl refl)
 unopened_told read limit file opening.Memory none = inr (inr refl)
+
+pub unread_cause : (fault : ShelfFault) → (unread fault ≡ Read) ⊎ (unread fault ≡ Memory)
+unread_cause shelf.Failed = inl refl
+unread_cause shelf.Memory = inr refl
+
+pub unread_failed : {X Y : Type 0} (fault : ShelfFault) → IsErrOf {T = X} (Err (unread fault)) Read → IsErrOf {T = Y} (Err fault) shelf.Failed
+unread_failed shelf.Failed is = refl
+unread_failed shelf.Memory is = absurd (cc)
+
+-- ---- one answer
+pub fault_not_read : (fault : LinesFault) (n : ℕ) → ◌≡◌ {A = Result ℕ LinesFault} (Err fault) (Ok n) → ⊥
+fault_not_read fault n is = cc
+
+pub memory_not_read : {X : Type 0} → IsErrOf {T = X} (Err Memory) Read → ⊥
+memory_not_read is = cc
+
+pub read_once : (n m : ℕ) → ◌≡◌ {A = Result ℕ LinesFault} (Ok n) (Ok m) → n ≡ m
+read_once n m is = cc
