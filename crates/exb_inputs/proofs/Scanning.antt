@@ -35,3 +35,13 @@ module _ (name : List ℕ) (x : Fault) where
   pub missing_counted : {Y : Type 0} (a b : Faults) → (x ≡ Missing name) ⊎ (x ≡ Memory) → NoFewer a b → b ≡ missing_more a → CountsFaults {X = Y} (Err x) a b
   missing_counted a b (inl is) fewer more = counted_once (Err x) a b fewer (subst (λ (y : Fault). CountsFault y a b) (sym is) more)
   missing_counted a b (inr memory) fewer more = counted_once (Err x) a b fewer (subst (λ (y : Fault). CountsFault y a b) (sym memory) (inr more))
+
+-- ---- whose flaw it is
+pub flaw_port : (p : ℕ) (own : Flaw) (q : ℕ) (flaw : Flaw) → Capture p own ≡ Capture q flaw → q ≡ p
+flaw_port p own q flaw e = cc
+
+pub read_flawless : (q : ℕ) (flaw : Flaw) → Read ≡ Capture q flaw → ⊥
+read_flawless q flaw e = cc
+
+pub memory_flawless : (q : ℕ) (flaw : Flaw) → Memory ≡ Capture q flaw → ⊥
+memory_flawless q flaw e = cc

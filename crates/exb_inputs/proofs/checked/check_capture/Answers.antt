@@ -7,7 +7,7 @@ use Rattle.exb_capture.specs.declared.checking.ScanFault.TheVariants as scan
 use Rattle.exb_inputs.specs.Checks.{most_bytes}
 use Rattle.exb_inputs.specs.declared.fault.Fault.TheVariants.{Capture, Memory, Read}
 use Rattle.exb_inputs.specs.declared.fault.Flaw.TheVariants.{Broken, Large}
-use Rattle.exb_inputs.proofs.Scanning.{fault_told, missing_counted, missing_flawless, missing_of, missing_told}
+use Rattle.exb_inputs.proofs.Scanning.{fault_told, flaw_port, memory_flawless, missing_counted, missing_flawless, missing_of, missing_told, read_flawless}
 use Rattle.exb_inputs.proofs.ShelvingLemmas.{counted_once, counts_ok}
 use Rattle.exb_inputs.proofs.checked.check_capture.Goals as goal
 
@@ -65,7 +65,7 @@ returns-in-Err-Read g c =
       good = λ tells. tt;
       flaw = λ tells. inr (inl refl);
       causes = tt;
-      own = λ q flaw same. absurd (cc);
+      own = λ q flaw same. absurd (read_flawless q flaw same);
       scanned = tt;
       opened = e.opened;
       files = e.files;
@@ -86,7 +86,7 @@ returns-in-Err-Memory g c =
       good = λ tells. tt;
       flaw = λ tells. inr (inr refl);
       causes = tt;
-      own = λ q flaw same. absurd (cc);
+      own = λ q flaw same. absurd (memory_flawless q flaw same);
       scanned = tt;
       opened = e.opened;
       files = e.files;
@@ -107,7 +107,7 @@ returns-in-Err-Fault g c =
       good = λ tells. tt;
       flaw = λ tells. fault_told c.args.port c.args.name.now (S.file c.args.shelf.now c.args.name.now) (scan.Fault c.in-Err-Fault.fault) (Capture c.args.port (Broken c.in-Err-Fault.fault)) refl tt (subst (λ (y : ScanFault). IsScan most_bytes (S.file c.args.shelf.now c.args.name.now) (Err y)) is (e.says tells));
       causes = c.requires.port;
-      own = λ q flaw same. cc;
+      own = λ q flaw same. flaw_port _ _ q flaw same;
       scanned = tt;
       opened = e.opened;
       files = e.files;
@@ -128,7 +128,7 @@ returns-in-Err-Large g c =
       good = λ tells. tt;
       flaw = λ tells. fault_told c.args.port c.args.name.now (S.file c.args.shelf.now c.args.name.now) (scan.Large c.in-Err-Large.limit) (Capture c.args.port (Large c.in-Err-Large.limit)) refl tt (subst (λ (y : ScanFault). IsScan most_bytes (S.file c.args.shelf.now c.args.name.now) (Err y)) is (e.says tells));
       causes = c.requires.port;
-      own = λ q flaw same. cc;
+      own = λ q flaw same. flaw_port _ _ q flaw same;
       scanned = tt;
       opened = e.opened;
       files = e.files;

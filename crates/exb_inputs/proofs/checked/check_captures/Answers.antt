@@ -14,6 +14,7 @@ use Rattle.exb_inputs.proofs.Asking.{none_or_some, some_once}
 use Rattle.exb_inputs.proofs.EndingAt.{ends_at, opened_any, opened_higher, opened_next}
 use Rattle.exb_inputs.proofs.FaultLemmas.{all_more}
 use Rattle.exb_inputs.proofs.Passing.{passed_none, passed_here, passed_not}
+use Rattle.exb_inputs.proofs.Scanning.{memory_flawless}
 use Rattle.exb_inputs.proofs.ShelvingLemmas.{counts_as, counts_from, counts_memory, counts_ok, each_next, each_none}
 use Rattle.exb_inputs.proofs.checked.check_captures.Goals as goal
 
@@ -105,7 +106,7 @@ returns-then-is_err g c =
       good = λ t. tt;
       flaw = λ t. inr (inr refl);
       causes = tt;
-      ends = ends_at S.tells names (S.file c.args.shelf.now) p name _ _ _ Memory named inv.opened one.opened inv.good (λ q flaw e. absurd (cc));
+      ends = ends_at S.tells names (S.file c.args.shelf.now) p name _ _ _ Memory named inv.opened one.opened inv.good (λ q flaw e. absurd (memory_flawless q flaw e));
       each = tt;
       opened = opened_any names (p + 1) _ _ (opened_next names p name _ _ _ named inv.opened one.opened);
       files = λ m. one.files m ∙ inv.files m;
