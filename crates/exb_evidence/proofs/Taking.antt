@@ -1,6 +1,6 @@
 -- What is read of a capture in either format, of one that can only be classic.
 use Rattle.std.proofs.Common.{◌≡◌, ◌≢◌, ◌<◌, ◌≤◌, ℕ, zero, suc, List, [], ◌∷◌, ◌++◌, length, take, drop, get_or, map, Option, Some, None, Ok, Err, refl, ap, sym, subst, inl, inr, ◌∙◌, arith, true, false, Bool}
-use Rattle.std.specs.Prelude.{◌⊎◌, ◌&&◌, IsSome, nat_lt}
+use Rattle.std.specs.Prelude.{◌⊎◌, ◌&&◌, IsErrOf, IsSome, nat_lt}
 use Rattle.std.proofs.lemmas.Bool.{ne_eqb, ltb-true, and_parts}
 use Rattle.std.proofs.lemmas.List.{map-append}
 use Rattle.exb_model.specs.Frames.{IsBytes}
@@ -202,3 +202,13 @@ first_read f g i name into n e same there some bound bytes =
     whole : (o : Option (List ℕ)) → IsSome o → o ≡ Some (bytes_of o)
     whole None is = absurd (cc)
     whole (Some b) is = refl
+
+-- ---- an answer is no other one
+pub memory_not_failed : {X : Type 0} → IsErrOf {T = X} (Err halt.Memory) halt.Failed → ⊥
+memory_not_failed is = cc
+
+pub taken_not_failed : (taken : Taken) → IsErrOf {T = Taken} (Ok taken) halt.Failed → ⊥
+taken_not_failed taken is = cc
+
+pub same_halt : {X Y : Type 0} (why : Halt) → IsErrOf {T = X} (Err why) halt.Failed → IsErrOf {T = Y} (Err why) halt.Failed
+same_halt why is = let same : why ≡ halt.Failed = cc in ap (λ (h : Halt). Err h) same

@@ -1,15 +1,13 @@
-use Rattle.std.proofs.Common.{rules, Err, ◌≡◌, ◌++◌, ◌∷◌, [], ℕ, List, Option, sym, subst, ap, ◌∙◌, arith}
+use Rattle.std.proofs.Common.{rules, ◌≡◌, ◌++◌, ◌∷◌, [], ℕ, List, Option, sym, subst, ap, ◌∙◌, arith}
 use Rattle.std.specs.Prelude.{IfSome, IfNone}
 use Rattle.std.proofs.lemmas.Result.{err_from_is_err_and}
 use Rattle.exb_model.specs.Input.{Record}
 use Rattle.exb_shelf.specs.Files.{bytes_of}
 use Rattle.exb_shelf.specs.Shelf.{Faults, Rose}
 use Rattle.exb_capture.specs.Counts.{after_halt}
-use Rattle.exb_capture.specs.declared.file.Halt.{Halt}
-use Rattle.exb_capture.specs.declared.file.Halt.TheVariants.{Failed}
 use Rattle.exb_capture.specs.Reading.{IsAt, IsWhole, HasRead, HaltsBy, ComesNext}
 use Rattle.exb_capture.proofs.Looking.{kept_bytes, moves_then, fewer_then}
-use Rattle.exb_evidence.proofs.Taking.{all_taken, one_taken}
+use Rattle.exb_evidence.proofs.Taking.{all_taken, memory_not_failed, one_taken, same_halt, taken_not_failed}
 use Rattle.exb_evidence.proofs.captured.take_frames.Goals as goal
 
 -- the file isn't read on
@@ -35,9 +33,7 @@ returns-in_err-ahead g c =
       files = λ n. on.files n ∙ inv.files n;
       counts = on.counts ∙ ap (after_halt halt) inv.counted;
       faults = fewer_then (S.faults c.args.shelf.now) (S.faults c.records.shelf) (S.faults c.ahead.new.shelf) inv.faults on.faults;
-      failed = λ why.
-          let is : halt ≡ Failed = cc in
-          subst (λ (k : Faults). Rose k.reads (S.faults c.ahead.new.shelf).reads) inv.counted (on.failed (ap (λ (h : Halt). Err h) is));
+      failed = λ why. subst (λ (k : Faults). Rose k.reads (S.faults c.ahead.new.shelf).reads) inv.counted (on.failed (same_halt halt why));
     })
 
 -- there is no memory for a frame
@@ -55,7 +51,7 @@ returns-in_default-take g c =
       files = λ n. on.files n ∙ inv.files n;
       counts = on.counts ∙ inv.counted;
       faults = fewer_then (S.faults c.args.shelf.now) (S.faults c.records.shelf) (S.faults c.ahead.new.shelf) inv.faults on.faults;
-      failed = λ other. absurd (cc);
+      failed = λ other. absurd (memory_not_failed other);
     }
 
 -- there is none to keep it
@@ -73,7 +69,7 @@ returns-then-is_err g c =
       files = λ n. on.files n ∙ inv.files n;
       counts = on.counts ∙ inv.counted;
       faults = fewer_then (S.faults c.args.shelf.now) (S.faults c.records.shelf) (S.faults c.ahead.new.shelf) inv.faults on.faults;
-      failed = λ other. absurd (cc);
+      failed = λ other. absurd (memory_not_failed other);
     }
 
 pub records-preserved : goal.records-preserved
@@ -141,5 +137,5 @@ returns g c =
       files = λ n. on.files n ∙ inv.files n;
       counts = on.counts ∙ inv.counted;
       faults = fewer_then (S.faults c.args.shelf.now) (S.faults c.records.shelf) (S.faults c.ahead.new.shelf) inv.faults on.faults;
-      failed = λ other. absurd (cc);
+      failed = λ other. absurd (taken_not_failed _ other);
     }

@@ -1,4 +1,4 @@
-use Rattle.std.proofs.Common.{◌≡◌, ℕ, List, Ok, drop, length, take, inl, inr, refl, subst, sym, arith}
+use Rattle.std.proofs.Common.{◌≡◌, ℕ, List, length, inr, refl, subst, sym, arith}
 use Rattle.exb_shelf.specs.Files.{bytes_of}
 use Rattle.exb_shelf.specs.Shelf.{IsReadingOf}
 use Rattle.exb_evidence.specs.Feeding.{CutsOn}
