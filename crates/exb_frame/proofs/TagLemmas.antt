@@ -6,10 +6,7 @@ use Rattle.std.proofs.lemmas.Grind.{common_steps}
 use Rattle.exb_model.specs.ETags.{Tag, fields, read_etag}
 use Rattle.exb_model.specs.Frames.{number_at}
 
--- two bytes stand behind this many, and are the word there
-pub word_there : (f : List ℕ) (n : ℕ) → 20 ≤ length f → n ≤ 18 → 2 ≤ length (take (length f - n) (drop n f))
-word_there f n long low = grind (arith, common_steps)
-
+-- the word behind this many bytes
 pub word_is : (f : List ℕ) (n w : ℕ) → 20 ≤ length f → n ≤ 18 → w ≡ slice_index (take (length f - n) (drop n f)) 0 * 256 + (slice_index (take (length f - n) (drop n f)) 1 * 1 + 0) → w ≡ number_at f n
 word_is f n w long low is = grind (arith, common_steps)
 

@@ -1,19 +1,7 @@
 use Rattle.std.proofs.Common.{sym, arith, ◌∙◌}
-use Rattle.exb_frame.proofs.TagLemmas.{more_none, other_none, short_none, tag_is, word_is, word_there}
+use Rattle.exb_frame.proofs.TagLemmas.{more_none, other_none, short_none, tag_is, word_is}
 use Rattle.exb_frame.proofs.etag.ETag.read.Goals as goal
 use Rattle.exb_frame.proofs.etag.ETag.read.Goals.{then-read_u16-via-then-read_u16, then-read_u16-via-else-read_u16+then-read_u16-ne0}
-
-pub read_u16-requires : goal.read_u16-requires
-read_u16-requires c = word_there c.args.frame.now 12 c.if-frame-lt20.false (omega arith)
-
-pub read_u16-requires-else-read_u16 : goal.read_u16-requires-else-read_u16
-read_u16-requires-else-read_u16 c = word_there c.args.frame.now 18 c.if-frame-lt20.false (omega arith)
-
-pub read_u16-first-requires : goal.read_u16-first-requires
-read_u16-first-requires c = word_there c.args.frame.now 14 c.if-frame-lt20.false (omega arith)
-
-pub read_u16-second-requires : goal.read_u16-second-requires
-read_u16-second-requires c = word_there c.args.frame.now 16 c.if-frame-lt20.false (omega arith)
 
 -- it is too short
 pub returns-then-frame-lt20 : goal.returns-then-frame-lt20
@@ -25,9 +13,9 @@ returns-then-read_u16 c =
     let f = c.args.frame.now in
     let long = c.if-frame-lt20.false in
     elim c.then-read_u16.branch [
-      | then-read_u16-via-then-read_u16 w ↦ other_none f c.read_u16.result (word_is f 12 c.read_u16.result long (omega arith) c.read_u16.ensures) w.if-read_u16.true
+      | then-read_u16-via-then-read_u16 w ↦ other_none f c.read_u16.result (word_is f _ c.read_u16.result long (omega arith) c.read_u16.ensures) w.if-read_u16.true
       | then-read_u16-via-else-read_u16+then-read_u16-ne0 w ↦
-          more_none f w.read_u16-else-read_u16.result (word_is f 18 w.read_u16-else-read_u16.result long (omega arith) w.read_u16-else-read_u16.ensures) w.if-read_u16-ne0.true
+          more_none f w.read_u16-else-read_u16.result (word_is f _ w.read_u16-else-read_u16.result long (omega arith) w.read_u16-else-read_u16.ensures) w.if-read_u16-ne0.true
     ]
 
 -- an E-TAG
@@ -36,7 +24,7 @@ returns c =
     let f = c.args.frame.now in
     let long = c.if-frame-lt20.false in
     tag_is f c.read_u16-first.result c.read_u16-second.result long
-    (sym (word_is f 12 c.read_u16.result long (omega arith) c.read_u16.ensures) ∙ c.if-read_u16.false)
-    (sym (word_is f 18 c.read_u16-else-read_u16.result long (omega arith) c.read_u16-else-read_u16.ensures) ∙ c.if-read_u16-ne0.false)
-    (word_is f 14 c.read_u16-first.result long (omega arith) c.read_u16-first.ensures)
-    (word_is f 16 c.read_u16-second.result long (omega arith) c.read_u16-second.ensures)
+    (sym (word_is f _ c.read_u16.result long (omega arith) c.read_u16.ensures) ∙ c.if-read_u16.false)
+    (sym (word_is f _ c.read_u16-else-read_u16.result long (omega arith) c.read_u16-else-read_u16.ensures) ∙ c.if-read_u16-ne0.false)
+    (word_is f _ c.read_u16-first.result long (omega arith) c.read_u16-first.ensures)
+    (word_is f _ c.read_u16-second.result long (omega arith) c.read_u16-second.ensures)
