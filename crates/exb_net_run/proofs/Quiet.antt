@@ -1,12 +1,12 @@
 -- Bridges that told nothing.
-use Rattle.std.proofs.Common.{◌≡◌, ℕ, List, refl, arith}
+use Rattle.std.proofs.Common.{◌≡◌, ◌≢◌, ◌∙◌, ℕ, List, set, refl, sym, arith}
 use Rattle.exb_network.specs.Networks.{IsQuiet, Network}
 use Rattle.exb_net_run.specs.declared.ends.WiredEnd.{WiredEnd}
 use Rattle.exb_net_run.specs.declared.node.Node.{Node}
 use Rattle.exb_net_run.specs.Lists.{AreEach}
 use Rattle.exb_net_run.specs.Marks.{AreQuietBut, mark_of}
 use Rattle.exb_net_run.specs.Nodes.{HasForgotten}
-use Rattle.exb_net_run.proofs.Places.{is_there}
+use Rattle.exb_net_run.proofs.Places.{is_there, set_there}
 use Rattle.std.proofs.lemmas.Option.{slice_get_within}
 
 -- it has nothing to forget
@@ -17,6 +17,10 @@ module _ {V : Type 0} {X : V → Type 0} where
   -- where all are marked
   pub all_marked : (marks : ℕ) → ((b : ℕ) → mark_of marks b ≡ 1) → (nodes : List (Node V X)) → AreQuietBut marks nodes
   all_marked marks all nodes = record { each = λ b x is none. absurd (let one = all b in omega (arith, one, none)) }
+
+  -- where one is another, and it is marked too
+  pub quiet_set : (old marks i : ℕ) (xs : List (Node V X)) (y : Node V X) → ((b : ℕ) → mark_of marks b ≡ 0 → (mark_of old b ≡ 0) × (b ≢ i)) → AreQuietBut old xs → AreQuietBut marks (set xs i y)
+  quiet_set old marks i xs y more all = record { each = λ b x is none. (let p = more b none in all.each b x (sym (set_there xs i b y p.1) ∙ is) p.0) }
 
   -- where all have forgotten, whatever is marked
   pub all_quiet : (marks : ℕ) (xs ys : List (Node V X)) → AreEach (λ b u v. HasForgotten u.world v.world u.ends.items v.ends.items) xs ys → AreQuietBut marks ys
