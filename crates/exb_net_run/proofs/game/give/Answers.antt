@@ -1,51 +1,81 @@
-use Rattle.std.proofs.Common.{◌≡◌, ◌-◌, List, length, Some, ap, sym, ◌∙◌, arith}
-use Rattle.std.specs.Prelude.{slice_get}
-use Rattle.std.proofs.lemmas.Option.{slice_get_within}
-use Rattle.exb_model.specs.declared.setup.Timed.{Timed}
+use Rattle.std.proofs.Common.{ap, subst, ◌+◌, ◌<◌, ◌^◌, arith}
+use Rattle.std.proofs.lemmas.Result.{on_ok_weaker}
 use Rattle.exb_inputs.proofs.Outcomes.{on_ok_by}
-use Rattle.exb_net_run.proofs.Places.{at_place}
-use Rattle.exb_net_file.specs.declared.apart.NetRest.{NetRest}
-use Rattle.exb_net_run.proofs.Giving.{gives-command, gives-record, letters-given, number-low}
+use Rattle.exb_net_run.specs.UnderWay.{came_by}
+use Rattle.exb_net_run.proofs.Giving.{bridge-low, can-arrive, can-order, gives-command, gives-record, is-placed, letters-given, letters-here, letters-none, number-high, place-low, record-free, rest-low}
 use Rattle.exb_net_run.proofs.game.give.Goals as goal
 
-pub returns-in-Record-clause-ok : goal.returns-in-Record-clause-ok
-returns-in-Record-clause-ok g c =
-    on_ok_by c.arrive-given.result
-    (λ get n s told can.
-    gives-record n s told c.args.rests.now c.args.due c.args.net.now c.arrive-given.new.self can c.in-Record.came _ c.in-Record.is c.in-Record.came-is (get _ c.arrive-given.ensures.ok))
-
-pub returns-in-Command-clause-ok : goal.returns-in-Command-clause-ok
-returns-in-Command-clause-ok g c =
-    on_ok_by c.command.result
-    (λ get n s told can.
-    let rests = c.args.rests.now in
-    let b = c.args.due.bridge in
-    let rest = c.index-rests-bridge.result in
-    let there : slice_get rests b ≡ Some rest = at_place rests b rest (slice_get_within rests b can.rest can.rest_there) c.index-rests-bridge.is in
-    let number = c.in-Command.number in
-    let own = number-low n s told rests c.args.due c.args.net.now c.command.new.self can number c.in-Command.moment rest c.in-Command.is there in
-    let low = slice_get_within rest.commands (number - 1) own.1.0 own.1.1 in
-    let commands : c.as_slice-commands.result.now ≡ rest.commands = c.as_slice-commands.ensures ∙ ap (λ (z : NetRest). z.commands) (sym c.index-rests-bridge.is) in
-    let timed = c.index-commands-number.result in
-    let place : slice_get rest.commands (number - 1) ≡ Some timed =
-    ap (λ (cs : List Timed). slice_get cs (number - 1)) (sym commands) ∙ at_place c.as_slice-commands.result.now (number - 1) timed (let same = ap (λ (cs : List Timed). length cs) commands in omega (arith, low, same)) c.index-commands-number.is in
-    gives-command n s told rests c.args.due c.args.net.now c.command.new.self can number c.in-Command.moment rest timed c.in-Command.is there place (get _ c.command.ensures.ok))
-
-pub returns-in-Command-clause-fates : goal.returns-in-Command-clause-fates
-returns-in-Command-clause-fates g c =
-    on_ok_by c.command.result
-    (λ get.
+-- ---- a record
+pub arrive-given-requires : goal.arrive-given-requires
+arrive-given-requires g c =
     let (n, (s, (told, can))) = c.requires.can in
     let rests = c.args.rests.now in
-    let b = c.args.due.bridge in
+    let d = c.args.due in
+    let x = c.args.net.now in
+    record {
+      opened = λ awake. (n, (s, (told, (can.playing, record-free n s told rests d x can c.in-Record.came _ c.in-Record.is c.in-Record.came-is))));
+      here = bridge-low n s told rests d x can;
+      can = can-arrive n s told rests d x can c.in-Record.came _ c.in-Record.is c.in-Record.came-is;
+      few = can.came;
+      fates = c.requires.fates;
+    }
+
+pub returns-in-Record : goal.returns-in-Record
+returns-in-Record g c =
+    let rests = c.args.rests.now in
+    let d = c.args.due in
+    let x = c.args.net.now in
+    let y = c.arrive-given.new.self in
+    record {
+      ok = on_ok_by c.arrive-given.result (λ get n s told can. gives-record n s told rests d x can y c.in-Record.came _ c.in-Record.is c.in-Record.came-is (get _ c.arrive-given.ensures.ok));
+      came = on_ok_weaker c.arrive-given.result (λ one. (let by = ap came_by c.in-Record.is in omega (arith, one, by))) c.arrive-given.ensures.came;
+      fates = on_ok_weaker c.arrive-given.result (letters-none rests d (λ z. (goal.Fate-dyn g (z.fate.vtable, z.fate.value)).left z.fate.value) x.nodes.items y.nodes.items) c.arrive-given.ensures.fates;
+    }
+
+-- ---- a command
+pub bounds-rests-bridge : goal.bounds-rests-bridge
+bounds-rests-bridge g c = (let (n, (s, (told, can))) = c.requires.can in rest-low n s told c.args.rests.now c.args.due c.args.net.now can)
+
+pub overflow_sub-number : goal.overflow_sub-number
+overflow_sub-number g c = (let (n, (s, (told, can))) = c.requires.can in number-high n s told c.args.rests.now c.args.due c.args.net.now can c.in-Command.number c.in-Command.moment c.in-Command.is)
+
+pub bounds-commands-number : goal.bounds-commands-number
+bounds-commands-number g c =
+    let (n, (s, (told, can))) = c.requires.can in
+    place-low n s told c.args.rests.now c.args.due c.args.net.now can c.in-Command.number c.in-Command.moment c.in-Command.is c.index-rests-bridge.result c.as_slice-commands.result.now c.index-rests-bridge.is c.as_slice-commands.ensures
+
+pub command-requires : goal.command-requires
+command-requires g c =
+    let (n, (s, (told, can))) = c.requires.can in
+    let rests = c.args.rests.now in
+    let d = c.args.due in
+    let x = c.args.net.now in
     let rest = c.index-rests-bridge.result in
-    let there : slice_get rests b ≡ Some rest = at_place rests b rest (slice_get_within rests b can.rest can.rest_there) c.index-rests-bridge.is in
-    let number = c.in-Command.number in
-    let own = number-low n s told rests c.args.due c.args.net.now c.command.new.self can number c.in-Command.moment rest c.in-Command.is there in
-    let low = slice_get_within rest.commands (number - 1) own.1.0 own.1.1 in
-    let commands : c.as_slice-commands.result.now ≡ rest.commands = c.as_slice-commands.ensures ∙ ap (λ (z : NetRest). z.commands) (sym c.index-rests-bridge.is) in
     let timed = c.index-commands-number.result in
-    let place : slice_get rest.commands (number - 1) ≡ Some timed =
-    ap (λ (cs : List Timed). slice_get cs (number - 1)) (sym commands) ∙ at_place c.as_slice-commands.result.now (number - 1) timed (let same = ap (λ (cs : List Timed). length cs) commands in omega (arith, low, same)) c.index-commands-number.is in
-    letters-given rests c.args.due (λ x. (goal.Fate-dyn g (x.fate.vtable, x.fate.value)).left x.fate.value) c.args.net.now.nodes.items c.command.new.self.nodes.items number c.in-Command.moment rest timed c.in-Command.is there place
-    (get _ c.command.ensures.fates))
+    let number = c.in-Command.number in
+    let moment = c.in-Command.moment in
+    let p = is-placed n s told rests d x can number moment c.in-Command.is rest c.as_slice-commands.result.now c.index-rests-bridge.is c.as_slice-commands.ensures timed c.index-commands-number.is in
+    record {
+      opened = λ awake. (n, (s, (told, can.playing)));
+      here = bridge-low n s told rests d x can;
+      can = can-order n s told rests d x can number moment c.in-Command.is rest timed p;
+      fate = λ z is. subst (λ k. (goal.Fate-dyn g (z.fate.vtable, z.fate.value)).left z.fate.value + k < 2 ^ 57) (letters-here rests d number moment c.in-Command.is rest timed p) (c.requires.pays z is);
+    }
+
+pub returns-in-Command : goal.returns-in-Command
+returns-in-Command g c =
+    let (n, (s, (told, can))) = c.requires.can in
+    let rests = c.args.rests.now in
+    let d = c.args.due in
+    let x = c.args.net.now in
+    let y = c.command.new.self in
+    let rest = c.index-rests-bridge.result in
+    let timed = c.index-commands-number.result in
+    let number = c.in-Command.number in
+    let moment = c.in-Command.moment in
+    let p = is-placed n s told rests d x can number moment c.in-Command.is rest c.as_slice-commands.result.now c.index-rests-bridge.is c.as_slice-commands.ensures timed c.index-commands-number.is in
+    record {
+      ok = on_ok_by c.command.result (λ get n s told can. gives-command n s told rests d x can number moment c.in-Command.is rest timed p y (get _ c.command.ensures.ok));
+      came = on_ok_weaker c.command.result (λ none. (let by = ap came_by c.in-Command.is in omega (arith, none, by))) c.command.ensures.came;
+      fates = on_ok_weaker c.command.result (letters-given rests d number moment c.in-Command.is rest timed p (λ z. (goal.Fate-dyn g (z.fate.vtable, z.fate.value)).left z.fate.value) x.nodes.items y.nodes.items) c.command.ensures.fates;
+    }
