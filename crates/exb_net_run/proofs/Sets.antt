@@ -85,6 +85,10 @@ map_last f [] x = refl
 map_last f (y ∷ xs) x = ap (λ (zs : List _). f y ∷ zs) (map_last f xs x)
 
 -- the files of a manifest that hold what they begin with
+-- nothing was written
+pub cut_none : (p : Listed) (f : Files) (text : Output → List ℕ) → AreCut p f f text
+cut_none p f text = record { each = λ j low. inl refl; others = λ m away. refl }
+
 pub cut_first : (p : Listed) (pieces : List (List ℕ)) (old new : Files) (text : Output → List ℕ) → HasTexts p pieces old new first_text → GoesFrom text → AreCut p old new text
 cut_first p pieces old new text held goes =
     record {

@@ -80,17 +80,18 @@ fn set_desk<S: Shelf>(
     ensures causes { IfErr result IsOfWriting }
     ensures faults { CountsFaults result (S.faults shelf.old) (S.faults shelf.new) }
 {
+    // First, so that a desk that is made needn't be let go of.
+    if desks.reserve(1).is_err() {
+        return Err(Fault::Memory);
+    }
     let manifest = manifest_of(alloc, setup, name, counters)?;
     let counted = Counted::new(alloc, setup, &manifest)?;
     let outputs = create_all(alloc, shelf, &manifest)?;
-    let desk = Desk {
+    desks.push_reserved(Desk {
         manifest,
         outputs,
         counted,
-    };
-    if desks.push(desk).is_err() {
-        return Err(Fault::Memory);
-    }
+    });
     Ok(())
 }
 
