@@ -77,6 +77,10 @@ other_is xs i x is = is ∙ (ap (λ (ys : List _). get_or ys i x) (others_are xs
 pub other_low : {A : Type 0} (xs : List A) (i : ℕ) → i < length (take (length xs - 1) (drop 1 xs)) → i + 1 < length xs
 other_low xs i low = let size = length-drop 1 xs in let same = ap (λ (ys : List _). length ys) (others_are xs) in omega (arith, low, size, same)
 
+-- all were taken
+pub all_taken : {A : Type 0} (xs : List A) (i : ℕ) → length (take (length xs - 1) (drop 1 xs)) ≤ i → take (i + 1) xs ≡ xs
+all_taken xs i high = take_all (i + 1) xs (let size = length-drop 1 xs in let same = ap (λ (ys : List _). length ys) (others_are xs) in omega (arith, high, size, same))
+
 -- ---- letters of fates
 -- a sound topology has few
 pub rests_few : (ms : List NetMember) → All (λ (m : NetMember). IsSound m.topology) ms → All (λ (r : NetRest). length r.fate ≤ 60000) (map rest_of ms)
