@@ -1,7 +1,8 @@
-use Rattle.std.proofs.Common.{◌≡◌, ◌⊎◌, ◌∙◌, ◌≤◌, List, length, refl, sym, subst, inl, inr}
+use Rattle.std.proofs.Common.{◌≡◌, ◌⊎◌, ◌∙◌, ◌<◌, ◌≤◌, ◌+◌, ◌^◌, List, length, refl, ap, sym, subst, arith, inl, inr}
 use Rattle.std.specs.Prelude.{All, String, string_bytes}
 use Rattle.std.specs.declared.alloc.Global.{Global}
 use Rattle.std.specs.declared.vec.Vec.{Vec}
+use Rattle.std.proofs.lemmas.List.{length-map}
 use Rattle.std.proofs.lemmas.Result.{err_from_is_err_and}
 use Rattle.exb_inputs.specs.declared.checked.Checked.{Checked}
 use Rattle.exb_inputs.specs.declared.fault.Fault.TheVariants.{Read, Memory}
@@ -9,6 +10,8 @@ use Rattle.exb_inputs.proofs.Outcomes.{files_same, if_err_map, if_ok_map}
 use Rattle.exb_inputs.proofs.ShelvingLemmas.{counts_as, counts_from, counts_memory}
 use Rattle.exb_net_file.specs.declared.apart.NetRest.{NetRest}
 use Rattle.exb_net_file.specs.declared.members.NetMember.{NetMember}
+use Rattle.exb_net_file.specs.Apart.{rest_of}
+use Rattle.exb_net_run.specs.Lists.{AreEach}
 use Rattle.exb_net_inputs.specs.Checking.{AreAllMembersGood, AreMembersChecked}
 use Rattle.exb_net_inputs.specs.Opening.{EndsAtMember, OpensCaptures, OpensEachOf}
 use Rattle.exb_net_inputs.specs.Refusing.{FirstMemberFault}
@@ -21,7 +24,6 @@ use Rattle.exb_net_run.proofs.Arming.{rests_few}
 use Rattle.exb_net_run.proofs.Asked.{all_reading, all_wanted, capture_net, capture_of_member, checked_unchanged, checking_cause, checking_early, flaw_at, if_err_both, in_order, memory_early, memory_own, memory_unchanged, net_reading, net_wanted, nothing_stops, only_asked, play_failure, play_net_fault, play_own, played, played_only, reading_cause, reading_net, stops_checking, stops_reading, unmade}
 use Rattle.exb_net_run.proofs.Held.{only_outputs}
 use Rattle.exb_net_run.proofs.play.play_net.Goals as goal
-
 
 pub returns-in_err-members : goal.returns-in_err-members
 returns-in_err-members g c =
@@ -74,7 +76,7 @@ returns-in_err-checked g c =
       wanted = λ t. inr (all_wanted S.tells name c.args.counters f ms ws (S.ids c.args.shelf.now) (S.ids c.read_net.new.shelf) (S.ids c.check_members.new.shelf) c.in_ok-members.ensures.sound c.in_ok-members.ensures.read c.in_ok-members.ensures.opened (subst (λ (xs : List NetMember). OpensCaptures xs (S.ids c.read_net.new.shelf) (S.ids c.check_members.new.shelf)) c.as_slice.ensures c.check_members.ensures.opened) t);
       only = λ t. opens_weaker (IsNetWanted name f) _ _ _ (λ i w. inl w) (all_wanted S.tells name c.args.counters f ms ws (S.ids c.args.shelf.now) (S.ids c.read_net.new.shelf) (S.ids c.check_members.new.shelf) c.in_ok-members.ensures.sound c.in_ok-members.ensures.read c.in_ok-members.ensures.opened (subst (λ (xs : List NetMember). OpensCaptures xs (S.ids c.read_net.new.shelf) (S.ids c.check_members.new.shelf)) c.as_slice.ensures c.check_members.ensures.opened) t);
       order = inr (unmade S.tells name c.args.counters f ms ws (S.ids c.args.shelf.now) (S.ids c.read_net.new.shelf) (S.ids c.check_members.new.shelf) c.in_ok-members.ensures.sound c.in_ok-members.ensures.read c.in_ok-members.ensures.opened (subst (λ (xs : List NetMember). OpensCaptures xs (S.ids c.read_net.new.shelf) (S.ids c.check_members.new.shelf)) c.as_slice.ensures c.check_members.ensures.opened) x (checking_early (String Global) x c.in_err-checked.ensures.causes) (capture_of_member S.tells ms f1 (S.ids c.read_net.new.shelf) (S.ids c.check_members.new.shelf) x (subst (λ (xs : List NetMember). EndsAtMember S.tells xs f1 (S.ids c.read_net.new.shelf) (S.ids c.check_members.new.shelf) x) c.as_slice.ensures c.in_err-checked.ensures.ends))
-    (checked_unchanged ms x c.in_err-checked.ensures.causes));
+          (checked_unchanged ms x c.in_err-checked.ensures.causes));
       faults = counts_from _ _ _ _ c.in_ok-members.ensures.faults.once (counts_as x _ _ c.in_err-checked.ensures.faults);
     })
 
@@ -130,12 +132,23 @@ returns-in_default g c =
       faults = counts_memory _ _ (c.in_ok-checked.ensures.faults.once ∙ c.in_ok-members.ensures.faults.once);
     }
 
-pub arm_all-requires-clause-plans : goal.arm_all-requires-clause-plans
-arm_all-requires-clause-plans g c =
-    subst (λ (xs : List NetRest). All (λ (r : NetRest). length r.fate ≤ 60000) xs) (sym (c.as_slice-2.ensures ∙ c.in_ok-parts.ensures.rests)) (rests_few c.in_ok-members.field-0.members c.in_ok-members.ensures.sound.sound)
+pub arm_all-requires : goal.arm_all-requires
+arm_all-requires g c =
+    let sound = c.in_ok-members.ensures.sound in
+    let some = sound.some in
+    let few = sound.few in
+    let are = c.as_slice-2.ensures ∙ c.in_ok-parts.ensures.rests in
+    let long = ap (λ (rs : List NetRest). length rs) are ∙ length-map c.in_ok-members.field-0.members rest_of in
+    record {
+      some = omega (arith, long, some);
+      plans = subst (λ (xs : List NetRest). All (λ (r : NetRest). length r.fate ≤ 60000) xs) (sym are) (rests_few c.in_ok-members.field-0.members sound.sound);
+      fate = c.requires.fate;
+      enough = omega (arith, long, few, c.requires.many);
+      low = c.requires.each;
+    }
 
-pub play_checked-requires-clause-read : goal.play_checked-requires-clause-read
-play_checked-requires-clause-read g c =
+pub play_checked-requires : goal.play_checked-requires
+play_checked-requires g c =
     let S = g.S.Shelf in
     let f = S.file c.args.shelf.now in
     let name = c.args.name.now in
@@ -148,7 +161,10 @@ play_checked-requires-clause-read g c =
     let all : AreMembersChecked S.tells ms f2 c.as_slice-3.result.now =
     subst (λ (cs : List (Vec Checked Global)). AreMembersChecked S.tells ms f2 cs) (sym c.as_slice-3.ensures.value)
     (subst (λ (file : Files). AreMembersChecked S.tells ms file c.in_ok-checked.checked.items) (same_f1 ∙ sym same_f2) (subst (λ (xs : List NetMember). AreMembersChecked S.tells xs f1 c.in_ok-checked.checked.items) c.as_slice.ensures c.in_ok-checked.ensures.checked)) in
-    (ms, (ws, (c.in_ok-parts.ensures, (c.in_ok-members.ensures.sound, all))))
+    record {
+      read = (ms, (ws, (c.in_ok-parts.ensures, (c.in_ok-members.ensures.sound, all))));
+      fates = subst (λ rs. AreEach (λ b r f. (goal.Fate-dyn g (f.vtable, f.value)).left f.value < 2 ^ 56 + length r.fate) rs c.in-Ok.fates.items) c.as_slice-2.ensures c.in-Ok.ensures.armed;
+    }
 
 pub returns : goal.returns
 returns g c =
@@ -168,14 +184,14 @@ returns g c =
     (subst (λ (file : Files). AreMembersChecked S.tells ms file c.in_ok-checked.checked.items) (same_f1 ∙ sym same_f2) (subst (λ (xs : List NetMember). AreMembersChecked S.tells xs f1 c.in_ok-checked.checked.items) c.as_slice.ensures c.in_ok-checked.ensures.checked)) in
     record {
       done = λ t. if_ok_map c.play_checked.result
-    (λ line played.
-    record {
-      members = ms;
-      wires = ws;
-      ready = record { holds = c.in_ok-members.ensures.read t; good = (subst (λ (file : Files). AreAllMembersGood ms file) same_f1 (subst (λ (xs : List NetMember). AreAllMembersGood xs f1) c.as_slice.ensures (c.in_ok-checked.ensures.good t))) };
-      played = subst (λ (file : Files). IsNetPlayed c.args.counters ms (net_of ms ws file) file new (string_bytes line)) same_f2 (played ms ws c.in_ok-parts.ensures c.in_ok-members.ensures.sound all);
-    })
-    (c.play_checked.ensures.done t);
+          (λ line played.
+          record {
+            members = ms;
+            wires = ws;
+            ready = record { holds = c.in_ok-members.ensures.read t; good = (subst (λ (file : Files). AreAllMembersGood ms file) same_f1 (subst (λ (xs : List NetMember). AreAllMembersGood xs f1) c.as_slice.ensures (c.in_ok-checked.ensures.good t))) };
+            played = subst (λ (file : Files). IsNetPlayed c.args.counters ms (net_of ms ws file) file new (string_bytes line)) same_f2 (played ms ws c.in_ok-parts.ensures c.in_ok-members.ensures.sound all);
+          })
+          (c.play_checked.ensures.done t);
       says = c.play_checked.ensures.says;
       cause = λ t. if_err_both c.play_checked.result (λ x of never. inr (play_failure x of never)) c.play_checked.ensures.causes (c.play_checked.ensures.never t);
       stops = λ t fault stops. absurd (nothing_stops c.nets_have_one_cause.ensures name f ms ws (c.in_ok-members.ensures.read t) (subst (λ (file : Files). AreAllMembersGood ms file) same_f1 (subst (λ (xs : List NetMember). AreAllMembersGood xs f1) c.as_slice.ensures (c.in_ok-checked.ensures.good t))) fault stops);
@@ -183,19 +199,19 @@ returns g c =
       early = if_err_map c.play_checked.result (λ x of. inl of) c.play_checked.ensures.causes;
       stopped = λ t fault stops. absurd (nothing_stops c.nets_have_one_cause.ensures name f ms ws (c.in_ok-members.ensures.read t) (subst (λ (file : Files). AreAllMembersGood ms file) same_f1 (subst (λ (xs : List NetMember). AreAllMembersGood xs f1) c.as_slice.ensures (c.in_ok-checked.ensures.good t))) fault stops);
       others = λ t. only_asked name c.args.counters f new ms ws (c.in_ok-members.ensures.read t)
-    (subst (λ (file : Files). OnlyNetOutputs c.args.counters ms file new) same_f2 (only_outputs c.args.counters ms f2 new (c.play_checked.ensures.only t ms ws c.in_ok-parts.ensures c.in_ok-members.ensures.sound)));
+          (subst (λ (file : Files). OnlyNetOutputs c.args.counters ms file new) same_f2 (only_outputs c.args.counters ms f2 new (c.play_checked.ensures.only t ms ws c.in_ok-parts.ensures c.in_ok-members.ensures.sound)));
       fronts = λ t. inr (record {
-      members = ms;
-      wires = ws;
-      holds = c.in_ok-members.ensures.read t;
-      fronts = subst (λ (file : Files). AreNetFronts ms (net_of ms ws file) file new) same_f2 (c.play_checked.ensures.fronts t ms ws c.in_ok-parts.ensures c.in_ok-members.ensures.sound all);
-    });
+        members = ms;
+        wires = ws;
+        holds = c.in_ok-members.ensures.read t;
+        fronts = subst (λ (file : Files). AreNetFronts ms (net_of ms ws file) file new) same_f2 (c.play_checked.ensures.fronts t ms ws c.in_ok-parts.ensures c.in_ok-members.ensures.sound all);
+      });
       reads = if_err_map c.play_checked.result (λ x of. inl of) c.play_checked.ensures.causes;
       wanted = λ t. if_err_map c.play_checked.result (λ x of. inl of) c.play_checked.ensures.causes;
       only = λ t. played_only S.tells name c.args.counters f ms ws (S.ids c.args.shelf.now) (S.ids c.read_net.new.shelf) (S.ids c.check_members.new.shelf) c.in_ok-members.ensures.sound c.in_ok-members.ensures.read c.in_ok-members.ensures.opened (subst (λ (xs : List NetMember). OpensCaptures xs (S.ids c.read_net.new.shelf) (S.ids c.check_members.new.shelf)) c.as_slice.ensures c.check_members.ensures.opened)
-    (S.ids c.play_checked.new.shelf) c.play_checked.result (subst (λ (xs : List NetMember). OpensEachOf xs (S.ids c.read_net.new.shelf) (S.ids c.check_members.new.shelf)) c.as_slice.ensures c.in_ok-checked.ensures.each) (λ t. (subst (λ (file : Files). AreAllMembersGood ms file) same_f1 (subst (λ (xs : List NetMember). AreAllMembersGood xs f1) c.as_slice.ensures (c.in_ok-checked.ensures.good t)))) c.nets_have_one_cause.ensures (c.play_checked.ensures.opens ms ws c.in_ok-parts.ensures c.in_ok-members.ensures.sound) (c.play_checked.ensures.made ms ws c.in_ok-parts.ensures c.in_ok-members.ensures.sound) t;
+          (S.ids c.play_checked.new.shelf) c.play_checked.result (subst (λ (xs : List NetMember). OpensEachOf xs (S.ids c.read_net.new.shelf) (S.ids c.check_members.new.shelf)) c.as_slice.ensures c.in_ok-checked.ensures.each) (λ t. (subst (λ (file : Files). AreAllMembersGood ms file) same_f1 (subst (λ (xs : List NetMember). AreAllMembersGood xs f1) c.as_slice.ensures (c.in_ok-checked.ensures.good t)))) c.nets_have_one_cause.ensures (c.play_checked.ensures.opens ms ws c.in_ok-parts.ensures c.in_ok-members.ensures.sound) (c.play_checked.ensures.made ms ws c.in_ok-parts.ensures c.in_ok-members.ensures.sound) t;
       order = in_order S.tells name c.args.counters c.play_checked.result f (S.ids c.args.shelf.now) (S.ids c.play_checked.new.shelf)
-    (played S.tells name c.args.counters f ms ws (S.ids c.args.shelf.now) (S.ids c.read_net.new.shelf) (S.ids c.check_members.new.shelf) c.in_ok-members.ensures.sound c.in_ok-members.ensures.read c.in_ok-members.ensures.opened (subst (λ (xs : List NetMember). OpensCaptures xs (S.ids c.read_net.new.shelf) (S.ids c.check_members.new.shelf)) c.as_slice.ensures c.check_members.ensures.opened)
-    (S.ids c.play_checked.new.shelf) c.play_checked.result (subst (λ (xs : List NetMember). OpensEachOf xs (S.ids c.read_net.new.shelf) (S.ids c.check_members.new.shelf)) c.as_slice.ensures c.in_ok-checked.ensures.each) (λ t. (subst (λ (file : Files). AreAllMembersGood ms file) same_f1 (subst (λ (xs : List NetMember). AreAllMembersGood xs f1) c.as_slice.ensures (c.in_ok-checked.ensures.good t)))) c.nets_have_one_cause.ensures (c.play_checked.ensures.opens ms ws c.in_ok-parts.ensures c.in_ok-members.ensures.sound) (c.play_checked.ensures.made ms ws c.in_ok-parts.ensures c.in_ok-members.ensures.sound) (play_own ms c.play_checked.result c.play_checked.ensures.causes) (λ bridge p at is. c.play_checked.ensures.changed ms ws c.in_ok-parts.ensures bridge p at is));
+          (played S.tells name c.args.counters f ms ws (S.ids c.args.shelf.now) (S.ids c.read_net.new.shelf) (S.ids c.check_members.new.shelf) c.in_ok-members.ensures.sound c.in_ok-members.ensures.read c.in_ok-members.ensures.opened (subst (λ (xs : List NetMember). OpensCaptures xs (S.ids c.read_net.new.shelf) (S.ids c.check_members.new.shelf)) c.as_slice.ensures c.check_members.ensures.opened)
+          (S.ids c.play_checked.new.shelf) c.play_checked.result (subst (λ (xs : List NetMember). OpensEachOf xs (S.ids c.read_net.new.shelf) (S.ids c.check_members.new.shelf)) c.as_slice.ensures c.in_ok-checked.ensures.each) (λ t. (subst (λ (file : Files). AreAllMembersGood ms file) same_f1 (subst (λ (xs : List NetMember). AreAllMembersGood xs f1) c.as_slice.ensures (c.in_ok-checked.ensures.good t)))) c.nets_have_one_cause.ensures (c.play_checked.ensures.opens ms ws c.in_ok-parts.ensures c.in_ok-members.ensures.sound) (c.play_checked.ensures.made ms ws c.in_ok-parts.ensures c.in_ok-members.ensures.sound) (play_own ms c.play_checked.result c.play_checked.ensures.causes) (λ bridge p at is. c.play_checked.ensures.changed ms ws c.in_ok-parts.ensures bridge p at is));
       faults = counts_from c.play_checked.result _ _ _ (c.in_ok-checked.ensures.faults.once ∙ c.in_ok-members.ensures.faults.once) c.play_checked.ensures.faults;
     }
