@@ -4,7 +4,7 @@ use Rattle.exb_network.specs.Networks.{IsQuiet, Network}
 use Rattle.exb_net_run.specs.declared.ends.WiredEnd.{WiredEnd}
 use Rattle.exb_net_run.specs.declared.node.Node.{Node}
 use Rattle.exb_net_run.specs.Lists.{AreEach}
-use Rattle.exb_net_run.specs.Marks.{AreQuietBut, mark_of}
+use Rattle.exb_net_run.specs.Marks.{AreQuietBut, AreSameBut, mark_of}
 use Rattle.exb_net_run.specs.Nodes.{HasForgotten}
 use Rattle.exb_net_run.proofs.Places.{is_there, set_there}
 use Rattle.std.proofs.lemmas.Option.{slice_get_within}
@@ -21,6 +21,10 @@ module _ {V : Type 0} {X : V → Type 0} where
   -- where one is another, and it is marked too
   pub quiet_set : (old marks i : ℕ) (xs : List (Node V X)) (y : Node V X) → ((b : ℕ) → mark_of marks b ≡ 0 → (mark_of old b ≡ 0) × (b ≢ i)) → AreQuietBut old xs → AreQuietBut marks (set xs i y)
   quiet_set old marks i xs y more all = record { each = λ b x is none. (let p = more b none in all.each b x (sym (set_there xs i b y p.1) ∙ is) p.0) }
+
+  -- where all that are another are marked too
+  pub quiet_joined : (old touched marks : ℕ) (xs ys : List (Node V X)) → ((b : ℕ) → mark_of marks b ≡ 0 → (mark_of old b ≡ 0) × (mark_of touched b ≡ 0)) → AreSameBut touched xs ys → AreQuietBut old xs → AreQuietBut marks ys
+  quiet_joined old touched marks xs ys more same all = record { each = λ b x is none. (let p = more b none in all.each b x (sym (same.each b p.1) ∙ is) p.0) }
 
   -- where all have forgotten, whatever is marked
   pub all_quiet : (marks : ℕ) (xs ys : List (Node V X)) → AreEach (λ b u v. HasForgotten u.world v.world u.ends.items v.ends.items) xs ys → AreQuietBut marks ys

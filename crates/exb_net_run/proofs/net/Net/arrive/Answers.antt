@@ -1,6 +1,6 @@
 use Rattle.std.proofs.Common.{refl}
 use Rattle.exb_net_run.proofs.Whole.{arrived_so, is_coming}
-use Rattle.exb_net_run.proofs.Quiet.{all_marked}
+use Rattle.exb_net_run.proofs.Quiet.{all_marked, quiet_joined}
 use Rattle.exb_net_run.proofs.net.Net.arrive.Goals as goal
 
 pub play_arrival-requires-clause-can : goal.play_arrival-requires-clause-can
@@ -20,3 +20,6 @@ returns-in-Ok-clause-ok g c = λ n s told k free.
 
 pub invariant_of-self-in-Err : goal.invariant_of-self-in-Err
 invariant_of-self-in-Err g c = record { quiet = all_marked c.all-self.result c.all-self.ensures c.play_arrival.new.nodes.items }
+
+pub invariant_of-self : goal.invariant_of-self
+invariant_of-self g c = record { quiet = quiet_joined c.args.self.now.touched c.in-Ok.touched c.join.new.self c.args.self.now.nodes.items c.play_arrival.new.nodes.items c.join.ensures c.in-Ok.ensures.others c.args.self.now.quiet }
