@@ -1,6 +1,6 @@
 //! The steps of a live network: it stays live, and where a trace is kept the lines of each are told. Those of which each frame has some
 //! are made out of line where one is kept, so that a frame pays one test a step for it.
-ghost use Rattle.std.specs.Prelude.{◌≡◌, true, false, OnOk};
+ghost use Rattle.std.specs.Prelude.{◌≡◌, true, OnOk};
 ghost use Rattle.exb_machine.specs.Allowing.{Can};
 ghost use Rattle.exb_machine.specs.Runs.Asks.{AsksWell};
 ghost use Rattle.exb_machine.specs.Worlds.{Arrive, Beat, Carry, Control, Lose, Mark, Order, Tick};
@@ -125,42 +125,23 @@ fn told_carry(
     tell_rest(from, &mut room.post)
 }
 
-/// The control word at a position of a direction is delivered.
+/// The control word at a position of a direction is delivered, and stays on its link too if it is kept.
 pub(crate) fn deliver(
     site: &Site,
     link: u8,
     way: Way,
     at: u64,
+    keep: bool,
     room: &mut Room,
     core: &mut Core,
 ) -> Result<(), NoMemory>
     requires live { IsLive site.now core.old }
-    requires can { Can site.now.tree (world_in core.old) (Control link (way_of way) at false) }
-    ensures { OnOk result (Makes (Control link (way_of way) at false) site.now core.old core.new room.old.post.log room.new.post.log) }
+    requires can { Can site.now.tree (world_in core.old) (Control link (way_of way) at keep) }
+    ensures { OnOk result (Makes (Control link (way_of way) at keep) site.now core.old core.new room.old.post.log room.new.post.log) }
 {
     stays_live(site, core);
     let from = tell_control(site, link, way, at, core, &mut room.post)?;
-    stepping::deliver(site, link, way, at, room, core)?;
-    core.bridge.control.has_low_serials();
-    tell_rest(from, &mut room.post)
-}
-
-/// The control word at a position of a direction is delivered, and stays on its link too.
-pub(crate) fn repeat(
-    site: &Site,
-    link: u8,
-    way: Way,
-    at: u64,
-    room: &mut Room,
-    core: &mut Core,
-) -> Result<(), NoMemory>
-    requires live { IsLive site.now core.old }
-    requires can { Can site.now.tree (world_in core.old) (Control link (way_of way) at true) }
-    ensures { OnOk result (Makes (Control link (way_of way) at true) site.now core.old core.new room.old.post.log room.new.post.log) }
-{
-    stays_live(site, core);
-    let from = tell_control(site, link, way, at, core, &mut room.post)?;
-    stepping::repeat(site, link, way, at, room, core)?;
+    stepping::deliver(site, link, way, at, keep, room, core)?;
     core.bridge.control.has_low_serials();
     tell_rest(from, &mut room.post)
 }

@@ -1,7 +1,7 @@
 //! How each step is made.
-ghost use Rattle.std.specs.Prelude.{◌≡◌, ◌<◌, ◌+◌, ◌^◌, true, false, IfOk, OnOk, filter, slice_get};
+ghost use Rattle.std.specs.Prelude.{◌≡◌, ◌<◌, ◌+◌, ◌^◌, true, IfOk, OnOk, filter, slice_get};
 ghost use Rattle.exb_model.specs.Tree.{is_extender, is_external};
-ghost use Rattle.exb_machine.specs.Stepping.{arrives, control_at, done_by, takes, takes_up, with_words, words_on};
+ghost use Rattle.exb_machine.specs.Stepping.{arrives, control_at, done_by, rest_of, takes, takes_up, with_words, words_on};
 ghost use Rattle.exb_machine.specs.Worlds.{Carry, Control, Down, Lose, Mark, Up};
 ghost use Rattle.exb_link.specs.Words.{is_control, without_control};
 ghost use Rattle.exb_machine.specs.Runs.Asks.{AsksWell};
@@ -174,7 +174,30 @@ pub(crate) fn carry(
     }
 }
 
-/// The control word at a position is delivered.
+/// The control word at a position that is delivered: a copy of it where it is kept, or else it is taken off its link.
+fn get_control(
+    site: &Site,
+    number: u8,
+    way: Way,
+    place: u64,
+    keep: bool,
+    alloc: Global,
+    core: &mut Core,
+) -> Result<Option<BoxedWord>, NoMemory>
+    requires at { IsAt site.now core.old }
+    requires known { IsNumber number }
+    ensures word { IfOk result (λ word. word ≡ control_at (words_on number (way_of way) (world_in core.old)) place) }
+    ensures rest { OnOk result (world_in core.new ≡ with_words number (way_of way) (rest_of keep (words_on number (way_of way) (world_in core.old)) place) (world_in core.old)) }
+    ensures at { OnOk result (IsAt site.now core.new) }
+{
+    if keep {
+        copy_control(alloc, number, way, place, core)
+    } else {
+        Ok(pull_control(site, number, way, place, core))
+    }
+}
+
+/// The control word at a position is delivered, and stays on its link too if it is kept.
 #[cold]
 #[inline(never)]
 pub(crate) fn deliver(
@@ -182,39 +205,17 @@ pub(crate) fn deliver(
     number: u8,
     way: Way,
     place: u64,
+    keep: bool,
     room: &mut Room,
     core: &mut Core,
 ) -> Result<(), NoMemory>
     requires at { IsAt site.now core.old }
     requires there { is_extender site.now.tree number ≡ true }
     requires asks { AsksWell site.now.tree (limits_in site.now) (world_in core.old).control }
-    ensures { OnOk result (Does (done_by site.now.tree (limits_in site.now) (Control number (way_of way) place false) (world_in core.old)) site.now core.new room.old.post.log room.new.post.log) }
+    ensures { OnOk result (Does (done_by site.now.tree (limits_in site.now) (Control number (way_of way) place keep) (world_in core.old)) site.now core.new room.old.post.log room.new.post.log) }
 {
     site.has_low_number(number);
-    match pull_control(site, number, way, place, core) {
-        None => Ok(()),
-        Some(word) => take(site, number, way, word, room, core),
-    }
-}
-
-/// The control word at a position is delivered, and stays on its link too.
-#[cold]
-#[inline(never)]
-pub(crate) fn repeat(
-    site: &Site,
-    number: u8,
-    way: Way,
-    place: u64,
-    room: &mut Room,
-    core: &mut Core,
-) -> Result<(), NoMemory>
-    requires at { IsAt site.now core.old }
-    requires there { is_extender site.now.tree number ≡ true }
-    requires asks { AsksWell site.now.tree (limits_in site.now) (world_in core.old).control }
-    ensures { OnOk result (Does (done_by site.now.tree (limits_in site.now) (Control number (way_of way) place true) (world_in core.old)) site.now core.new room.old.post.log room.new.post.log) }
-{
-    site.has_low_number(number);
-    match copy_control(room.post.alloc, number, way, place, core)? {
+    match get_control(site, number, way, place, keep, room.post.alloc, core)? {
         None => Ok(()),
         Some(word) => take(site, number, way, word, room, core),
     }

@@ -140,33 +140,26 @@ impl World {
         closed(made, &mut self.failed)
     }
 
-    /// The control word at a position, before which no data word is left, is delivered.
+    /// The control word at a position, before which no data word is left, is delivered; it stays on the link too if it is kept.
     #[inline(always)]
-    pub fn deliver(&mut self, link: u8, way: Way, at: u64) -> Result<(), WorldFault>
-        requires { Can (tree_of self.old) (world_of self.old) (Control link (way_of way) at false) }
-        ensures ok { OnOk result (IsStepped (Control link (way_of way) at false) self.old self.new) }
+    pub fn deliver(&mut self, link: u8, way: Way, at: u64, keep: bool) -> Result<(), WorldFault>
+        requires { Can (tree_of self.old) (world_of self.old) (Control link (way_of way) at keep) }
+        ensures ok { OnOk result (IsStepped (Control link (way_of way) at keep) self.old self.new) }
         ensures failed { (result ≡ Err WorldFault.Failed) ↔ (self.old.failed ≡ true) }
         ensures memory { OnErr result (self.new.failed ≡ true) }
     {
         if self.failed {
             return Err(WorldFault::Failed);
         }
-        let made = live::deliver(&self.site, link, way, at, &mut self.room, &mut self.core);
-        closed(made, &mut self.failed)
-    }
-
-    /// The control word at a position, before which no data word is left, is delivered, and stays on the link too.
-    #[inline(always)]
-    pub fn repeat(&mut self, link: u8, way: Way, at: u64) -> Result<(), WorldFault>
-        requires { Can (tree_of self.old) (world_of self.old) (Control link (way_of way) at true) }
-        ensures ok { OnOk result (IsStepped (Control link (way_of way) at true) self.old self.new) }
-        ensures failed { (result ≡ Err WorldFault.Failed) ↔ (self.old.failed ≡ true) }
-        ensures memory { OnErr result (self.new.failed ≡ true) }
-    {
-        if self.failed {
-            return Err(WorldFault::Failed);
-        }
-        let made = live::repeat(&self.site, link, way, at, &mut self.room, &mut self.core);
+        let made = live::deliver(
+            &self.site,
+            link,
+            way,
+            at,
+            keep,
+            &mut self.room,
+            &mut self.core,
+        );
         closed(made, &mut self.failed)
     }
 

@@ -36,7 +36,7 @@ pub(crate) fn take_control(
 {
     match fate.next() {
         Verdict::Pass => {
-            world.deliver(link, way, place)?;
+            world.deliver(link, way, place, false)?;
             Ok(place)
         }
         Verdict::Lose => {
@@ -44,7 +44,7 @@ pub(crate) fn take_control(
             Ok(place)
         }
         Verdict::Twice => {
-            world.repeat(link, way, place)?;
+            world.deliver(link, way, place, true)?;
             Ok(place + 1)
         }
         Verdict::Later => Ok(place + 1),

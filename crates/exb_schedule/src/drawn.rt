@@ -32,28 +32,22 @@ fn take_data(world: &mut World, link: u8, way: Way) -> Result<(), WorldFault>
     world.carry(link, way)
 }
 
-/// Delivers a control word.
-fn deliver_at(world: &mut World, link: u8, way: Way, place: u64) -> Result<(), WorldFault>
+/// Delivers a control word, and may keep it on its link.
+fn deliver_at(
+    world: &mut World,
+    link: u8,
+    way: Way,
+    place: u64,
+    keep: bool,
+) -> Result<(), WorldFault>
     requires { ⊤ }
     ensures ok { OnOk result (Keeps world.old world.new) }
     ensures failed { result ≡ Err WorldFault.Failed → world.old.failed ≡ true }
 {
-    if !world.can(&deliver(link, way, place, false)) {
+    if !world.can(&deliver(link, way, place, keep)) {
         return Ok(());
     }
-    world.deliver(link, way, place)
-}
-
-/// Delivers a control word, and keeps it on its link.
-fn repeat_at(world: &mut World, link: u8, way: Way, place: u64) -> Result<(), WorldFault>
-    requires { ⊤ }
-    ensures ok { OnOk result (Keeps world.old world.new) }
-    ensures failed { result ≡ Err WorldFault.Failed → world.old.failed ≡ true }
-{
-    if !world.can(&deliver(link, way, place, true)) {
-        return Ok(());
-    }
-    world.repeat(link, way, place)
+    world.deliver(link, way, place, keep)
 }
 
 /// Loses a control word.
@@ -91,9 +85,9 @@ fn ask_fate(
     ensures fate { left fate.new ≤ left fate.old }
 {
     match fate.next() {
-        Verdict::Pass => deliver_at(world, link, way, place),
+        Verdict::Pass => deliver_at(world, link, way, place, false),
         Verdict::Lose => lose_at(world, link, way, place),
-        Verdict::Twice => repeat_at(world, link, way, place),
+        Verdict::Twice => deliver_at(world, link, way, place, true),
         Verdict::Later => Ok(()),
     }
 }

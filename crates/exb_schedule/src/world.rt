@@ -120,24 +120,14 @@ impl World {
         self.network.carry(link, way)
     }
 
-    /// The control word at a position, before which no data word is left, is delivered.
+    /// The control word at a position, before which no data word is left, is delivered; it stays on the link too if it is kept.
     #[inline(always)]
-    pub fn deliver(&mut self, link: u8, way: Way, at: u64) -> Result<(), WorldFault>
-        requires { Can (tree_of self.old) (world_of self.old) (Control link (way_of way) at false) }
-        ensures { HasMade (Control link (way_of way) at false) result self.old self.new }
+    pub fn deliver(&mut self, link: u8, way: Way, at: u64, keep: bool) -> Result<(), WorldFault>
+        requires { Can (tree_of self.old) (world_of self.old) (Control link (way_of way) at keep) }
+        ensures { HasMade (Control link (way_of way) at keep) result self.old self.new }
     {
         steps_leave_standing();
-        self.network.deliver(link, way, at)
-    }
-
-    /// The control word at a position, before which no data word is left, is delivered, and stays on the link too.
-    #[inline(always)]
-    pub fn repeat(&mut self, link: u8, way: Way, at: u64) -> Result<(), WorldFault>
-        requires { Can (tree_of self.old) (world_of self.old) (Control link (way_of way) at true) }
-        ensures { HasMade (Control link (way_of way) at true) result self.old self.new }
-    {
-        steps_leave_standing();
-        self.network.repeat(link, way, at)
+        self.network.deliver(link, way, at, keep)
     }
 
     /// The control word at a position is lost.

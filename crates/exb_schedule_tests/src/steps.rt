@@ -43,30 +43,17 @@ pub(crate) fn carry(rt: &impl Abort, world: &mut World, link: u8, way: Way) {
     world.carry(link, way).expect(rt, "memory");
 }
 
-/// A control word is delivered.
-pub(crate) fn deliver(rt: &impl Abort, world: &mut World, link: u8, way: Way, at: u64) {
+/// A control word is delivered, and may stay on its link too.
+pub(crate) fn deliver(rt: &impl Abort, world: &mut World, link: u8, way: Way, at: u64, keep: bool) {
     assert!(rt;
         world.can(&Step::Control {
             link,
             way,
             at,
-            keep: false,
+            keep,
         })
     );
-    world.deliver(link, way, at).expect(rt, "memory");
-}
-
-/// A control word is delivered, and stays on its link.
-pub(crate) fn repeat(rt: &impl Abort, world: &mut World, link: u8, way: Way, at: u64) {
-    assert!(rt;
-        world.can(&Step::Control {
-            link,
-            way,
-            at,
-            keep: true,
-        })
-    );
-    world.repeat(link, way, at).expect(rt, "memory");
+    world.deliver(link, way, at, keep).expect(rt, "memory");
 }
 
 /// A control word is lost.

@@ -9,8 +9,8 @@
 //! - `tell`: logs the events and what has left; `planned`, `counts N`: logs how many exchanges are planned, and how many data words
 //!   and control words are on a link, up and down; `free N down K`: logs whether a control word may be delivered; `skip`: forgets what was told
 use crate::steps::{
-    arm_with, arrive, asked, beat, begun, carry, counts, deliver, give, is_free, lose, repeat,
-    rest, scripted,
+    arm_with, arrive, asked, beat, begun, carry, counts, deliver, give, is_free, lose, rest,
+    scripted,
 };
 use exb_fate::Fate;
 use exb_hostile::hex::{bytes_of, text_of};
@@ -212,8 +212,8 @@ fn moves_word(rt: &impl Abort, world: &mut World, verb: &str, words: &mut SplitW
     let at = number(rt, words.next());
     match verb {
         "lose" => lose(rt, world, link, way, at),
-        "keep" => repeat(rt, world, link, way, at),
-        "control" => deliver(rt, world, link, way, at),
+        "keep" => deliver(rt, world, link, way, at, true),
+        "control" => deliver(rt, world, link, way, at, false),
         _ => panic!(rt; "no such step: {verb}"),
     }
 }

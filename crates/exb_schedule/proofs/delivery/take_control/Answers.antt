@@ -13,8 +13,8 @@ returns-in_ok-deliver-in-Pass-clause-ok g c = passed _ _ _ _ _ _ _ c.next.ensure
 pub returns-in_ok-lose-in-Lose-clause-ok : goal.returns-in_ok-lose-in-Lose-clause-ok
 returns-in_ok-lose-in-Lose-clause-ok g c = lost _ _ _ _ _ _ _ c.next.result c.in-Lose.is c.next.ensures.1 c.in_ok-lose-in-Lose.ensures.ok c.in_ok-lose-in-Lose.ensures.may
 
-pub returns-in_ok-repeat-in-Twice-clause-ok : goal.returns-in_ok-repeat-in-Twice-clause-ok
-returns-in_ok-repeat-in-Twice-clause-ok g c = repeated _ _ _ _ _ _ _ c.next.result c.in-Twice.is c.next.ensures.1 c.in_ok-repeat-in-Twice.ensures.ok c.in_ok-repeat-in-Twice.ensures.may
+pub returns-in_ok-deliver-in-Twice-clause-ok : goal.returns-in_ok-deliver-in-Twice-clause-ok
+returns-in_ok-deliver-in-Twice-clause-ok g c = repeated _ _ _ _ _ _ _ c.next.result c.in-Twice.is c.next.ensures.1 c.in_ok-deliver-in-Twice.ensures.ok c.in_ok-deliver-in-Twice.ensures.may
 
 pub returns-in-Later-clause-ok : goal.returns-in-Later-clause-ok
 returns-in-Later-clause-ok g c = kept _ _ _ _ _ _ c.next.result c.in-Later.is c.next.ensures.1

@@ -1,4 +1,3 @@
-use Rattle.std.proofs.Common.{false}
 use Rattle.exb_machine.specs.Worlds.{Control}
 use Rattle.exb_network.specs.Steps.{way_of}
 use Rattle.exb_bridge.proofs.Coming.{on_ok_two}
@@ -7,4 +6,4 @@ use Rattle.exb_schedule.proofs.drawn.deliver_at.Goals as goal
 
 pub returns-clause-ok : goal.returns-clause-ok
 returns-clause-ok c =
-    on_ok_two c.deliver-2.result (λ made may. keeps_by (Control c.args.link (way_of c.args.way) c.args.place false) c.args.world.now c.deliver-2.new.self tt made may) c.deliver-2.ensures.ok c.deliver-2.ensures.may
+    on_ok_two c.deliver-2.result (λ made may. keeps_by (Control c.args.link (way_of c.args.way) c.args.place c.args.keep) c.args.world.now c.deliver-2.new.self tt made may) c.deliver-2.ensures.ok c.deliver-2.ensures.may

@@ -1,4 +1,3 @@
-use Rattle.std.proofs.Common.{false}
 use Rattle.std.proofs.lemmas.Result.{on_ok_weaker}
 use Rattle.exb_machine.specs.Worlds.{Control}
 use Rattle.exb_network.specs.Steps.{way_of}
@@ -9,4 +8,4 @@ pub deliver-made-requires-clause-live : goal.deliver-made-requires-clause-live
 deliver-made-requires-clause-live c = c.self.invariant c.if-self.false
 
 pub returns-clause-ok : goal.returns-clause-ok
-returns-clause-ok c = on_ok_weaker c.closed.result (closes c.deliver-made.result (Control c.args.link (way_of c.args.way) c.args.at false) _ _ _ _ _ _ _ _ c.self.view_is c.deliver-made.ensures) c.closed.ensures.made
+returns-clause-ok c = on_ok_weaker c.closed.result (closes c.deliver-made.result (Control c.args.link (way_of c.args.way) c.args.at c.args.keep) _ _ _ _ _ _ _ _ c.self.view_is c.deliver-made.ensures) c.closed.ensures.made
