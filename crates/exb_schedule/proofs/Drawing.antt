@@ -22,7 +22,8 @@ use Rattle.exb_motion.specs.Playing.{seconds_by, seconds_in, IsUnmarked}
 use Rattle.exb_network.specs.Networks.{Network, world_of, tree_of, bounds_of, IsStepped}
 use Rattle.exb_bridge.specs.Sites.{Site}
 use Rattle.exb_motion.specs.Runs.Settles.{MayTake}
-use Rattle.exb_schedule.specs.Drawing.{left_of, seconds_of, MayCome, MayComeAll, MayOrderAll, IsReady, HasDrawn, Keeps}
+use Rattle.exb_schedule.specs.Drawing.{left_of, seconds_of, MayCome, MayComeAll, MayOrderAll, IsReady, GoesOn, HasDrawn, Keeps}
+use Rattle.exb_schedule.specs.declared.rest.Rest.{Rest}
 use Rattle.exb_schedule.specs.Playing.{arrive, gives, orders, CanAll, CanFrom, IsSegment}
 use Rattle.exb_schedule.specs.Segments.{GivesThese}
 use Rattle.exb_schedule.proofs.Leading.{run_nothing, run_step, run_steps}
@@ -357,6 +358,14 @@ keeps_by step now new move made may = λ all cs frames seconds taken given old k
 pub on_ok_four : {A E P Q R S T : Type 0} (r : Result A E) → (P → Q → R → S → T) → OnOk r P → OnOk r Q → OnOk r R → OnOk r S → OnOk r T
 on_ok_four (Ok x) f p q r s = f p q r s
 on_ok_four (Err e) f p q r s = tt
+
+pub on_ok_any : {A E P : Type 0} (r : Result A E) → P → OnOk r P
+on_ok_any (Ok x) p = p
+on_ok_any (Err e) p = tt
+
+pub keeps_on : {A E : Type 0} (r : Result A E) (cs : List Timed) (frames : List Arrival) (rest : Rest) (now new : Network) → OnOk r (Keeps now new) → OnOk r (GoesOn cs frames rest rest now new)
+keeps_on (Ok x) cs frames rest now new k = λ all old drawn. k all cs frames rest.seconds rest.taken rest.given.items old drawn
+keeps_on (Err e) cs frames rest now new k = tt
 
 -- as it begins
 pub drawn_begin : (seconds : ℕ) (cs : List Timed) (frames : List Arrival) (left taken : ℕ) (given : List Bool) (now : Network) → left ≡ seconds → taken ≡ 0 → given ≡ replicate (length frames) false →
