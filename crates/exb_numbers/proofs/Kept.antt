@@ -207,3 +207,16 @@ released ports channels free c p next k held small n =
                 ap is_some (get_or-set_other ports c next None None other) ∙ ap (is_used ports) x.1 ∙ k.at
           ];
     }
+
+-- a channel that is used is of a port, and it is read
+pub used_in : (ports : List (Option ℕ)) (c : ℕ) → is_used ports c ≡ true → c < length ports
+used_in ports c used = elim (cases_lt c (length ports)) [
+  | inl l ↦ l
+  | inr l ↦ absurd (false≢true (sym (ap is_some (past ports c l)) ∙ used))
+]
+
+pub not_none : (ports : List (Option ℕ)) (c : ℕ) (r : Option ℕ) → is_used ports c ≡ true → r ≡ get_or ports c r → r ≡ None → ⊥
+not_none ports c r used is none = false≢true (ap is_some (sym none ∙ read_is ports c r (used_in ports c used) is) ∙ used)
+
+pub held_by : (ports : List (Option ℕ)) (c p : ℕ) (r : Option ℕ) → is_used ports c ≡ true → r ≡ get_or ports c r → r ≡ Some p → holder ports c ≡ Some p
+held_by ports c p r used is some = sym (read_is ports c r (used_in ports c used) is) ∙ some

@@ -2,6 +2,7 @@
 ghost use Rattle.std.specs.Prelude.{◌≡◌, ℕ, ◌+◌, ◌==◌, ◌<◌, ◌≤◌, ◌↔◌, true, false, length, replicate, slice_set, Some, None, if◌then◌else◌, IfOk, OnErr, IfSome, MatchResult};
 ghost use Rattle.exb_numbers.specs.Channels.{holder, is_used, channel_of, lowest_channel};
 
+use crate::groups::copied;
 use exb_model::memory::NoMemory;
 use exb_model::port::{PORTS, PortId};
 use std::alloc::Global;
@@ -82,9 +83,10 @@ impl Channels {
     pub fn copy(&self) -> Result<Channels, NoMemory>
         ensures { IfOk result (λ made. made ≡ self.now) }
     {
+        let alloc = *self.ports.allocator();
         Ok(Channels {
-            ports: self.ports.clone()?,
-            channels: self.channels.clone()?,
+            ports: copied(alloc, self.ports.as_slice(), self.ports.len())?,
+            channels: copied(alloc, self.channels.as_slice(), self.channels.len())?,
             free: self.free,
         })
     }
@@ -114,9 +116,10 @@ impl Channels {
         ensures table { self.new ≡ slice_set self.old channel None }
         ensures holders { (e : ℕ) → holder self.new e ≡ (if e == channel then None else holder self.old e) }
     {
-        if let Some(port) = self.ports[channel as usize] {
-            self.channels[port.number() as usize] = None;
-        }
+        let Some(port) = self.ports[channel as usize] else {
+            return;
+        };
+        self.channels[port.number() as usize] = None;
         self.ports[channel as usize] = None;
         if channel < self.free {
             self.free = channel;
