@@ -2,7 +2,6 @@
 ghost use Rattle.std.specs.Prelude.{◌≡◌, ℕ, ◌+◌, ◌==◌, ◌<◌, ◌≤◌, ◌↔◌, true, false, length, replicate, slice_set, Some, None, if◌then◌else◌, IfOk, OnErr, IfSome, MatchResult};
 ghost use Rattle.exb_numbers.specs.Channels.{holder, is_used, channel_of, lowest_channel};
 
-use crate::groups::copied;
 use exb_model::memory::NoMemory;
 use exb_model::port::{PORTS, PortId};
 use std::alloc::Global;
@@ -83,10 +82,9 @@ impl Channels {
     pub fn copy(&self) -> Result<Channels, NoMemory>
         ensures { IfOk result (λ made. made ≡ self.now) }
     {
-        let alloc = *self.ports.allocator();
         Ok(Channels {
-            ports: copied(alloc, self.ports.as_slice(), self.ports.len())?,
-            channels: copied(alloc, self.channels.as_slice(), self.channels.len())?,
+            ports: self.ports.clone()?,
+            channels: self.channels.clone()?,
             free: self.free,
         })
     }

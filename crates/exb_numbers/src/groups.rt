@@ -228,7 +228,7 @@ fn put_key(keys: &mut Vec<u64>, place: u16, key: u64)
 }
 
 // Equal items, with the room for so many.
-pub(crate) fn copied<T: Copy>(alloc: Global, items: &[T], room: usize) -> Result<Vec<T>, NoMemory>
+fn copied<T: Copy>(alloc: Global, items: &[T], room: usize) -> Result<Vec<T>, NoMemory>
     ensures items { IfOk result (λ made. made.items ≡ items.now) }
     ensures room { IfOk result (λ made. room ≤ vec_capacity made) }
 {
