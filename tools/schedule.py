@@ -26,7 +26,7 @@ HERE = os.path.dirname(os.path.abspath(__file__))
 # The most processes that a proof gets: more of them find no more to do.
 MOST = 4
 # A crate is of the longest chain where so many seconds more would make it so, and has the same claim to processors where so many more would.
-SLACK, NEAR = 60, 200
+SLACK, NEAR = 60, 150
 # How much less claim to processors the other crates have, as nice counts it, and the weight that Linux gives to that.
 BEHIND, WEIGHT = 10, 110 / 1024
 # About how much faster a proof ends with so many processes, and how much more of processors it takes in all: exb_model, network, schedule, net_run and run took 1.2 to 1.8
