@@ -176,6 +176,29 @@ class AsItMustBe(Launched):
         self.says(["exbr", "--build", "--other"], 2, "takes --anew or nothing")
 
 
+# The part of a toolchain that lays out texts.
+LAYS_OUT = """#!/bin/sh
+[ "$1 $2" = "fmt --check" ] || exit 2
+shift 2
+grep -l "laid  out" "$@" | sed 's/$/ is not in the layout/' | grep . && exit 1
+exit 0
+"""
+
+
+class NotLaidOut(Launched):
+    def test_a_text_that_is_not_laid_out_is_told_before_anything_is_proved(self):
+        it = self.it
+        it.write("kit/rattle", LAYS_OUT)
+        os.chmod(it.at("kit/rattle"), 0o755)
+        it.write("crates/exb_low/specs/Low.antt", "laid  out\n")
+        it.write("crates/exb_tests/src/lib.rt", "laid  out, and none of the program's\n")
+        _, said = self.says(["tools/build"], 1, "crates/exb_low/specs/Low.antt is not in the layout", "nothing was proved", "rt fmt")
+        self.assertNotIn("exb_tests", said)
+        self.assertEqual(it.calls(), 0)
+        it.write("crates/exb_low/specs/Low.antt", "laid out\n")
+        self.says(["tools/build"], 0, "exbr proved (2 of 2")
+
+
 class InOurOrder(Launched):
     """A kit that keeps what it proves: its scheduler is replaced in a first run, and another is its own and takes all."""
 
