@@ -17,29 +17,8 @@ pub fn add_fate(fates: &mut Vec<Box<dyn Fate>>, fate: Box<dyn Fate>) -> Result<(
     Ok(())
 }
 
-/// Puts a fate that does as it is armed to behind others.
-fn add_armed(alloc: Global, fates: &mut Vec<Box<dyn Fate>>) -> Result<(), NoMemory>
-    ensures many { OnOk result (length fates.new.items ≡ length fates.old.items + 1) }
-    ensures each { OnOk result (All (λ f. left f < 2 ^ 56) fates.old.items → All (λ f. left f < 2 ^ 56) fates.new.items) }
-{
-    add_fate(fates, Box::new(alloc, ScriptFate::new(alloc))?)
-}
-
-/// Puts five such fates behind others. Here is no loop and no recursion, since neither can name what is true of a `dyn` value.
-fn add_five_armed(alloc: Global, fates: &mut Vec<Box<dyn Fate>>) -> Result<(), NoMemory>
-    ensures many { OnOk result (length fates.new.items ≡ length fates.old.items + 5) }
-    ensures each { OnOk result (All (λ f. left f < 2 ^ 56) fates.old.items → All (λ f. left f < 2 ^ 56) fates.new.items) }
-{
-    add_armed(alloc, fates)?;
-    add_armed(alloc, fates)?;
-    add_armed(alloc, fates)?;
-    add_armed(alloc, fates)?;
-    add_armed(alloc, fates)?;
-    Ok(())
-}
-
-/// Calls `run` over fates that do as they are armed to, one for each of the 16 bridges that a net may have, and answers its status; or
-/// memory ran out before.
+/// Calls `run` over fates that do as they are armed to, one for each bridge that a net may have, and answers its status; or memory ran out
+/// before. There is no loop, since what is true of a `dyn` value can't be named in its invariant here.
 pub fn run_armed<S: Shelf, O: Sink>(
     alloc: Global,
     words: &[String],
@@ -47,9 +26,21 @@ pub fn run_armed<S: Shelf, O: Sink>(
     out: &mut O,
 ) -> Result<u8, NoMemory> {
     let mut more: Vec<Box<dyn Fate>> = Vec::new(alloc);
-    add_five_armed(alloc, &mut more)?;
-    add_five_armed(alloc, &mut more)?;
-    add_five_armed(alloc, &mut more)?;
+    add_fate(&mut more, Box::new(alloc, ScriptFate::new(alloc))?)?;
+    add_fate(&mut more, Box::new(alloc, ScriptFate::new(alloc))?)?;
+    add_fate(&mut more, Box::new(alloc, ScriptFate::new(alloc))?)?;
+    add_fate(&mut more, Box::new(alloc, ScriptFate::new(alloc))?)?;
+    add_fate(&mut more, Box::new(alloc, ScriptFate::new(alloc))?)?;
+    add_fate(&mut more, Box::new(alloc, ScriptFate::new(alloc))?)?;
+    add_fate(&mut more, Box::new(alloc, ScriptFate::new(alloc))?)?;
+    add_fate(&mut more, Box::new(alloc, ScriptFate::new(alloc))?)?;
+    add_fate(&mut more, Box::new(alloc, ScriptFate::new(alloc))?)?;
+    add_fate(&mut more, Box::new(alloc, ScriptFate::new(alloc))?)?;
+    add_fate(&mut more, Box::new(alloc, ScriptFate::new(alloc))?)?;
+    add_fate(&mut more, Box::new(alloc, ScriptFate::new(alloc))?)?;
+    add_fate(&mut more, Box::new(alloc, ScriptFate::new(alloc))?)?;
+    add_fate(&mut more, Box::new(alloc, ScriptFate::new(alloc))?)?;
+    add_fate(&mut more, Box::new(alloc, ScriptFate::new(alloc))?)?;
     let fate: Box<dyn Fate> = Box::new(alloc, ScriptFate::new(alloc))?;
     Ok(run(alloc, words, shelf, out, fate, more))
 }
