@@ -31,7 +31,7 @@ SLACK, NEAR = 60, 150
 BEHIND, WEIGHT = 10, 110 / 1024
 # About how much faster a proof ends with so many processes, and how much more of processors it takes in all: exb_model, network, schedule, net_run and run took 1.2 to 1.8
 # times as much with four in one build as they had with one, which was measured on other days; two and three processes are between. That build took 26.3 minutes,
-# in an order for which the plan had 24.9 by the seconds that it measured.
+# in an order for which the plan had 24.9 by the seconds that it measured; one of 16.0 had 16.3 by those that tools/seconds.txt is made of.
 FASTER = {1: 1, 2: 1.25, 3: 1.45, 4: 1.6}
 DEARER = {1: 1, 2: 1.2, 3: 1.35, 4: 1.5}
 # What a proof takes of the memory that rt plans for it, at most (1.0 GB of 3.8 for exb_topology, 2.9 of 7.4 for exb_network), and for each further process.
