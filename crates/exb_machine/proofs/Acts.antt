@@ -1,5 +1,5 @@
 -- A step as acts, one after another; which of them a step has, and why; and that what holds of each act holds of the step.
-use Rattle.std.proofs.Common.{◌≡◌, ℕ, nat_lt, ◌==◌, ◌⊎◌, Bool, true, false, cond, List, [], ◌∷◌, drop, Option, Some, None, Ok, Err, refl, sym, subst, inl, inr}
+use Rattle.std.proofs.Common.{◌∙◌, ◌≡◌, ℕ, nat_lt, ◌==◌, ◌⊎◌, Bool, true, false, cond, List, [], ◌∷◌, drop, Option, Some, None, Ok, Err, refl, sym, subst, inl, inr}
 use Rattle.std.specs.Prelude.{Result}
 use Rattle.std.proofs.lemmas.Bool.{cases_Bool}
 use Rattle.exb_model.specs.Tree.{Shape, on, device, is_extender, is_external, port_number}
@@ -36,11 +36,15 @@ use Rattle.exb_machine.specs.Worlds.{World, Way, Up, Down, Step, Arrive, Carry, 
 use Rattle.exb_machine.specs.Effects.{Effect, only, joined, each}
 use Rattle.exb_machine.specs.Extending.{reacts, ignored, does_or_ignores, arrives_at}
 use Rattle.exb_machine.specs.Controls.{forgotten_all, announced}
-use Rattle.exb_machine.specs.Hearing.{bridge_acknowledgement, to_extender, asks, moves, stops, hears_message, hears_fresh, hears_request, hears_pdu, hears_frame, hears, beats_near, beats_control}
+use Rattle.exb_machine.specs.Hearing.{bridge_acknowledgement, to_extender, asks, moves, stops, hears_message, hears_fresh, hears_request, hears_pdu, hears_frame, hears, beats_near, beats_control, sends_again, bridge_request}
 use Rattle.exb_machine.specs.Relaying.{comes, arrival_by, comes_from, holder_by, hung_at, hears_from, bridge_takes}
 use Rattle.exb_machine.specs.Stepping.{words_on, with_words, takes_any, first_data, control_at, rest_of, counted, if_there, all_extenders, beats_all, done_by}
 use Rattle.exb_machine.specs.Stepping.{takes as takes_word}
 use Rattle.exb_machine.specs.Runs.Sessions.{Each}
+use Rattle.exb_machine.proofs.Hearing.{to_extender_control}
+use Rattle.exb_ecp.specs.declared.stop_and_wait.Beat.{Beat as Due}
+use Rattle.exb_ecp.specs.declared.stop_and_wait.Beat.TheVariants as due
+use Rattle.exb_ecp.specs.Machine.{Sending, beaten, beat_of}
 
 -- ---- acts
 -- what moves the machine of changes
@@ -145,6 +149,10 @@ IsLeft w _ m d ws = ⊥
 abbrev pub Takes : Type 1
 Takes = ℕ → Way → Word → Type 0
 
+-- it is of the extender on whose link it came, or, with an E-TAG, of that for which a port holds the channel
+abbrev pub IsFrameOf : Shape → ℕ → Word → ℕ → List ℕ → Type 0
+IsFrameOf t link x n f = ((has_etag_type x.bytes ≡ false) × (n ≡ link) × (f ≡ x.bytes)) ⊎ ((has_etag_type x.bytes ≡ true) × ((o : Option ℕ) × ((hung_at t o ≡ Some n) × (f ≡ stripped x.bytes))))
+
 -- a control frame f of extender n comes to the bridge
 pub record HasHeard (t : Shape) (T : Takes) (n : ℕ) (f : List ℕ) : Type 0 where
   pub link : ℕ
@@ -152,6 +160,7 @@ pub record HasHeard (t : Shape) (T : Takes) (n : ℕ) (f : List ℕ) : Type 0 wh
   pub taken : T link Up word
   pub low : nat_lt (on t link) 64 ≡ true
   pub control : is_control word ≡ true
+  pub of : IsFrameOf t link word n f
 
 pub record HearsPdu (t : Shape) (T : Takes) (n : ℕ) (p : Pdu) : Type 0 where
   pub frame : List ℕ
@@ -189,8 +198,8 @@ Why t l T w step (Station a) v = IsArrival step a × (nat_lt a.port 64 ≡ false
 Why t l T w step (Ignore a) v = IsArrival step a × (nat_lt a.port 64 ≡ false) × ((v.far (device a.port)).tables.cascade (port_number a.port) ≡ true)
 Why t l T w step (FarBeat n) v = IsBeat step × (is_extender t n ≡ true)
 Why t l T w step (Come a) v = (IsArrival step a × (nat_lt a.port 64 ≡ true)) ⊎ HasCome t T v a
-Why t l T w step (Move by) v = IsMover t T step by
-Why t l T w step (Ask by s a) v = IsMover t T step by × IsIn a (moved t l by s).asks
+Why t l T w step (Move by) v = IsMover t T step by × (v.control ≡ w.control)
+Why t l T w step (Ask by s a) v = IsMover t T step by × IsIn a (moved t l by s).asks × (s ≡ w.control)
 Why t l T w step (Acknowledge n sequence) v = (p : Pdu) × HearsPdu t T n p
 Why t l T w step (NearBeat n) v = IsBeat step × (is_extender t n ≡ true)
 Why t l T w step (Hear n h) v = IsHearing t T n h
@@ -218,33 +227,33 @@ module _ (t : Shape) (l : Limits) (T : Takes) (w0 : World) (step : Step) (R : Wo
   each_act f all (x ∷ xs) within one v =
       k.joins v (f x v) (each f xs (f x v).world) (one x (within x (inl refl)) v) (each_act f all xs (λ y is. within y (inr is)) one (f x v).world)
 
-  pub moves_acts : (by : Mover) (v : World) → IsMover t T step by → R v (moves t (moved t l by v.control) v)
-  moves_acts by v why =
+  pub moves_acts : (by : Mover) (v : World) → IsMover t T step by → v.control ≡ w0.control → R v (moves t (moved t l by v.control) v)
+  moves_acts by v why same =
       let m : Moved = moved t l by v.control in
       let u : World = with_table (forgotten_all m.downs v.table) (with_control m.state v) in
-      k.joins v (act t l (Move by) v) (each (asks t) m.asks u) (k.acts (Move by) v why)
-      (each_act (asks t) m.asks m.asks (λ x is. is) (λ x is z. k.acts (Ask by v.control x) z (why, is)) u)
+      k.joins v (act t l (Move by) v) (each (asks t) m.asks u) (k.acts (Move by) v (why, same))
+      (each_act (asks t) m.asks m.asks (λ x is. is) (λ x is z. k.acts (Ask by v.control x) z (why, is, same)) u)
 
-  message_acts : (n : ℕ) (p : Pdu) (r : Result Message CspFault) (v : World) → HearsPdu t T n p → R v (hears_message t l n r v)
-  message_acts n p (Err fault) v why = k.nothing v
-  message_acts n p (Ok m) v why = by_taken (took (v.control.askers n) m).1
+  message_acts : (n : ℕ) (p : Pdu) (r : Result Message CspFault) (v : World) → HearsPdu t T n p → v.control ≡ w0.control → R v (hears_message t l n r v)
+  message_acts n p (Err fault) v why same = k.nothing v
+  message_acts n p (Ok m) v why same = by_taken (took (v.control.askers n) m).1
     where
       by_taken : (z : Taken) → R v (moves t (answered (decide t l) n m v.control) (stops z n v))
       by_taken (taken.Answer response) =
           let u : World = with_near n (stopped (v.near n)) v in
-          k.joins v (only u) (moves t (answered (decide t l) n m v.control) u) (k.acts (Hear n Stopped) v (p, why)) (moves_acts (Answered n m) u (p, why))
-      by_taken taken.Stale = moves_acts (Answered n m) v (p, why)
-      by_taken taken.NotOurs = moves_acts (Answered n m) v (p, why)
+          k.joins v (only u) (moves t (answered (decide t l) n m v.control) u) (k.acts (Hear n Stopped) v (p, why)) (moves_acts (Answered n m) u (p, why) same)
+      by_taken taken.Stale = moves_acts (Answered n m) v (p, why) same
+      by_taken taken.NotOurs = moves_acts (Answered n m) v (p, why) same
 
-  fresh_acts : (n : ℕ) (p : Pdu) (fresh : Bool) (sequence : ℕ) (payload : List ℕ) (v : World) → HearsPdu t T n p → R v (hears_fresh t l n fresh sequence payload v)
-  fresh_acts n p true sequence payload v why =
+  fresh_acts : (n : ℕ) (p : Pdu) (fresh : Bool) (sequence : ℕ) (payload : List ℕ) (v : World) → HearsPdu t T n p → v.control ≡ w0.control → R v (hears_fresh t l n fresh sequence payload v)
+  fresh_acts n p true sequence payload v why same =
       let u : World = with_near n (received sequence (v.near n)) v in
-      k.joins v (only u) (hears_message t l n (read_message payload) u) (k.acts (Hear n (Received sequence)) v (p, why)) (message_acts n p (read_message payload) u why)
-  fresh_acts n p false sequence payload v why = k.nothing v
+      k.joins v (only u) (hears_message t l n (read_message payload) u) (k.acts (Hear n (Received sequence)) v (p, why)) (message_acts n p (read_message payload) u why same)
+  fresh_acts n p false sequence payload v why same = k.nothing v
 
-  pdu_acts : (n : ℕ) (f : List ℕ) (r : Result Pdu EcpFault) (v : World) → pdu_in f ≡ r → HasHeard t T n f → R v (hears_pdu t l n r f v)
-  pdu_acts n f (Err fault) v e why = k.nothing v
-  pdu_acts n f (Ok p) v e why = by_flags (p.subtype == 2) p.acknowledgement
+  pdu_acts : (n : ℕ) (f : List ℕ) (r : Result Pdu EcpFault) (v : World) → pdu_in f ≡ r → HasHeard t T n f → v.control ≡ w0.control → R v (hears_pdu t l n r f v)
+  pdu_acts n f (Err fault) v e why same = k.nothing v
+  pdu_acts n f (Ok p) v e why same = by_flags (p.subtype == 2) p.acknowledgement
     where
       heard : HearsPdu t T n p
       heard = record { frame = f; heard = why; is = e }
@@ -254,20 +263,20 @@ module _ (t : Shape) (l : Limits) (T : Takes) (w0 : World) (step : Step) (R : Wo
       by_flags true false =
           let e1 : Effect = to_extender t n (bridge_acknowledgement p.sequence) v in
           k.joins v e1 (hears_fresh t l n (is_fresh p.sequence (e1.world.near n)) p.sequence (drop 18 f) e1.world) (k.acts (Acknowledge n p.sequence) v (p, heard))
-          (fresh_acts n p (is_fresh p.sequence (e1.world.near n)) p.sequence (drop 18 f) e1.world heard)
+          (fresh_acts n p (is_fresh p.sequence (e1.world.near n)) p.sequence (drop 18 f) e1.world heard (to_extender_control t n (bridge_acknowledgement p.sequence) v ∙ same))
       by_flags false b = k.nothing v
 
-  pub hears_acts : (n : ℕ) (f : List ℕ) (v : World) → HasHeard t T n f → R v (hears t l n f v)
+  pub hears_acts : (n : ℕ) (f : List ℕ) (v : World) → HasHeard t T n f → v.control ≡ w0.control → R v (hears t l n f v)
   unfolding hears
-  hears_acts n f v why = by_result (announcement_in f)
+  hears_acts n f v why same = by_result (announcement_in f)
     where
       by_result : (r : Result Announce LldpFault) → R v (hears_frame t l n r f v)
-      by_result (Ok a) = moves_acts (Announced n a) v (f, why)
-      by_result (Err fault) = pdu_acts n f (pdu_in f) v refl why
+      by_result (Ok a) = moves_acts (Announced n a) v (f, why) same
+      by_result (Err fault) = pdu_acts n f (pdu_in f) v refl why same
 
-  from_acts : (link : ℕ) (o : Option ℕ) (f : List ℕ) (v : World) → ((n : ℕ) → HasHeard t T n f) → R v (hears_from t l o f v)
-  from_acts link None f v why = k.nothing v
-  from_acts link (Some n) f v why = hears_acts n f v (why n)
+  from_acts : (link : ℕ) (o : Option ℕ) (f : List ℕ) (v : World) → ((n : ℕ) → o ≡ Some n → HasHeard t T n f) → v.control ≡ w0.control → R v (hears_from t l o f v)
+  from_acts link None f v why same = k.nothing v
+  from_acts link (Some n) f v why same = hears_acts n f v (why n refl) same
 
   comes_acts : (n : ℕ) (x : Word) (o : Option ℕ) (s : Option Stamp) (v : World) → T n Up x → nat_lt (on t n) 64 ≡ true → is_control x ≡ false → holder_by v (on t n) (read_etag x.bytes) ≡ o → x.stamp ≡ s →
       R v (comes_from t o s (stripped x.bytes) v)
@@ -279,22 +288,24 @@ module _ (t : Shape) (l : Limits) (T : Takes) (w0 : World) (step : Step) (R : Wo
         | inr e ↦ rw e (k.nothing v)
       ]
 
-  pub bridge_acts : (n : ℕ) (x : Word) (v : World) → T n Up x → nat_lt (on t n) 64 ≡ true → R v (bridge_takes t l (on t n) n x v)
-  bridge_acts n x v taken low =
+  pub bridge_acts : (n : ℕ) (x : Word) (v : World) → T n Up x → nat_lt (on t n) 64 ≡ true → v.control ≡ w0.control → R v (bridge_takes t l (on t n) n x v)
+  bridge_acts n x v taken low same =
       elim (cases_Bool (is_control x)) [
         | inr bare ↦ rw bare (comes_acts n x (holder_by v (on t n) (read_etag x.bytes)) x.stamp v taken low bare refl refl)
-        | inl control ↦ rw control (by_type control (has_etag_type x.bytes))
+        | inl control ↦ rw control (by_type control (has_etag_type x.bytes) refl)
       ]
     where
-      by_type : is_control x ≡ true → (b : Bool) → R v (cond b (hears_from t l (hung_at t (holder_by v (on t n) (read_etag x.bytes))) (stripped x.bytes) v) (hears t l n x.bytes v))
-      by_type control true = from_acts n (hung_at t (holder_by v (on t n) (read_etag x.bytes))) (stripped x.bytes) v (λ m. record { link = n; word = x; taken = taken; low = low; control = control })
-      by_type control false = hears_acts n x.bytes v (record { link = n; word = x; taken = taken; low = low; control = control })
+      by_type : is_control x ≡ true → (b : Bool) → has_etag_type x.bytes ≡ b → R v (cond b (hears_from t l (hung_at t (holder_by v (on t n) (read_etag x.bytes))) (stripped x.bytes) v) (hears t l n x.bytes v))
+      by_type control true e =
+          let o : Option ℕ = holder_by v (on t n) (read_etag x.bytes) in
+          from_acts n (hung_at t o) (stripped x.bytes) v (λ m h. record { link = n; word = x; taken = taken; low = low; control = control; of = inr (e, (o, (h, refl))) }) same
+      by_type control false e = hears_acts n x.bytes v (record { link = n; word = x; taken = taken; low = low; control = control; of = inl (e, refl, refl) }) same
 
-  pub takes_acts : (n : ℕ) (way : Way) (x : Word) (v : World) → T n way x → R v (takes_word t l n way x v)
-  takes_acts n Down x v taken = k.acts (Above n x) v taken
-  takes_acts n Up x v taken =
+  pub takes_acts : (n : ℕ) (way : Way) (x : Word) (v : World) → T n way x → v.control ≡ w0.control → R v (takes_word t l n way x v)
+  takes_acts n Down x v taken same = k.acts (Above n x) v taken
+  takes_acts n Up x v taken same =
       elim (cases_Bool (nat_lt (on t n) 64)) [
-        | inl low ↦ rw low (bridge_acts n x v taken low)
+        | inl low ↦ rw low (bridge_acts n x v taken low same)
         | inr high ↦ rw high (
           elim (cases_Bool ((v.far (device (on t n))).tables.cascade (port_number (on t n)))) [
             | inl c ↦ rw c (k.acts (Below n x) v (taken, high, c))
@@ -302,11 +313,32 @@ module _ (t : Shape) (l : Limits) (T : Takes) (w0 : World) (step : Step) (R : Wo
           ])
       ]
 
+  control_kept : (n : ℕ) (way : Way) (ws : List Word) (v : World) → (with_words n way ws v).control ≡ v.control
+  control_kept n Up ws v = refl
+  control_kept n Down ws v = refl
+
+  near_control : (n : ℕ) (v : World) → (beats_near t n v).world.control ≡ v.control
+  near_control n v = by_due (beat_of (v.near n).sending) (v.near n).sending
+    where
+      by_due : (d : Due) (o : Option Sending) → (sends_again t n d o (with_near n (beaten (v.near n)) v)).world.control ≡ v.control
+      by_due due.SendAgain (Some x) = to_extender_control t n (bridge_request x.sequence x.payload) (with_near n (beaten (v.near n)) v)
+      by_due due.SendAgain None = refl
+      by_due due.Nothing o = refl
+      by_due due.GaveUp o = refl
+
+  nears_control : (ns : List ℕ) (v : World) → (each (if_there t (beats_near t)) ns v).world.control ≡ v.control
+  nears_control [] v = refl
+  nears_control (n ∷ ns) v = nears_control ns (if_there t (beats_near t) n v).world ∙ by_flag (is_extender t n)
+    where
+      by_flag : (b : Bool) → (cond b (beats_near t n v) (only v)).world.control ≡ v.control
+      by_flag true = near_control n v
+      by_flag false = refl
+
   any_acts : (n : ℕ) (way : Way) (o : Option Word) (rest : List Word) → ((x : Word) → o ≡ Some x → T n way x) → IsLeft w0 step n way rest → R w0 (takes_any t l n way o rest w0)
   any_acts n way None rest taken left = k.nothing w0
   any_acts n way (Some x) rest taken left =
       let u : World = with_words n way rest w0 in
-      k.joins w0 (only u) (takes_word t l n way x u) (k.acts (Remove n way rest) w0 left) (takes_acts n way x u (taken x refl))
+      k.joins w0 (only u) (takes_word t l n way x u) (k.acts (Remove n way rest) w0 left) (takes_acts n way x u (taken x refl) (control_kept n way rest w0))
 
   arrives_acts : (a : Arrival) (v : World) → IsArrival step a → nat_lt a.port 64 ≡ false → R v (arrives_at t a v)
   arrives_acts a v why high =
@@ -319,12 +351,12 @@ module _ (t : Shape) (l : Limits) (T : Takes) (w0 : World) (step : Step) (R : Wo
   there_acts f one n v = elim (cases_Bool (is_extender t n)) [ inl e ↦ rw e (one n e v) | inr e ↦ rw e (k.nothing v) ]
 
   -- after the beat was counted
-  pub beat_rest : IsBeat step → (u : World) → R u (joined (joined (each (if_there t (beats_near t)) all_extenders u) (beats_control t (each (if_there t (beats_near t)) all_extenders u).world)) (each (if_there t (λ n. reacts t n None Beats)) all_extenders (beats_control t (each (if_there t (beats_near t)) all_extenders u).world).world))
-  beat_rest beat u =
+  pub beat_rest : IsBeat step → (u : World) → u.control ≡ w0.control → R u (joined (joined (each (if_there t (beats_near t)) all_extenders u) (beats_control t (each (if_there t (beats_near t)) all_extenders u).world)) (each (if_there t (λ n. reacts t n None Beats)) all_extenders (beats_control t (each (if_there t (beats_near t)) all_extenders u).world).world))
+  beat_rest beat u same =
       let near : Effect = each (if_there t (beats_near t)) all_extenders u in
       let middle : Effect = joined near (beats_control t near.world) in
       k.joins u middle (each (if_there t (λ n. reacts t n None Beats)) all_extenders middle.world)
-      (k.joins u near (beats_control t near.world) (each_act (if_there t (beats_near t)) all_extenders all_extenders (λ x is. is) (λ n is v. there_acts (beats_near t) (λ m e z. k.acts (NearBeat m) z (beat, e)) n v) u) (moves_acts Beaten near.world beat))
+      (k.joins u near (beats_control t near.world) (each_act (if_there t (beats_near t)) all_extenders all_extenders (λ x is. is) (λ n is v. there_acts (beats_near t) (λ m e z. k.acts (NearBeat m) z (beat, e)) n v) u) (moves_acts Beaten near.world beat (nears_control all_extenders u ∙ same)))
       (each_act (if_there t (λ n. reacts t n None Beats)) all_extenders all_extenders (λ x is. is) (λ n is v. there_acts (λ m. reacts t m None Beats) (λ m e z. k.acts (FarBeat m) z (beat, e)) n v) middle.world)
 
   pub beat_acts : IsBeat step → R w0 (beats_all t w0)
@@ -333,7 +365,7 @@ module _ (t : Shape) (l : Limits) (T : Takes) (w0 : World) (step : Step) (R : Wo
       let u : World = record w0 { beats = next_beat w0.beats } in
       let near : Effect = each (if_there t (beats_near t)) all_extenders u in
       let middle : Effect = joined near (beats_control t near.world) in
-      k.joins w0 (only u) (joined middle (each (if_there t (λ n. reacts t n None Beats)) all_extenders middle.world)) (k.acts CountBeat w0 (beat, refl)) (beat_rest beat u)
+      k.joins w0 (only u) (joined middle (each (if_there t (λ n. reacts t n None Beats)) all_extenders middle.world)) (k.acts CountBeat w0 (beat, refl)) (beat_rest beat u refl)
 
 -- what holds of each act holds of the step
 pub step_acts : (t : Shape) (l : Limits) (w : World) (step : Step) (R : World → Effect → Type 0) → Acts t l (IsTaken w step) w step R → R w (done_by t l step w)
@@ -348,5 +380,5 @@ step_acts t l w (Control n way i keep) R k = any_acts t l (IsTaken w (Control n 
 step_acts t l w (Lose n way i) R k = k.acts (Remove n way (without_control (words_on n way w) i)) w (refl, refl, refl)
 step_acts t l w Beat R k = beat_acts t l (IsTaken w Beat) w Beat R k tt
 step_acts t l w (Tick seconds) R k = k.acts (Pass seconds) w refl
-step_acts t l w (Order c) R k = moves_acts t l (IsTaken w (Order c)) w (Order c) R k (Ordered c) w refl
+step_acts t l w (Order c) R k = moves_acts t l (IsTaken w (Order c)) w (Order c) R k (Ordered c) w refl refl
 step_acts t l w Mark R k = k.acts Settle w tt

@@ -124,7 +124,7 @@ module _ (t : Shape) (l : Limits) (w : World) where
 
     deed_tells : (a : Act) (u : World) → Why t l (IsTaken w step) w step a u → Same u → (d : Deed) (v : World) → Because t l a u d v → Tells v (deed d v)
     deed_tells a u why now (Tell es ps) v is same = (same, told a u why now es ps is)
-    deed_tells a u why now (Change s) v is same = ((λ data_step. absurd (no_move step is.0 data_step (subst (λ c. Why t l (IsTaken w step) w step c u) is.1.0 why))), refl)
+    deed_tells a u why now (Change s) v is same = ((λ data_step. absurd (no_move step is.0 data_step (subst (λ c. Why t l (IsTaken w step) w step c u) is.1.0 why).0)), refl)
     deed_tells a u why now (Send line n Up x) v is same = (same, refl)
     deed_tells a u why now (Send line n Down x) v is same = (same, refl)
     deed_tells a u why now (Words n Up ws) v is same = (same, refl)
