@@ -16,7 +16,8 @@ mod Reading
 mod Stages
 mod Ending
 -- what a round does to the control, to streams and to links
-mod Turns
+pub mod Turns
+pub mod TurnsBy
 mod Streams
 pub mod Emptying
 mod Walks
