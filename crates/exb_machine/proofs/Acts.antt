@@ -36,15 +36,12 @@ use Rattle.exb_machine.specs.Worlds.{World, Way, Up, Down, Step, Arrive, Carry, 
 use Rattle.exb_machine.specs.Effects.{Effect, only, joined, each}
 use Rattle.exb_machine.specs.Extending.{reacts, ignored, does_or_ignores, arrives_at}
 use Rattle.exb_machine.specs.Controls.{forgotten_all, announced}
-use Rattle.exb_machine.specs.Hearing.{bridge_acknowledgement, to_extender, asks, moves, stops, hears_message, hears_fresh, hears_request, hears_pdu, hears_frame, hears, beats_near, beats_control, sends_again, bridge_request}
+use Rattle.exb_machine.specs.Hearing.{bridge_acknowledgement, to_extender, asks, moves, stops, hears_message, hears_fresh, hears_request, hears_pdu, hears_frame, hears, beats_near, beats_control}
 use Rattle.exb_machine.specs.Relaying.{comes, arrival_by, comes_from, holder_by, hung_at, hears_from, bridge_takes}
 use Rattle.exb_machine.specs.Stepping.{words_on, with_words, takes_any, first_data, control_at, rest_of, counted, if_there, all_extenders, beats_all, done_by}
 use Rattle.exb_machine.specs.Stepping.{takes as takes_word}
 use Rattle.exb_machine.specs.Runs.Sessions.{Each}
-use Rattle.exb_machine.proofs.Hearing.{to_extender_control}
-use Rattle.exb_ecp.specs.declared.stop_and_wait.Beat.{Beat as Due}
-use Rattle.exb_ecp.specs.declared.stop_and_wait.Beat.TheVariants as due
-use Rattle.exb_ecp.specs.Machine.{Sending, beaten, beat_of}
+use Rattle.exb_machine.proofs.Parts.{same_control, each_part, there_part, near_part, to_part}
 
 -- ---- acts
 -- what moves the machine of changes
@@ -263,7 +260,7 @@ module _ (t : Shape) (l : Limits) (T : Takes) (w0 : World) (step : Step) (R : Wo
       by_flags true false =
           let e1 : Effect = to_extender t n (bridge_acknowledgement p.sequence) v in
           k.joins v e1 (hears_fresh t l n (is_fresh p.sequence (e1.world.near n)) p.sequence (drop 18 f) e1.world) (k.acts (Acknowledge n p.sequence) v (p, heard))
-          (fresh_acts n p (is_fresh p.sequence (e1.world.near n)) p.sequence (drop 18 f) e1.world heard (to_extender_control t n (bridge_acknowledgement p.sequence) v ∙ same))
+          (fresh_acts n p (is_fresh p.sequence (e1.world.near n)) p.sequence (drop 18 f) e1.world heard (to_part (λ z e. e.world.control ≡ z.control) same_control t n (bridge_acknowledgement p.sequence) v ∙ same))
       by_flags false b = k.nothing v
 
   pub hears_acts : (n : ℕ) (f : List ℕ) (v : World) → HasHeard t T n f → v.control ≡ w0.control → R v (hears t l n f v)
@@ -317,23 +314,6 @@ module _ (t : Shape) (l : Limits) (T : Takes) (w0 : World) (step : Step) (R : Wo
   control_kept n Up ws v = refl
   control_kept n Down ws v = refl
 
-  near_control : (n : ℕ) (v : World) → (beats_near t n v).world.control ≡ v.control
-  near_control n v = by_due (beat_of (v.near n).sending) (v.near n).sending
-    where
-      by_due : (d : Due) (o : Option Sending) → (sends_again t n d o (with_near n (beaten (v.near n)) v)).world.control ≡ v.control
-      by_due due.SendAgain (Some x) = to_extender_control t n (bridge_request x.sequence x.payload) (with_near n (beaten (v.near n)) v)
-      by_due due.SendAgain None = refl
-      by_due due.Nothing o = refl
-      by_due due.GaveUp o = refl
-
-  nears_control : (ns : List ℕ) (v : World) → (each (if_there t (beats_near t)) ns v).world.control ≡ v.control
-  nears_control [] v = refl
-  nears_control (n ∷ ns) v = nears_control ns (if_there t (beats_near t) n v).world ∙ by_flag (is_extender t n)
-    where
-      by_flag : (b : Bool) → (cond b (beats_near t n v) (only v)).world.control ≡ v.control
-      by_flag true = near_control n v
-      by_flag false = refl
-
   any_acts : (n : ℕ) (way : Way) (o : Option Word) (rest : List Word) → ((x : Word) → o ≡ Some x → T n way x) → IsLeft w0 step n way rest → R w0 (takes_any t l n way o rest w0)
   any_acts n way None rest taken left = k.nothing w0
   any_acts n way (Some x) rest taken left =
@@ -356,7 +336,7 @@ module _ (t : Shape) (l : Limits) (T : Takes) (w0 : World) (step : Step) (R : Wo
       let near : Effect = each (if_there t (beats_near t)) all_extenders u in
       let middle : Effect = joined near (beats_control t near.world) in
       k.joins u middle (each (if_there t (λ n. reacts t n None Beats)) all_extenders middle.world)
-      (k.joins u near (beats_control t near.world) (each_act (if_there t (beats_near t)) all_extenders all_extenders (λ x is. is) (λ n is v. there_acts (beats_near t) (λ m e z. k.acts (NearBeat m) z (beat, e)) n v) u) (moves_acts Beaten near.world beat (nears_control all_extenders u ∙ same)))
+      (k.joins u near (beats_control t near.world) (each_act (if_there t (beats_near t)) all_extenders all_extenders (λ x is. is) (λ n is v. there_acts (beats_near t) (λ m e z. k.acts (NearBeat m) z (beat, e)) n v) u) (moves_acts Beaten near.world beat (each_part (λ z e. e.world.control ≡ z.control) same_control t (if_there t (beats_near t)) (there_part (λ z e. e.world.control ≡ z.control) same_control t (beats_near t) (near_part (λ z e. e.world.control ≡ z.control) same_control t)) all_extenders u ∙ same)))
       (each_act (if_there t (λ n. reacts t n None Beats)) all_extenders all_extenders (λ x is. is) (λ n is v. there_acts (λ m. reacts t m None Beats) (λ m e z. k.acts (FarBeat m) z (beat, e)) n v) middle.world)
 
   pub beat_acts : IsBeat step → R w0 (beats_all t w0)

@@ -33,6 +33,7 @@ use Rattle.exb_machine.specs.Controls.{channel_at_trunk, forgotten_all, taught}
 use Rattle.exb_machine.specs.Hearing.{bridge_request, bridge_acknowledgement, puts_tagged, to_extender, sends_again}
 use Rattle.exb_machine.specs.Relaying.{puts_word, sent_by, sends_in, sends_all, sends_for, passed_by}
 use Rattle.exb_machine.specs.Stepping.{with_words, counted, done_by}
+use Rattle.exb_machine.proofs.Parts.{pushed}
 use Rattle.exb_machine.proofs.Acts.{Act, Above, Below, Station, Ignore, FarBeat, Come, Move, Ask, Acknowledge, NearBeat, Hear, Remove, Count, CountBeat, Pass, Settle, Mover, heard_as, moved, act, IsIn, Takes, IsTaken, Why, Acts, step_acts}
 
 -- ---- deeds
@@ -47,10 +48,6 @@ pub data Deed : Type 0 where
   Words : (n : ℕ) (way : Way) (ws : List Word) → Deed
   Next : (a : Arrival) → Deed
   CountsBeat : Deed
-
-abbrev pub pushed : ℕ → Way → Word → World → World
-pushed n Up x w = push_up n x w
-pushed n Down x w = push_down n x w
 
 abbrev pub deed : Deed → World → Effect
 deed (Near n e) w = only (with_near n e w)
