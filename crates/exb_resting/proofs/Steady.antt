@@ -104,7 +104,7 @@ module _ (t : Shape) (l : Limits) where
         joins = λ v e f x y k. y (x k);
         deeds = λ a u why d v is k. elim (deed_beats t l (IsTaken w Beat) w Beat a u why d v is) [ inl h ↦ h.2 ∙ ap (λ (x : World). next_beat x.beats) h.1 | inr e ↦ e ∙ k ];
       })
-      ) tt (record w { beats = next_beat w.beats }) refl
+      ) tt (record w { beats = next_beat w.beats }) refl refl
 
 pub ageing_stays : AgeingStays
 ageing_stays t l step w = step_ageing t l step w
