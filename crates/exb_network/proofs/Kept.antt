@@ -1,6 +1,6 @@
 -- What a network keeps: the machine's world stays sound, and words stay bytes.
-use Rattle.std.proofs.Common.{◌≡◌, ℕ, ◌<◌, ◌^◌, ◌≤◌, true, List, [], ◌∷◌, Option, Some, None, refl, sym, subst}
-use Rattle.std.specs.Prelude.{is_none}
+use Rattle.std.proofs.Common.{◌≡◌, ℕ, ◌<◌, ◌^◌, ◌≤◌, true, List, [], ◌∷◌, Option, Some, None, refl, sym, ap, ◌∙◌, subst}
+use Rattle.std.specs.Prelude.{is_none, ◌++◌, All}
 use Rattle.exb_model.specs.declared.setup.Setup.{Setup}
 use Rattle.exb_model.specs.Setup.{Limits, IsValid, shape_of, limits_of, start_of}
 use Rattle.exb_model.specs.Tree.{Shape, IsTree, is_extender}
@@ -24,6 +24,11 @@ use Rattle.exb_boxes.specs.declared.log.Log.{Log}
 use Rattle.exb_network.specs.declared.site.Core.{Core}
 use Rattle.exb_network.specs.Idle.{IsIdle}
 use Rattle.exb_network.specs.Networks.{IsLive}
+use Rattle.exb_network.specs.Taken.{IsReached}
+use Rattle.exb_motion.specs.Kept.{HasVid, HasVidIn}
+use Rattle.exb_motion.specs.Runs.Settles.{MayTake, MayTakeAll, beginning, reached_by}
+use Rattle.exb_machine.specs.Stepping.{Stepped}
+use Rattle.exb_machine.proofs.Rounds.{run_then}
 use Rattle.exb_bridge.specs.Sites.{Site, limits_in}
 use Rattle.exb_network.specs.Worlds.{world_in, IsAt, Does}
 use Rattle.exb_bridge.proofs.ToExtenders.{serials_low}
@@ -40,15 +45,46 @@ setting_of s c active is_at =
 pub asks_well : AsksCanBeSent → (s : Site) (c : Core) → IsActiveConfig c.bridge.control.active → IsLive s c → AsksWell s.tree (limits_in s) (world_in c).control
 asks_well law s c active live = law s.tree (limits_in s) (world_in c) (setting_of s c active live.at) live.sound
 
-pub live_after : RunsStaySound → StepsStayWritten → WrittenAreShort → (s : Site) (c d : Core) (step : Step) (old new : Log) → IsActiveConfig c.bridge.control.active → IsLive s c → Can s.tree (world_in c) step → HasBytes step →
+-- a step more
+module _ (t : Shape) (l : Limits) where
+  take_then : (xs ys : List Step) (w : World) → MayTakeAll t l w xs → MayTakeAll t l (run t l xs w).world ys → MayTakeAll t l w (xs ++ ys)
+  unfolding run
+  take_then [] ys w a b = b
+  take_then (x ∷ xs) ys w a b = (a.0, take_then xs ys (stepped t l x w).world a.1 b)
+
+  one_step : (step : Step) (w : World) → (run t l (step ∷ []) w).world ≡ (stepped t l step w).world
+  unfolding run
+  one_step step w = refl
+
+reached_more : (t : Shape) (l : Limits) (w v : World) (step : Step) → IsReached t l w → MayTake t w step → v ≡ (stepped t l step w).world → IsReached t l v
+reached_more t l w v step k may is =
+    let t0 : Shape = shape_of k.setup in
+    let l0 : Limits = limits_of k.setup in
+    let u : World = reached_by k.setup k.steps in
+    let P : Shape → Limits → World → Type 0 = λ a b z. MayTake a z step × (v ≡ (stepped a b step z).world) in
+    let here : P t l w = (may, is) in
+    let there : P t0 l0 u = subst (P t0 l0) k.world (subst (λ (b : Limits). P t0 b w) k.limits (subst (λ (a : Shape). P a l w) k.tree here)) in
+    record {
+      setup = k.setup;
+      steps = k.steps ++ step ∷ [];
+      valid = k.valid;
+      vids = k.vids;
+      tree = k.tree;
+      limits = k.limits;
+      may = take_then t0 l0 k.steps (step ∷ []) (beginning k.setup) k.may (there.0, tt);
+      world = there.1 ∙ (sym (one_step t0 l0 step u) ∙ ap (λ (z : Stepped). z.world) (sym (run_then t0 l0 k.steps (step ∷ []) (beginning k.setup))));
+    }
+
+pub live_after : RunsStaySound → StepsStayWritten → WrittenAreShort → (s : Site) (c d : Core) (step : Step) (old new : Log) → IsActiveConfig c.bridge.control.active → IsLive s c → Can s.tree (world_in c) step → HasBytes step → HasVidIn step →
     ((n : ℕ) → ((world_in c).control.askers n).serial < 2 ^ 40) → ((n : ℕ) → ((world_in d).control.askers n).serial < 2 ^ 40) →
     Does (done_by s.tree (limits_in s) step (world_in c)) s d old new → IsLive s d
 unfolding run stepped
-live_after sounds writes shorts s c d step old new active live can bytes low low_after does =
+live_after sounds writes shorts s c d step old new active live can bytes vid low low_after does =
     record {
       at = does.at;
       sound = subst (IsSound s.tree (limits_in s)) (sym does.world) sound;
       written = subst AreWritten (sym does.world) written;
+      reached = reached_more s.tree (limits_in s) (world_in c) (world_in d) step live.reached (record { can = can; has = bytes; vid = vid }) does.world;
     }
   where
     setting : IsSetting s.tree (limits_in s)
@@ -69,9 +105,10 @@ live_after sounds writes shorts s c d step old new active live can bytes low low
     written = writes s.tree (limits_in s) setting (world_in c) step live.sound active.pvids can bytes lows lows_after live.written
 
 -- as it begins
-pub live_first : SetupsBeginSound → BeginsWritten → (setup : Setup) (s : Site) (c : Core) → IsValid setup → s.tree ≡ shape_of setup → limits_in s ≡ limits_of setup →
+pub live_first : SetupsBeginSound → BeginsWritten → (setup : Setup) (s : Site) (c : Core) → IsValid setup → All HasVid setup.start → s.tree ≡ shape_of setup → limits_in s ≡ limits_of setup →
     world_in c ≡ first_world (shape_of setup) (limits_of setup) (start_of setup) setup.ageing → IsAt s c → IsLive s c
-live_first sounds writes setup s c valid tree limits world is_at =
+unfolding run
+live_first sounds writes setup s c valid vids tree limits world is_at =
     record {
       at = is_at;
       sound =
@@ -79,7 +116,11 @@ live_first sounds writes setup s c valid tree limits world is_at =
           subst (λ (l : Limits). IsSound (shape_of setup) l (world_in c)) (sym limits) (
           subst (IsSound (shape_of setup) (limits_of setup)) (sym world) (sounds setup valid).1));
       written = subst AreWritten (sym world) (writes (shape_of setup) (limits_of setup) (start_of setup) setup.ageing);
+      reached = first_reached;
     }
+  where
+    first_reached : IsReached s.tree (limits_in s) (world_in c)
+    first_reached = record { setup = setup; steps = []; valid = valid; vids = vids; tree = tree; limits = limits; may = tt; world = world }
 
 -- ---- settled
 empty_is : {A : Type 0} (xs : List A) → is_empty xs ≡ true → xs ≡ []

@@ -18,6 +18,8 @@ use Rattle.exb_network.specs.Networks.{IsStepped, network_of}
 use Rattle.exb_bridge.specs.Sites.{Site, limits_in}
 use Rattle.exb_boxes.specs.Logs.{if_tracing}
 use Rattle.exb_bridge.specs.Worlds.{all_left}
+use Rattle.exb_motion.specs.Kept.{HasVidIn}
+use Rattle.exb_motion.specs.Runs.Settles.{MayTake}
 use Rattle.exb_network.specs.Worlds.{world_in, Does}
 
 -- ---- where a trace is kept, and where it isn't
@@ -137,14 +139,14 @@ pub enough : (s : Site) (c d : Core) (e : Effect) (ins : List TraceLine) (from :
 enough s c d e ins from old begun done first does = enough_with from old.events done.events e.events first.few (does.events ∙ ap (λ xs. xs ++ e.events) first.events)
 
 -- and it is live behind it
-pub makes : (s : Site) (c d : Core) (step : Step) (old begun done new : Log) (from : ℕ) → StaysLive s c → Can s.tree (world_in c) step → HasBytes step →
+pub makes : (s : Site) (c d : Core) (step : Step) (old begun done new : Log) (from : ℕ) → StaysLive s c → Can s.tree (world_in c) step → HasBytes step → HasVidIn step →
     (d.bridge.control.failed ≡ false → (n : ℕ) → ((world_in d).control.askers n).serial < 2 ^ 40) → IsBegun (all_told (lines_in s.tree step (world_in c))) from old begun →
     Does (done_by s.tree (limits_in s) step (world_in c)) s d begun done → IsTold (drop from done.events) done new → Makes step s c d old new
-makes s c d step old begun done new from stays can bytes low first does last =
-    record { live = stays step d begun done can bytes (low does.at.awake) does; made = λ failed. stepped_is s c d step old begun done new failed from first does last }
+makes s c d step old begun done new from stays can bytes vid low first does last =
+    record { may = record { can = can; has = bytes; vid = vid }; live = stays step d begun done can bytes vid (low does.at.awake) does; made = λ failed. stepped_is s c d step old begun done new failed from first does last }
 
-pub makes_silently : (s : Site) (c d : Core) (step : Step) (old new : Log) → StaysLive s c → Can s.tree (world_in c) step → HasBytes step →
+pub makes_silently : (s : Site) (c d : Core) (step : Step) (old new : Log) → StaysLive s c → Can s.tree (world_in c) step → HasBytes step → HasVidIn step →
     (d.bridge.control.failed ≡ false → (n : ℕ) → ((world_in d).control.askers n).serial < 2 ^ 40) → old.tracing ≡ false → Does (done_by s.tree (limits_in s) step (world_in c)) s d old new →
     Makes step s c d old new
-makes_silently s c d step old new stays can bytes low off does =
-    record { live = stays step d old new can bytes (low does.at.awake) does; made = λ failed. stepped_silently s c d step old new failed off does }
+makes_silently s c d step old new stays can bytes vid low off does =
+    record { may = record { can = can; has = bytes; vid = vid }; live = stays step d old new can bytes vid (low does.at.awake) does; made = λ failed. stepped_silently s c d step old new failed off does }

@@ -1,5 +1,6 @@
 pub mod Arrivals
 pub mod Steps
+pub mod Taken
 pub mod Turns
 pub mod Worlds
 pub mod Networks

@@ -8,14 +8,17 @@ use Rattle.exb_boxes.specs.declared.log.Log.{Log}
 use Rattle.exb_bridge.specs.Sites.{Site, limits_in}
 use Rattle.exb_network.specs.declared.site.Core.{Core}
 use Rattle.exb_network.specs.Networks.{IsLive, IsStepped, network_of}
+use Rattle.exb_motion.specs.Kept.{HasVidIn}
+use Rattle.exb_motion.specs.Runs.Settles.{MayTake}
 use Rattle.exb_network.specs.Worlds.{world_in, Does}
 
 -- The parts make a step: they are live behind it, and it is one of the network, whether memory had run out before or not.
 pub record Makes (step : Step) (s : Site) (c d : Core) (old new : Log) : Type 0 where
   pub live : IsLive s d
+  pub may : MayTake s.tree (world_in c) step
   pub made : (failed : Bool) → IsStepped step (network_of s c old failed) (network_of s d new failed)
 
 -- Whatever step is made of it, it is live behind it.
 abbrev pub StaysLive : Site → Core → Type 0
-StaysLive s c = (step : Step) (d : Core) (old new : Log) → Can s.tree (world_in c) step → HasBytes step → ((n : ℕ) → ((world_in d).control.askers n).serial < 2 ^ 40) →
+StaysLive s c = (step : Step) (d : Core) (old new : Log) → Can s.tree (world_in c) step → HasBytes step → HasVidIn step → ((n : ℕ) → ((world_in d).control.askers n).serial < 2 ^ 40) →
     Does (done_by s.tree (limits_in s) step (world_in c)) s d old new → IsLive s d

@@ -13,6 +13,7 @@ use Rattle.exb_machine.specs.Runs.Simulation.{IsSound}
 use Rattle.exb_machine.specs.Runs.Written.{AreWritten}
 use Rattle.exb_bridge.specs.Sites.{Site, limits_in}
 use Rattle.exb_network.specs.Steps.{way_of}
+use Rattle.exb_network.specs.Taken.{IsReached}
 use Rattle.exb_bridge.specs.Worlds.{all_left}
 use Rattle.exb_network.specs.Worlds.{world_in, IsAt}
 
@@ -76,6 +77,7 @@ pub record IsLive (s : Site) (c : Core) : Type 0 where
   pub at : IsAt s c
   pub sound : IsSound s.tree (limits_in s) (world_in c)
   pub written : AreWritten (world_in c)
+  pub reached : IsReached s.tree (limits_in s) (world_in c)
 
 abbrev pub IsKept : Site → Core → Bool → Type 0
 IsKept s c failed = failed ≡ false → IsLive s c

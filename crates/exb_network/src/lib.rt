@@ -10,6 +10,7 @@ mod beating;
 mod bridging;
 pub mod busy;
 pub mod counting;
+mod facts;
 mod live;
 mod passing;
 mod sending;

@@ -10,6 +10,7 @@ ghost use Rattle.exb_network.specs.Networks.{IsLive};
 ghost use Rattle.exb_network.specs.Steps.{way_of};
 ghost use Rattle.exb_network.specs.Worlds.{world_in};
 
+use crate::facts::names_vlan;
 use crate::site::Core;
 use crate::step::Way;
 use crate::telling::{tell_arrival, tell_beat, tell_control, tell_data, tell_nothing, tell_rest};
@@ -229,6 +230,7 @@ pub(crate) fn order(
 {
     stays_live(site, core);
     let from = tell_nothing(&mut room.post.log);
+    names_vlan(command);
     bridging::order(site, command, room, core)?;
     core.bridge.control.has_low_serials();
     tell_rest(from, &mut room.post)

@@ -1,5 +1,5 @@
 //! The network as one value, and its calls.
-ghost use Rattle.std.specs.Prelude.{◌≡◌, ◌↔◌, ◌<◌, ◌≤◌, ℕ, [], true, false, IfNone, IfOk, IfSome, IsTrue, OnErr, OnOk, Some, length, filter, slice_get};
+ghost use Rattle.std.specs.Prelude.{◌≡◌, ◌↔◌, ◌<◌, ◌≤◌, ℕ, [], true, false, All, IfNone, IfOk, IfSome, IsTrue, OnErr, OnOk, Some, length, filter, slice_get};
 ghost use Rattle.exb_model.specs.Setup.{IsValid, limits_of, shape_of, start_of};
 ghost use Rattle.exb_model.specs.Tree.{is_extender};
 ghost use Rattle.exb_link.specs.Words.{is_control, is_data, leading};
@@ -9,12 +9,16 @@ ghost use Rattle.exb_machine.specs.Allowing.{Can, IsSettled};
 ghost use Rattle.exb_machine.specs.Stepping.{words_on};
 ghost use Rattle.exb_machine.specs.Worlds.{Arrive, Beat, Carry, Control, Lose, Mark, Order, Tick, first_world};
 ghost use Rattle.exb_network.specs.Idle.{IsIdle};
+ghost use Rattle.exb_motion.specs.Kept.{HasVid};
+ghost use Rattle.exb_motion.specs.Runs.Settles.{MayTake};
+ghost use Rattle.exb_network.specs.Taken.{IsReached};
 ghost use Rattle.exb_boxes.specs.Numbers.{IsNumber};
 ghost use Rattle.exb_network.specs.Steps.{way_of};
 ghost use Rattle.exb_network.specs.Turns.{order_of, IsTurn};
 ghost use Rattle.exb_network.specs.Worlds.{world_in, IsAt};
 
 use crate::busy::Turn;
+use crate::facts::name_vlans;
 use crate::site::Core;
 use crate::step::{Step, Way};
 use crate::{allowing, busy, live};
@@ -30,7 +34,7 @@ use exb_model::setup::Setup;
 use exb_model::trace::TraceLine;
 use exb_model::tree::Tree;
 use std::alloc::Global;
-use std::marker::Model;
+use std::marker::{Model, PhantomData};
 
 /// Why a step did not come to its end.
 #[derive(Clone, Copy, Debug)]
@@ -47,6 +51,8 @@ pub struct World {
     core: Core,
     room: Room,
     failed: bool,
+    /// Names the types of a step, for functions that make one.
+    steps: PhantomData<Step<'static>>,
 }
 
 impl Drop for World {
@@ -56,6 +62,7 @@ impl Drop for World {
             core: _,
             room: _,
             failed: _,
+            steps: _,
         } = self;
     }
 }
@@ -85,7 +92,9 @@ impl World {
         ensures quiet { IfOk result IsQuiet }
         ensures awake { IfOk result (λ made. made.failed ≡ false) }
         ensures tracing { IfOk result (λ made. made.log.tracing ≡ trace) }
+        ensures vids { All HasVid setup.now.start }
     {
+        name_vlans(setup.start.as_slice());
         setups_begin_sound();
         begins_written();
         let site = Site::new(alloc, setup)?;
@@ -95,6 +104,7 @@ impl World {
             core,
             room: Room::new(alloc, trace),
             failed: false,
+            steps: PhantomData,
         })
     }
 
@@ -115,6 +125,7 @@ impl World {
     pub fn arrive(&mut self, arrival: &Arrival) -> Result<(), WorldFault>
         requires { Can (tree_of self.old) (world_of self.old) (Arrive arrival.now) }
         ensures ok { OnOk result (IsStepped (Arrive arrival.now) self.old self.new) }
+        ensures may { OnOk result (MayTake (tree_of self.old) (world_of self.old) (Arrive arrival.now)) }
         ensures failed { (result ≡ Err WorldFault.Failed) ↔ (self.old.failed ≡ true) }
         ensures memory { OnErr result (self.new.failed ≡ true) }
     {
@@ -130,6 +141,7 @@ impl World {
     pub fn carry(&mut self, link: u8, way: Way) -> Result<(), WorldFault>
         requires { Can (tree_of self.old) (world_of self.old) (Carry link (way_of way)) }
         ensures ok { OnOk result (IsStepped (Carry link (way_of way)) self.old self.new) }
+        ensures may { OnOk result (MayTake (tree_of self.old) (world_of self.old) (Carry link (way_of way))) }
         ensures failed { (result ≡ Err WorldFault.Failed) ↔ (self.old.failed ≡ true) }
         ensures memory { OnErr result (self.new.failed ≡ true) }
     {
@@ -145,6 +157,7 @@ impl World {
     pub fn deliver(&mut self, link: u8, way: Way, at: u64, keep: bool) -> Result<(), WorldFault>
         requires { Can (tree_of self.old) (world_of self.old) (Control link (way_of way) at keep) }
         ensures ok { OnOk result (IsStepped (Control link (way_of way) at keep) self.old self.new) }
+        ensures may { OnOk result (MayTake (tree_of self.old) (world_of self.old) (Control link (way_of way) at keep)) }
         ensures failed { (result ≡ Err WorldFault.Failed) ↔ (self.old.failed ≡ true) }
         ensures memory { OnErr result (self.new.failed ≡ true) }
     {
@@ -168,6 +181,7 @@ impl World {
     pub fn lose(&mut self, link: u8, way: Way, at: u64) -> Result<(), WorldFault>
         requires { Can (tree_of self.old) (world_of self.old) (Lose link (way_of way) at) }
         ensures ok { OnOk result (IsStepped (Lose link (way_of way) at) self.old self.new) }
+        ensures may { OnOk result (MayTake (tree_of self.old) (world_of self.old) (Lose link (way_of way) at)) }
         ensures failed { (result ≡ Err WorldFault.Failed) ↔ (self.old.failed ≡ true) }
         ensures memory { OnErr result (self.new.failed ≡ true) }
     {
@@ -183,6 +197,7 @@ impl World {
     pub fn beat(&mut self) -> Result<(), WorldFault>
         requires { Can (tree_of self.old) (world_of self.old) Beat }
         ensures ok { OnOk result (IsStepped Beat self.old self.new) }
+        ensures may { OnOk result (MayTake (tree_of self.old) (world_of self.old) Beat) }
         ensures failed { (result ≡ Err WorldFault.Failed) ↔ (self.old.failed ≡ true) }
         ensures memory { OnErr result (self.new.failed ≡ true) }
     {
@@ -198,6 +213,7 @@ impl World {
     pub fn tick(&mut self, seconds: u32) -> Result<(), WorldFault>
         requires { Can (tree_of self.old) (world_of self.old) (Tick seconds) }
         ensures ok { OnOk result (IsStepped (Tick seconds) self.old self.new) }
+        ensures may { OnOk result (MayTake (tree_of self.old) (world_of self.old) (Tick seconds)) }
         ensures failed { (result ≡ Err WorldFault.Failed) ↔ (self.old.failed ≡ true) }
         ensures memory { OnErr result (self.new.failed ≡ true) }
     {
@@ -213,6 +229,7 @@ impl World {
     pub fn order(&mut self, command: &Command) -> Result<(), WorldFault>
         requires { Can (tree_of self.old) (world_of self.old) (Order command.now) }
         ensures ok { OnOk result (IsStepped (Order command.now) self.old self.new) }
+        ensures may { OnOk result (MayTake (tree_of self.old) (world_of self.old) (Order command.now)) }
         ensures failed { (result ≡ Err WorldFault.Failed) ↔ (self.old.failed ≡ true) }
         ensures memory { OnErr result (self.new.failed ≡ true) }
     {
@@ -228,6 +245,7 @@ impl World {
     pub fn mark(&mut self) -> Result<(), WorldFault>
         requires { Can (tree_of self.old) (world_of self.old) Mark }
         ensures ok { OnOk result (IsStepped Mark self.old self.new) }
+        ensures may { OnOk result (MayTake (tree_of self.old) (world_of self.old) Mark) }
         ensures failed { (result ≡ Err WorldFault.Failed) ↔ (self.old.failed ≡ true) }
         ensures memory { OnErr result (self.new.failed ≡ true) }
     {
@@ -258,6 +276,11 @@ impl World {
         ensures { result ≡ (world_of self.now).beats }
     {
         self.core.beats
+    }
+
+    /// What memory it is in.
+    pub fn alloc(&self) -> Global {
+        self.room.post.alloc
     }
 
     /// The tree.
@@ -337,6 +360,13 @@ impl World {
         ensures log { self.new.log ≡ self.old.log }
     {
         self.failed = true;
+    }
+
+    /// That a run of a valid setup comes to this network, where memory hasn't run out, as a fact for whoever calls this. It does nothing.
+    pub fn is_reached(&self)
+        ensures { self.now.failed ≡ false → IsReached (tree_of self.now) (bounds_of self.now) (world_of self.now) }
+    {
+        let _ = &self.core;
     }
 
     /// Forgets what happened, and changes nothing else.

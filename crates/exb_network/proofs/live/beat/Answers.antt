@@ -4,4 +4,4 @@ use Rattle.exb_network.proofs.live.beat.Goals as goal
 
 pub returns : goal.returns
 returns c =
-    makes_silently c.args.site.now c.args.core.now c.beat.new.core Beat c.args.room.now.post.log _ c.stays_live.ensures.stays c.requires.can tt c.has_low_serials.ensures c.if-room.false c.in_ok-beat.ensures
+    makes_silently c.args.site.now c.args.core.now c.beat.new.core Beat c.args.room.now.post.log _ c.stays_live.ensures.stays c.requires.can tt tt c.has_low_serials.ensures c.if-room.false c.in_ok-beat.ensures

@@ -18,4 +18,4 @@ returns c =
     let s = c.args.site.now in
     let effect = lost s (limits_in s) (whole_of c.args.core.now) (whole_of c.lose.new.core) c.args.link (way_of c.args.way) c.args.at c.tell_nothing-from.new.log c.lose.ensures.world c.lose.ensures.at in
     on_ok_weaker c.tell_rest.result (λ told.
-    makes s c.args.core.now c.lose.new.core (Lose c.args.link (way_of c.args.way) c.args.at) c.args.room.now.post.log _ _ _ _ c.stays_live.ensures.stays c.requires.can tt c.has_low_serials.ensures c.tell_nothing-from.ensures effect told) c.tell_rest.ensures
+    makes s c.args.core.now c.lose.new.core (Lose c.args.link (way_of c.args.way) c.args.at) c.args.room.now.post.log _ _ _ _ c.stays_live.ensures.stays c.requires.can tt tt c.has_low_serials.ensures c.tell_nothing-from.ensures effect told) c.tell_rest.ensures

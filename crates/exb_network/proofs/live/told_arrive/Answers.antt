@@ -11,4 +11,4 @@ tell_rest-requires c = enough c.args.site.now c.args.core.now c.arrive.new.core 
 pub returns : goal.returns
 returns c =
     on_ok_weaker c.tell_rest.result (λ told.
-    makes c.args.site.now c.args.core.now c.arrive.new.core (Arrive c.args.arrival.now) c.args.room.now.post.log _ _ _ _ c.stays_live.ensures.stays c.requires.can (subst IsBytes c.as_slice.ensures c.are_bytes.ensures) c.has_low_serials.ensures c.in_ok-from.ensures c.in_ok-arrive.ensures told) c.tell_rest.ensures
+    makes c.args.site.now c.args.core.now c.arrive.new.core (Arrive c.args.arrival.now) c.args.room.now.post.log _ _ _ _ c.stays_live.ensures.stays c.requires.can (subst IsBytes c.as_slice.ensures c.are_bytes.ensures) tt c.has_low_serials.ensures c.in_ok-from.ensures c.in_ok-arrive.ensures told) c.tell_rest.ensures

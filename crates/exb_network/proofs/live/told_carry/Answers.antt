@@ -10,4 +10,4 @@ tell_rest-requires c = enough c.args.site.now c.args.core.now c.carry.new.core _
 pub returns : goal.returns
 returns c =
     on_ok_weaker c.tell_rest.result (λ told.
-    makes c.args.site.now c.args.core.now c.carry.new.core (Carry c.args.link (way_of c.args.way)) c.args.room.now.post.log _ _ _ _ c.stays_live.ensures.stays c.requires.can tt c.has_low_serials.ensures c.in_ok-from.ensures c.in_ok-carry.ensures told) c.tell_rest.ensures
+    makes c.args.site.now c.args.core.now c.carry.new.core (Carry c.args.link (way_of c.args.way)) c.args.room.now.post.log _ _ _ _ c.stays_live.ensures.stays c.requires.can tt tt c.has_low_serials.ensures c.in_ok-from.ensures c.in_ok-carry.ensures told) c.tell_rest.ensures

@@ -1,3 +1,6 @@
+use Rattle.std.proofs.Common.{subst}
+use Rattle.std.specs.Prelude.{All}
+use Rattle.exb_motion.specs.Kept.{HasVid}
 use Rattle.exb_network.proofs.Kept.{live_first}
 use Rattle.exb_network.proofs.world.World.new.Goals as goal
 
@@ -5,4 +8,7 @@ pub invariant_of-result : goal.invariant_of-result
 invariant_of-result c = λ awake.
     let site = c.in_ok-site.ensures in
     let core = c.in_ok-core.ensures in
-    live_first c.setups_begin_sound.ensures c.begins_written.ensures c.args.setup.now c.in_ok-site.site c.in_ok-core.core c.requires site.tree site.limits core.world (core.at c.in_ok-site.site site.tree site.limits)
+    live_first c.setups_begin_sound.ensures c.begins_written.ensures c.args.setup.now c.in_ok-site.site c.in_ok-core.core c.requires (subst (All HasVid) c.as_slice.ensures c.name_vlans.ensures) site.tree site.limits core.world (core.at c.in_ok-site.site site.tree site.limits)
+
+pub returns-clause-vids : goal.returns-clause-vids
+returns-clause-vids c = subst (All HasVid) c.as_slice.ensures c.name_vlans.ensures
