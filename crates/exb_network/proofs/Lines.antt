@@ -116,21 +116,6 @@ stepped_is s c d step old begun done new f from first does last =
       same = record { site = refl; failed = refl; tracing = last.tracing ∙ does.tracing ∙ first.tracing };
     }
 
--- no trace is kept
-stepped_silently : (s : Site) (c d : Core) (step : Step) (old new : Log) (f : Bool) → old.tracing ≡ false → Does (done_by s.tree (limits_in s) step (world_in c)) s d old new →
-    IsStepped step (network_of s c old f) (network_of s d new f)
-unfolding stepped
-stepped_silently s c d step old new f off does =
-    record {
-      world = does.world;
-      events = does.events;
-      passed = does.passed;
-      left = does.left;
-      lines = λ on. absurd (false≢true (sym off ∙ on));
-      silent = λ isnt. does.lines;
-      same = record { site = refl; failed = refl; tracing = does.tracing };
-    }
-
 -- there are as many events at its end
 enough_with : (from : ℕ) (old es more : List Event) → from ≤ length old → es ≡ old ++ more → from ≤ length es
 enough_with from old es more few is = subst (λ (xs : List Event). from ≤ length xs) (sym is) (subst (λ n. from ≤ n) (sym (length-append old more)) (omega (arith, few)))
@@ -144,9 +129,3 @@ pub makes : (s : Site) (c d : Core) (step : Step) (old begun done new : Log) (fr
     Does (done_by s.tree (limits_in s) step (world_in c)) s d begun done → IsTold (drop from done.events) done new → Makes step s c d old new
 makes s c d step old begun done new from stays can bytes vid low first does last =
     record { may = record { can = can; has = bytes; vid = vid }; live = stays step d begun done can bytes vid (low does.at.awake) does; made = λ failed. stepped_is s c d step old begun done new failed from first does last }
-
-pub makes_silently : (s : Site) (c d : Core) (step : Step) (old new : Log) → StaysLive s c → Can s.tree (world_in c) step → HasBytes step → HasVidIn step →
-    (d.bridge.control.failed ≡ false → (n : ℕ) → ((world_in d).control.askers n).serial < 2 ^ 40) → old.tracing ≡ false → Does (done_by s.tree (limits_in s) step (world_in c)) s d old new →
-    Makes step s c d old new
-makes_silently s c d step old new stays can bytes vid low off does =
-    record { may = record { can = can; has = bytes; vid = vid }; live = stays step d old new can bytes vid (low does.at.awake) does; made = λ failed. stepped_silently s c d step old new failed off does }

@@ -1,6 +1,5 @@
-//! The steps of a live network: it stays live, and where a trace is kept the lines of each are told. Those of which each frame has some
-//! are made out of line where one is kept, so that a frame pays one test a step for it.
-ghost use Rattle.std.specs.Prelude.{◌≡◌, true, OnOk};
+//! The steps of a live network: it stays live, and where a trace is kept the lines of each are told.
+ghost use Rattle.std.specs.Prelude.{OnOk};
 ghost use Rattle.exb_machine.specs.Allowing.{Can};
 ghost use Rattle.exb_machine.specs.Runs.Asks.{AsksWell};
 ghost use Rattle.exb_machine.specs.Worlds.{Arrive, Beat, Carry, Control, Lose, Mark, Order, Tick};
@@ -50,30 +49,6 @@ pub(crate) fn arrive(
     requires can { Can site.now.tree (world_in core.old) (Arrive arrival.now) }
     ensures { OnOk result (Makes (Arrive arrival.now) site.now core.old core.new room.old.post.log room.new.post.log) }
 {
-    if room.post.log.tracing {
-        return told_arrive(site, arrival, room, core);
-    }
-    stays_live(site, core);
-    are_bytes(arrival.bytes.as_slice());
-    stepping::arrive(site, arrival, room, core)?;
-    core.bridge.control.has_low_serials();
-    Ok(())
-}
-
-/// A frame arrives at an external port, and its lines are told.
-#[cold]
-#[inline(never)]
-fn told_arrive(
-    site: &Site,
-    arrival: &Arrival,
-    room: &mut Room,
-    core: &mut Core,
-) -> Result<(), NoMemory>
-    requires live { IsLive site.now core.old }
-    requires can { Can site.now.tree (world_in core.old) (Arrive arrival.now) }
-    requires tracing { room.old.post.log.tracing ≡ true }
-    ensures { OnOk result (Makes (Arrive arrival.now) site.now core.old core.new room.old.post.log room.new.post.log) }
-{
     stays_live(site, core);
     are_bytes(arrival.bytes.as_slice());
     let from = tell_arrival(arrival, &mut room.post)?;
@@ -93,30 +68,6 @@ pub(crate) fn carry(
 ) -> Result<(), NoMemory>
     requires live { IsLive site.now core.old }
     requires can { Can site.now.tree (world_in core.old) (Carry link (way_of way)) }
-    ensures { OnOk result (Makes (Carry link (way_of way)) site.now core.old core.new room.old.post.log room.new.post.log) }
-{
-    if room.post.log.tracing {
-        return told_carry(site, link, way, room, core);
-    }
-    stays_live(site, core);
-    stepping::carry(site, link, way, room, core)?;
-    core.bridge.control.has_low_serials();
-    Ok(())
-}
-
-/// The first data word of a direction is taken, and its lines are told.
-#[cold]
-#[inline(never)]
-fn told_carry(
-    site: &Site,
-    link: u8,
-    way: Way,
-    room: &mut Room,
-    core: &mut Core,
-) -> Result<(), NoMemory>
-    requires live { IsLive site.now core.old }
-    requires can { Can site.now.tree (world_in core.old) (Carry link (way_of way)) }
-    requires tracing { room.old.post.log.tracing ≡ true }
     ensures { OnOk result (Makes (Carry link (way_of way)) site.now core.old core.new room.old.post.log room.new.post.log) }
 {
     stays_live(site, core);
@@ -174,24 +125,6 @@ pub(crate) fn beat(site: &Site, room: &mut Room, core: &mut Core) -> Result<(), 
     requires can { Can site.now.tree (world_in core.old) Beat }
     ensures { OnOk result (Makes Beat site.now core.old core.new room.old.post.log room.new.post.log) }
 {
-    if room.post.log.tracing {
-        return told_beat(site, room, core);
-    }
-    stays_live(site, core);
-    beating::beat(site, room, core)?;
-    core.bridge.control.has_low_serials();
-    Ok(())
-}
-
-/// A beat passes at all ends, and its lines are told.
-#[cold]
-#[inline(never)]
-fn told_beat(site: &Site, room: &mut Room, core: &mut Core) -> Result<(), NoMemory>
-    requires live { IsLive site.now core.old }
-    requires can { Can site.now.tree (world_in core.old) Beat }
-    requires tracing { room.old.post.log.tracing ≡ true }
-    ensures { OnOk result (Makes Beat site.now core.old core.new room.old.post.log room.new.post.log) }
-{
     stays_live(site, core);
     let from = tell_beat(&mut room.post)?;
     beating::beat(site, room, core)?;
@@ -243,27 +176,10 @@ pub(crate) fn mark(site: &Site, room: &mut Room, core: &mut Core) -> Result<(), 
     requires can { Can site.now.tree (world_in core.old) Mark }
     ensures { OnOk result (Makes Mark site.now core.old core.new room.old.post.log room.new.post.log) }
 {
-    if room.post.log.tracing {
-        return told_mark(site, room, core);
-    }
-    stays_live(site, core);
-    stepping::mark(site, core, &mut room.post.log)?;
-    core.bridge.control.has_low_serials();
-    Ok(())
-}
-
-/// A settled network is marked, and its lines are told.
-#[cold]
-#[inline(never)]
-fn told_mark(site: &Site, room: &mut Room, core: &mut Core) -> Result<(), NoMemory>
-    requires live { IsLive site.now core.old }
-    requires can { Can site.now.tree (world_in core.old) Mark }
-    requires tracing { room.old.post.log.tracing ≡ true }
-    ensures { OnOk result (Makes Mark site.now core.old core.new room.old.post.log room.new.post.log) }
-{
     stays_live(site, core);
     let from = tell_nothing(&mut room.post.log);
     stepping::mark(site, core, &mut room.post.log)?;
     core.bridge.control.has_low_serials();
     tell_rest(from, &mut room.post)
 }
+

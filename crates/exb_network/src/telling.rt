@@ -55,6 +55,8 @@ fn begin(log: &mut Log) -> usize
 }
 
 /// A step begins in which something comes in, and a trace is kept.
+#[cold]
+#[inline(never)]
 fn begin_in(
     way: TraceWay,
     who: u8,
@@ -79,6 +81,8 @@ fn begin_at(port: PortId, frame: &[u8], post: &mut Post) -> Result<usize, NoMemo
 }
 
 /// A step begins in which a word, if there is one, comes in at the end of its direction, and a trace is kept.
+#[cold]
+#[inline(never)]
 fn begin_word(
     site: &Site,
     number: u8,
@@ -107,15 +111,19 @@ pub(crate) fn tell_nothing(log: &mut Log) -> usize
     if log.tracing { begin(log) } else { 0 }
 }
 
-/// A step begins in which a frame arrives, and a trace is kept.
+/// A step begins in which a frame arrives.
+#[inline(always)]
 pub(crate) fn tell_arrival(arrival: &Arrival, post: &mut Post) -> Result<usize, NoMemory>
-    requires { post.old.log.tracing ≡ true }
     ensures { IfOk result (λ from. IsBegun (told (line_at arrival.now.port arrival.now.bytes) ∷ []) from post.old.log post.new.log) }
 {
+    if !post.log.tracing {
+        return Ok(0);
+    }
     begin_at(arrival.port, arrival.bytes.as_slice(), post)
 }
 
-/// A step begins in which the first data word of a direction is taken, and a trace is kept.
+/// A step begins in which the first data word of a direction is taken.
+#[inline(always)]
 pub(crate) fn tell_data(
     site: &Site,
     number: u8,
@@ -123,10 +131,12 @@ pub(crate) fn tell_data(
     core: &Core,
     post: &mut Post,
 ) -> Result<usize, NoMemory>
-    requires there { is_extender site.now.tree number ≡ true }
-    requires tracing { post.old.log.tracing ≡ true }
+    requires { is_extender site.now.tree number ≡ true }
     ensures { IfOk result (λ from. IsBegun (all_told (line_of_any site.now.tree number (way_of way) (first_data (words_on number (way_of way) (world_in core.now))))) from post.old.log post.new.log) }
 {
+    if !post.log.tracing {
+        return Ok(0);
+    }
     site.has_low_number(number);
     let word = link_of(core, number, way).first_data();
     begin_word(site, number, way, word, post)
@@ -152,11 +162,14 @@ pub(crate) fn tell_control(
     begin_word(site, number, way, word, post)
 }
 
-/// A beat begins, and a trace is kept.
+/// A beat begins.
+#[inline(always)]
 pub(crate) fn tell_beat(post: &mut Post) -> Result<usize, NoMemory>
-    requires { post.old.log.tracing ≡ true }
     ensures { IfOk result (λ from. IsBegun (told BeatLine ∷ []) from post.old.log post.new.log) }
 {
+    if !post.log.tracing {
+        return Ok(0);
+    }
     begin_in(TraceWay::Beat, 0, 0, &[], post)
 }
 
@@ -208,6 +221,7 @@ fn end(from: usize, post: &mut Post) -> Result<(), NoMemory>
 }
 
 /// A step ends: the events from a place on, which happened in it, and what went out are told.
+#[inline(always)]
 pub(crate) fn tell_rest(from: usize, post: &mut Post) -> Result<(), NoMemory>
     requires { from ≤ length post.old.log.events }
     ensures { OnOk result (IsTold (drop from post.old.log.events) post.old.log post.new.log) }
