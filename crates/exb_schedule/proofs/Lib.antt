@@ -13,6 +13,5 @@ mod Taking
 mod RoundsLeft
 mod Resting
 mod Played
-mod Standing
 mod Lasting
 mod Counting

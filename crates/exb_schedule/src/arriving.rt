@@ -3,9 +3,8 @@ ghost use Rattle.std.specs.Prelude.{◌≡◌, ◌↔◌, true, OnErr, OnOk};
 ghost use Rattle.exb_schedule.specs.Moves.{HasRun};
 ghost use Rattle.exb_schedule.specs.Playing.{arrive, tick, CanAll};
 
-use crate::world::World;
 use exb_model::arrival::Arrival;
-use exb_network::WorldFault;
+use exb_network::{World, WorldFault};
 
 /// Lets seconds pass, if there are any.
 #[inline(always)]

@@ -10,10 +10,9 @@ ghost use Rattle.exb_network.specs.Steps.{way_of};
 ghost use Rattle.exb_schedule.specs.Rounds.{goes_along, goes_one_way, AreNext, GoesThrough, HasAsked, HasTaken};
 
 use crate::remaining::Remaining;
-use crate::world::World;
 use exb_fate::Fate;
 use exb_model::setup::Verdict;
-use exb_network::{Way, WorldFault};
+use exb_network::{Way, World, WorldFault};
 
 /// Asks the fate of a control word that is free, and does what it says: the word is delivered, lost, delivered and kept, or left.
 /// Answers the place of the next one.
@@ -114,7 +113,7 @@ fn go_one_way(world: &mut World, fate: &mut dyn Fate, way: Way) -> Result<(), Wo
     ensures falls { left fate.new ≤ left fate.old }
 {
     let mut from = 0;
-    'directions: while let Some(turn) = world.network().next_busy(way, from) {
+    'directions: while let Some(turn) = world.next_busy(way, from) {
         go_through(world, fate, turn.link, way)?;
         from = turn.place + 1;
     }

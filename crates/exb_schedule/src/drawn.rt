@@ -12,12 +12,11 @@ use crate::queues::{Queue, next_in, queues_of, take_from};
 use crate::rest::{Rest, can_come, come, command, pass};
 use crate::segment::end;
 use crate::steps::{carry, deliver, lose};
-use crate::world::World;
 use exb_fate::Fate;
 use exb_model::arrival::Arrival;
 use exb_model::memory::NoMemory;
 use exb_model::setup::{Timed, Verdict};
-use exb_network::{Way, WorldFault};
+use exb_network::{Way, World, WorldFault};
 use rand_pcg::Lcg64Xsh32;
 
 /// Takes the first data word of a direction.
@@ -191,7 +190,7 @@ fn draw_all(
     ensures fate { OnOk result (left fate.new + letters_in (drop rest.new.taken commands.now) ≤ left fate.old + letters_in (drop rest.old.taken commands.now)) }
     ensures low { left fate.new ≤ left fate.old + letters_in (drop rest.old.taken commands.now) }
 {
-    let mut queues = match queues_of(world.alloc, arrivals) {
+    let mut queues = match queues_of(world.alloc(), arrivals) {
         Ok(queues) => queues,
         Err(NoMemory) => return Err(WorldFault::Memory),
     };
@@ -292,7 +291,7 @@ fn give_drawn(
     ensures failed { result ≡ Err WorldFault.Failed → world.old.failed ≡ true }
     ensures fate { left fate.new ≤ left fate.old + letters_in commands.now }
 {
-    let Ok(mut rest) = Rest::new(world.alloc, seconds, arrivals.len()) else {
+    let Ok(mut rest) = Rest::new(world.alloc(), seconds, arrivals.len()) else {
         return Err(WorldFault::Memory);
     };
     give_rest(world, fate, &mut rest, rng, seconds, commands, arrivals)
@@ -341,7 +340,7 @@ pub fn seeded(
     ensures memory { OnErr result (world.new.failed ≡ true) }
     ensures fate { left fate.new ≤ left fate.old + letters_in commands.now }
 {
-    if world.network().has_failed() {
+    if world.has_failed() {
         return Err(WorldFault::Failed);
     }
     match play_drawn(world, fate, rng, seconds, commands, arrivals) {

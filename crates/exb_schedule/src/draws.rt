@@ -5,8 +5,7 @@ ghost use Rattle.exb_network.specs.Networks.{tree_of};
 
 use crate::queues::{Queue, next_in};
 use crate::rest::Rest;
-use crate::world::World;
-use exb_network::Way;
+use exb_network::{Way, World};
 use rand_core::utils::NextWord;
 use rand_pcg::Lcg64Xsh32;
 

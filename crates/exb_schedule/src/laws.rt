@@ -1,7 +1,6 @@
 //! What is true of each step, and of a run that has played its input. Each law is a function that does nothing and ensures it.
 ghost use Rattle.exb_schedule.specs.Lasting.{EventsGoOn, PlayedStands, RoundsAreWholeOn, RunsStayStanding, SettledOwes, SettlingCounts};
 ghost use Rattle.exb_schedule.specs.Laws.{PlayedIsUnderWay, PlayedSaysPassed, PlayedWritesEagerly, PlayedWritesLegally};
-ghost use Rattle.exb_schedule.specs.Standing.{SetupsBeginStanding, StepsLeaveStanding};
 
 use exb_motion::laws::motion::{
     begins_kept, kept_is_clean, kept_stands, setups_go_on, setups_may_start, stands_go_on,
@@ -12,31 +11,6 @@ use exb_motion::laws::runs::{
     runs_write_eagerly, runs_write_legally,
 };
 use exb_resting::laws::rounds_are_whole;
-
-/// The network of a valid setup stands as it begins, with nothing given, told or left, and its links are clean.
-pub fn setups_begin_standing()
-    ensures { SetupsBeginStanding }
-{
-    setups_may_start();
-    begins_kept();
-    kept_stands();
-    kept_is_clean();
-}
-
-/// Each step of a network that a run of a valid setup reaches leaves it standing, with whatever it stood before: with what the step
-/// gave, the events that it added and what it made leave. Its links are clean, and the events are by the kind of the step.
-pub fn steps_leave_standing()
-    ensures { StepsLeaveStanding }
-{
-    setups_may_start();
-    begins_kept();
-    steps_keep();
-    stands_go_on();
-    steps_tell_so();
-    kept_is_clean();
-    runs_stay_low();
-    setups_go_on();
-}
 
 /// Of a network that has played the opening and some segments of an input the next index of each port, the number of commands and
 /// the clock follow what was played, and each frame that has left is a copy of one of its arrivals.

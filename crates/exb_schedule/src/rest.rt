@@ -7,12 +7,11 @@ ghost use Rattle.exb_schedule.specs.Drawing.{GoesOn};
 ghost use Rattle.exb_schedule.specs.Playing.{letters_in};
 
 use crate::segment::give_one;
-use crate::world::World;
 use exb_fate::Fate;
 use exb_model::arrival::Arrival;
 use exb_model::memory::NoMemory;
 use exb_model::setup::Timed;
-use exb_network::{Step, WorldFault};
+use exb_network::{Step, World, WorldFault};
 use std::alloc::Global;
 
 /// The seconds that are left, how many commands were given, and of each arrival whether it was.

@@ -13,12 +13,11 @@ ghost use Rattle.exb_schedule.specs.Segments.{IsPlayedOut};
 
 use crate::arriving::{let_arrive, let_pass};
 use crate::settling::settle;
-use crate::world::World;
 use exb_fate::Fate;
 use exb_model::arrival::Arrival;
 use exb_model::memory::NoMemory;
 use exb_model::setup::{Setup, Timed, Verdict};
-use exb_network::WorldFault;
+use exb_network::{World, WorldFault};
 use std::alloc::Global;
 
 /// Marks what is settled.
@@ -107,7 +106,7 @@ pub(crate) fn give_one(
     ensures failed { (result ≡ Err WorldFault.Failed) ↔ (world.old.failed ≡ true) }
     ensures fate { left fate.new ≤ left fate.old + length command.now.fate }
 {
-    if world.network().has_failed() {
+    if world.has_failed() {
         return Err(WorldFault::Failed);
     }
     match fate.arm(command.fate.as_slice()) {

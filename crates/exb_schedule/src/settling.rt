@@ -7,10 +7,9 @@ ghost use Rattle.exb_network.specs.Networks.{world_of, tree_of, bounds_of};
 ghost use Rattle.exb_schedule.specs.Rounds.{HasSettled};
 
 use crate::delivery::round;
-use crate::world::World;
 use exb_fate::Fate;
 use exb_motion::laws::runs::settles;
-use exb_network::WorldFault;
+use exb_network::{World, WorldFault};
 use exb_resting::laws::rounds_spend;
 
 /// Makes rounds until nothing is left to be done, and answers how many, a number that stays at 2^64 - 1: at most 64 for each verdict

@@ -13,7 +13,7 @@ directions-init g c = record { those = those_first (way_of c.args.way) _ c.args.
 pub directions-preserved : goal.directions-preserved
 directions-preserved g c =
     let turn = c.in-Some.turn in
-    let is = subst (λ (n : Network). IsTurn (tree_of n) (way_of c.args.way) (world_of n) c.directions.from turn) c.network.ensures c.in-Some.ensures.found in
+    let is = c.in-Some.ensures.found in
     let low = is.low in
     let falls = c.in_ok-go_through.ensures.falls in
     let before = c.directions.invariant.falls in
@@ -27,6 +27,4 @@ directions-preserved g c =
 pub returns-clause-ok : goal.returns-clause-ok
 returns-clause-ok g c =
     let way = way_of c.args.way in
-    let none =
-    subst (λ (n : Network). (k m : ℕ) → c.directions.from ≤ k → slice_get (order_of (tree_of n) way) k ≡ Some m → words_on m way (world_of n) ≡ []) c.network.ensures c.in_default.ensures.none in
-    none_after way _ _ c.args.world.now c.directions.world c.directions.from none c.directions.invariant.those
+    none_after way _ _ c.args.world.now c.directions.world c.directions.from c.in_default.ensures.none c.directions.invariant.those
