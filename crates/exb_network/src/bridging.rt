@@ -36,28 +36,6 @@ pub(crate) fn come(
     exb_bridge::come(site, arrival, room, &mut core.bridge)
 }
 
-/// The bridge takes a word at its port on which an extender hangs.
-#[inline(always)]
-pub(crate) fn take(
-    site: &Site,
-    bridge_port: u8,
-    below: u8,
-    word: BoxedWord,
-    room: &mut Room,
-    core: &mut Core,
-) -> Result<(), NoMemory>
-    ghost rest: { Rest }
-    requires own { rest ≡ rest_of core.old }
-    requires at { IsAt site.now core.old }
-    requires from1 { 1 ≤ bridge_port }
-    requires to64 { bridge_port ≤ 64 }
-    requires hangs { HangsOn site.now.tree below (bridge_port - 1) }
-    requires asks { AsksWell site.now.tree (limits_in site.now) (world_in core.old).control }
-    ensures { OnOk result (Does (bridge_takes site.now.tree (limits_in site.now) (bridge_port - 1) below word (world_in core.old)) site.now core.new room.old.post.log room.new.post.log) }
-{
-    exb_bridge::take(site, bridge_port, below, word, room, &mut core.bridge)
-}
-
 /// The bridge's ends count a beat.
 #[inline(always)]
 pub(crate) fn beat_ends(site: &Site, room: &mut Room, core: &mut Core) -> Result<(), NoMemory>

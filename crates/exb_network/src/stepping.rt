@@ -9,9 +9,11 @@ ghost use Rattle.exb_boxes.specs.Directions.{words_of};
 ghost use Rattle.exb_boxes.specs.Numbers.{IsNumber};
 ghost use Rattle.exb_bridge.specs.Sites.{limits_in};
 ghost use Rattle.exb_network.specs.Steps.{way_of};
+ghost use Rattle.exb_bridge.specs.Worlds.{Rest};
 ghost use Rattle.exb_network.specs.Worlds.{world_in, IsAt, Does};
+ghost use Rattle.exb_network.specs.Worlds.{rest_of as rest_of_core};
 
-use crate::bridging::{self, come};
+use crate::bridging::come;
 use crate::site::Core;
 use crate::step::Way;
 use crate::taking::{arrive_at, take_from_above, take_from_below};
@@ -33,6 +35,8 @@ fn take_up(
     room: &mut Room,
     core: &mut Core,
 ) -> Result<(), NoMemory>
+    ghost rest: { Rest }
+    requires own { rest ≡ rest_of_core core.old }
     requires at { IsAt site.now core.old }
     requires there { is_extender site.now.tree number ≡ true }
     requires asks { AsksWell site.now.tree (limits_in site.now) (world_in core.old).control }
@@ -42,7 +46,7 @@ fn take_up(
     let port = site.on(number);
     if port.device() == 0 {
         let bridge_port = port.place() + 1;
-        bridging::take(site, bridge_port, number, word, room, core)
+        exb_bridge::take(site, bridge_port, number, word, room, &mut core.bridge)
     } else {
         take_from_below(site, port, word, room, core)
     }

@@ -1,4 +1,4 @@
-use Rattle.std.proofs.Common.{ℕ, List, ap, sym, ◌∙◌}
+use Rattle.std.proofs.Common.{ℕ, List, ap, refl, sym, ◌∙◌}
 use Rattle.std.proofs.lemmas.Result.{on_ok_weaker}
 use Rattle.exb_link.specs.declared.word.Word.{Word}
 use Rattle.exb_link.specs.Words.{without_data}
@@ -17,8 +17,8 @@ returns-in-None c =
     no_data s (limits_in s) core (record core { up = c.take_data.new.self }) c.args.number Up c.args.room.now.post.log (sym c.take_data.ensures.word ∙ c.in-None.is)
     (ap (λ (u : ℕ → List Word). record (world_in core) { up = u }) c.take_data.ensures.rest) (at_up s core c.take_data.new.self c.requires.at)
 
-pub take_up-requires-clause-at : goal.take_up-requires-clause-at
-take_up-requires-clause-at c = at_up c.args.site.now (whole_of c.args.core.now) c.take_data.new.self c.requires.at
+pub take_up-requires : goal.take_up-requires
+take_up-requires c = (refl, (at_up c.args.site.now (whole_of c.args.core.now) c.take_data.new.self c.requires.at, (c.requires.there, c.requires.asks)))
 
 pub returns-in-Some : goal.returns-in-Some
 returns-in-Some c =
