@@ -15,7 +15,6 @@ use Rattle.exb_merge.specs.Replays.{AreReplays, HasPort, Standing, ids_in, left_
 use Rattle.exb_motion.specs.Playing.{IsTimely}
 use Rattle.exb_schedule.specs.Playing.{letters_in}
 use Rattle.exb_shelf.specs.Files.{Files}
-use Rattle.exb_shelf.specs.Shelf.{Id}
 use Rattle.exb_tables.specs.declared.rows.Named.{Named}
 use Rattle.exb_inputs.specs.declared.checked.Checked.{Checked}
 use Rattle.exb_outputs.specs.declared.outputs.Outputs.{Outputs}
@@ -24,10 +23,12 @@ use Rattle.exb_inputs.specs.Again.{first_standing, start_told, stream_told}
 use Rattle.exb_inputs.specs.Inputs.{input_from, is_named}
 use Rattle.exb_inputs.specs.Shelving.{ReadsCapture}
 use Rattle.exb_outputs.specs.Manifests.{Listed}
-use Rattle.exb_play.specs.Playing.{IsScript}
-use Rattle.exb_play.specs.UnderWay.{CanBegin}
+use Rattle.exb_play.specs.Playing.{IsScript, Run}
+use Rattle.exb_merge.specs.Programmes.{IsProgramme}
+use Rattle.exb_play.specs.Disks.{Disk}
+use Rattle.exb_play.specs.UnderWay.{CanBegin, IsRunOf, LeadsOn}
 use Rattle.exb_outputs.specs.Sent.{HasSent}
-use Rattle.exb_outputs.specs.Writing.{HasTexts, first_text, pieces_of}
+use Rattle.exb_outputs.specs.Writing.{HasTexts, IsReady, first_text, pieces_of}
 use Rattle.exb_inputs.proofs.Beginning.{passing, ports_in, all-told, StartIsLeast, numbers-one, has-named, low-bytes, rising-given, MergeOfAll, merged}
 use Rattle.exb_play.proofs.Segmenting.{segments-begin}
 use Rattle.exb_outputs.proofs.Apart.{apart-named}
@@ -36,58 +37,47 @@ pub timely : (t : Shape) (commands : List Timed) (fate : List Verdict) (i : Inpu
 timely t commands fate i script same = subst (λ (gs : List Given). AllPairs (λ (c d : Given). c.at ≤ d.at) gs) (sym same) (rising-given commands script.rising)
 
 -- So a run of them begins.
-pub can-begin : (tells : Type 0) (m : Mode) (setup : Setup) (commands : List Timed) (fate : List Verdict) (manifest : Listed) (names : List Named) (file now : Files) (cs : List Checked) (ids : ℕ → Id) (o : Outputs)
-    (before : Files) (p : Programme) → MergeOfAll → StartIsLeast → IsScript (shape_of setup) commands fate → manifest.tree ≡ shape_of setup → CanBeRead tells manifest names file cs →
-    p.start ≡ start_told cs → p.commands.now ≡ commands → p.taken ≡ 0 → standings p.captures ≡ map first_standing cs → left_in p.captures ≤ sum_by (λ c. c.told.bytes + 1) cs →
-    AllByRecursion (λ k. ReadsCapture names (ids k)) (ids_in p.captures) → (tells → AreReplays now ids p.captures.sources.items (map (stream_told names file) cs)) →
-    (tells → HasTexts manifest (pieces_of o) before now first_text) → HasSent manifest o (λ q. []) →
-    CanBegin tells m (record { input = input_from setup commands names file; before = before }) setup manifest now ids o p
-can-begin tells m setup commands fate manifest names file now cs ids o before p law least script tree can start same none standing left named replays texts sent =
-    let i : Input = input_from setup commands names file in
-    let t : Shape = shape_of setup in
+pub can-begin : (tells : Type 0) (m : Mode) (r : Run) (setup : Setup) (commands : List Timed) (fate : List Verdict) (manifest : Listed) (names : List Named) (file : Files) (d : Disk) (cs : List Checked) (o : Outputs)
+    (p : Programme) (captures : Replays) → MergeOfAll → StartIsLeast → IsRunOf tells r setup commands names file → IsScript (shape_of setup) commands fate → manifest.tree ≡ shape_of setup → CanBeRead tells manifest names file cs →
+    p.start ≡ start_told cs → p.commands.now ≡ commands → p.taken ≡ 0 → p.captures ≡ captures → standings captures ≡ map first_standing cs → left_in captures ≤ sum_by (λ c. c.told.bytes + 1) cs →
+    AllByRecursion (λ k. ReadsCapture names (d.ids k)) (ids_in captures) → (tells → AreReplays d.files d.ids captures.sources.items (map (stream_told names file) cs)) →
+    (tells → HasTexts manifest (pieces_of o) r.before d.files first_text) → HasSent manifest o (λ q. []) → IsReady manifest d.ids o → IsProgramme d.ids p → CanBegin tells m r setup manifest d o p
+can-begin tells m r setup commands fate manifest names file d cs o p captures law least run script tree can start same none are standing left named replays texts sent ready programme =
+    let t : shape_of r.input.setup ≡ shape_of setup = ap shape_of run.setup_is in
     let ports : ports_in cs ≡ filter (is_named names) all_ports = can.checked.ports in
     let passed : AllByRecursion (λ q. is_named names q ≡ true) (ports_in cs) = subst (AllByRecursion (λ q. is_named names q ≡ true)) (sym ports) (passing (is_named names) all_ports) in
+    let stand : standings p.captures ≡ map first_standing cs = ap standings are ∙ standing in
+    let mine : AllByRecursion (λ k. ReadsCapture names (d.ids k)) (ids_in p.captures) = subst (λ (x : Replays). AllByRecursion (λ k. ReadsCapture names (d.ids k)) (ids_in x)) (sym are) named in
     record {
-      setup = refl;
+      setup = run.setup_is;
       texts = texts;
       sent = sent;
-      timely = timely t commands fate i script refl;
+      timely = timely (shape_of setup) commands fate r.input script run.given;
       next = record {
-        given = ap (map given_by) (sym same);
-        names = (let P : List Timed → Type 0 = All (λ (c : Timed). NamesExternal t c.command) in subst P (sym same) script.commands);
+        given = run.given ∙ ap (map given_by) (sym same);
+        names =
+            (let P : Shape → List Timed → Type 0 = λ s. All (λ (c : Timed). NamesExternal s c.command) in
+            subst (λ (s : Shape). P s p.commands.now) (sym t) (subst (P (shape_of setup)) (sym same) script.commands));
         external = λ q has.
-            ap (λ (s : Shape). is_external s q) (sym tree)
-            ∙ can.external q (has-named (λ r. is_named names r ≡ true) cs q passed (subst (HasPort q) standing has));
+            ap (λ (s : Shape). is_external s q) (t ∙ sym tree) ∙ can.external q (has-named (λ x. is_named names x ≡ true) cs q passed (subst (HasPort q) stand has));
         taken = sym none;
-        counted = λ q. sym (ap (λ (ss : List Standing). number_of ss q) standing ∙ numbers-one cs q);
+        counted = λ q. sym (ap (λ (ss : List Standing). number_of ss q) stand ∙ numbers-one cs q);
         kept = tt;
-        few_bytes = (let low = low-bytes names cs can.checked.small ports in omega (arith, left, low));
+        few_bytes = (let low = low-bytes names cs can.checked.small ports in let size = ap left_in are in omega (arith, left, low, size));
         since = refl;
       };
-      apart = apart-named manifest names ids (ids_in p.captures) can.apart named;
-      leads = λ told. record {
-        streams = map (stream_told names file) cs;
-        replays = replays told;
-        rest =
-            segments-begin m i
-            ∙ ap (segments_after m None) (sym (merged setup commands names file cs p law least (all-told names file cs (can.checked.told told)) ports start same none));
-      };
+      ready = ready;
+      programme = programme;
+      apart = apart-named manifest names d.ids (ids_in p.captures) can.apart mine;
+      leads = λ told.
+          (let i : Input = input_from setup commands names file in
+          let led : LeadsOn m i [] None d p = record {
+            streams = map (stream_told names file) cs;
+            replays = subst (λ (x : Replays). AreReplays d.files d.ids x.sources.items (map (stream_told names file) cs)) (sym are) (replays told);
+            rest = segments-begin m i ∙ ap (segments_after m None) (sym (merged setup commands names file cs p law least (all-told names file cs (can.checked.told told)) ports start same none));
+          } in
+          subst (λ (x : Input). LeadsOn m x [] None d p) (sym (run.is told)) led);
     }
-
--- the same, where the programme was made of captures that were opened
-pub can-begin-of : (tells : Type 0) (m : Mode) (setup : Setup) (commands : List Timed) (fate : List Verdict) (manifest : Listed) (names : List Named) (file now : Files) (cs : List Checked) (ids : ℕ → Id) (o : Outputs)
-    (before : Files) (p : Programme) (captures : Replays) → MergeOfAll → StartIsLeast → IsScript (shape_of setup) commands fate → manifest.tree ≡ shape_of setup → CanBeRead tells manifest names file cs →
-    p.start ≡ start_told cs → p.commands.now ≡ commands → p.taken ≡ 0 → p.captures ≡ captures → standings captures ≡ map first_standing cs → left_in captures ≤ sum_by (λ c. c.told.bytes + 1) cs →
-    AllByRecursion (λ k. ReadsCapture names (ids k)) (ids_in captures) → (tells → AreReplays now ids captures.sources.items (map (stream_told names file) cs)) →
-    (tells → HasTexts manifest (pieces_of o) before now first_text) → HasSent manifest o (λ q. []) →
-    CanBegin tells m (record { input = input_from setup commands names file; before = before }) setup manifest now ids o p
-can-begin-of tells m setup commands fate manifest names file now cs ids o before p captures law least script tree can start same none are standing left named replays texts sent =
-    can-begin tells m setup commands fate manifest names file now cs ids o before p law least script tree can start same none
-    (ap standings are ∙ standing)
-    (let size = ap left_in are in omega (arith, size, left))
-    (subst (λ (r : Replays). AllByRecursion (λ k. ReadsCapture names (ids k)) (ids_in r)) (sym are) named)
-    (λ t. subst (λ (r : Replays). AreReplays now ids r.sources.items (map (stream_told names file) cs)) (sym are) (replays t))
-    texts sent
 
 -- the budget has room for all fates
 pub has-budget : (t : Shape) (given : List Timed) (fate : List Verdict) (p : Programme) (left : ℕ) → IsScript t given fate → p.commands.now ≡ given → p.taken ≡ 0 → left < 2 ^ 56 →

@@ -1,5 +1,5 @@
 -- Runs that ended early: what they leave is a front of what the whole eager run writes.
-use Rattle.std.proofs.Common.{◌≡◌, ℕ, ◌++◌, Bool, true, List, [], ◌∷◌, flat_map, Result, Ok, Err, refl, ap, sym, subst, ◌∙◌, append_assoc}
+use Rattle.std.proofs.Common.{◌≡◌, ℕ, ◌++◌, true, List, [], ◌∷◌, flat_map, Result, Ok, Err, refl, ap, sym, subst, ◌∙◌, append_assoc}
 use Rattle.std.specs.Prelude.{IfOk, OnErr, String, string_bytes, Option}
 use Rattle.std.specs.declared.alloc.Global.{Global}
 use Rattle.std.proofs.lemmas.List.{append-nil}
@@ -10,24 +10,18 @@ use Rattle.exb_model.specs.History.{Basis, History, ◌then◌, bridge_after}
 use Rattle.exb_model.specs.Input.{Input, Mode, Eager, Segment, basis_of, tree_of, segments}
 use Rattle.exb_model.specs.Learning.{learned}
 use Rattle.exb_model.specs.Texts.{capture_text, journal_text, record_text}
-use Rattle.exb_model.specs.Traces.{TraceLine}
 use Rattle.exb_model.specs.Tree.{Shape, is_external}
-use Rattle.exb_machine.specs.Worlds.{Left as Leaving, left_at}
+use Rattle.exb_machine.specs.Worlds.{left_at}
 use Rattle.exb_motion.specs.Playing.{IsTimely}
 use Rattle.exb_network.specs.Networks.{Network}
 use Rattle.exb_bridge.specs.Worlds.{all_left}
-use Rattle.exb_boxes.specs.declared.log.Left.{Left}
 use Rattle.exb_motion.specs.Runs.Playing.{HasWrittenFront, RunsWriteFronts}
-use Rattle.exb_schedule.specs.Playing.{HasPlayed as IsPlayedBy}
 use Rattle.exb_shelf.specs.Files.{Files}
 use Rattle.exb_text.specs.declared.output.Output.{Output}
-use Rattle.exb_inputs.specs.declared.fault.Fault.{Fault}
-use Rattle.exb_writers.specs.declared.counted.Counted.{Counted}
-use Rattle.exb_outputs.specs.declared.outputs.Outputs.{Outputs}
 use Rattle.exb_writers.specs.Texts.{AreCutEagerly, GrowsEagerly, output_text, text_so_far}
 use Rattle.exb_play.specs.Outputs.{HasPlayed}
 use Rattle.exb_outputs.specs.Manifests.{output_name, Listed, IsMade, kind_at, output_count}
-use Rattle.exb_play.specs.Playing.{IsCutOff, IsTold, Run}
+use Rattle.exb_play.specs.Playing.{HasTold, IsCutOff, IsTold, Player, Run, Told, ◌with◌}
 use Rattle.exb_outputs.specs.Writing.{AreCut, HasTexts, lines_of, pieces_of}
 use Rattle.exb_outputs.proofs.Cutting.{GoesOnAs, cut_now, cut_same, cut_whole, longer}
 use Rattle.exb_outputs.proofs.Filling.{weaker}
@@ -41,63 +35,55 @@ use Rattle.exb_writers.specs.Telling.{with_end}
 
 -- ---- where it ends
 -- before the next segment is played
-pub cut_before : (tells : Type 0) (m : Mode) (r : Run) (manifest : Listed) (now : Files) (n : Network) (c : Counted) (o : Outputs) (so_far rest : List Segment) → tells → IsTold tells m r manifest now n c o so_far
-    → segments m r.input ≡ so_far ++ rest → IsCutOff m r manifest now
-cut_before tells m r manifest now n c o so_far rest t is segments_are = record {
+pub cut_before : (tells : Type 0) (r : Run) (p : Player) (so_far rest : List Segment) → tells → IsTold tells r p so_far → segments p.mode r.input ≡ so_far ++ rest → IsCutOff p.mode r p.manifest p.disk.files
+cut_before tells r p so_far rest t is segments_are = record {
   tree = is.tree;
   so_far = so_far;
   rest = rest;
   segments_are = segments_are;
-  network = n;
+  network = p.world;
   told = is.told;
-  passed = is.passed;
-  gone = is.gone;
-  lines = is.lines;
   played = is.played;
   tracing = is.tracing;
   counts = [];
-  cut = cut_now manifest r.before now (pieces_of o) (text_so_far is.told is.gone is.lines []) (is.texts t);
+  cut = cut_now p.manifest r.before p.disk.files (pieces_of p.outputs) (text_so_far is.told.events is.told.left is.told.lines []) (is.texts t);
 }
 
 -- while what it told is written
-pub cut_amid : (m : Mode) (r : Run) (manifest : Listed) (now : Files) (so_far rest : List Segment) (v : Network) (told more : List Event) (passed : List Bool) (gone : List Leaving) (left : List Left) (lines new : List TraceLine)
-    → manifest.tree ≡ tree_of r.input → segments m r.input ≡ so_far ++ rest → v.log.tracing ≡ manifest.options.trace → IsPlayedBy m r.input so_far v (told ++ more) passed (gone ++ all_left left) (lines ++ new)
-    → AreCut manifest r.before now (texts-with told more gone left lines new) → IsCutOff m r manifest now
-cut_amid m r manifest now so_far rest v told more passed gone left lines new tree segments_are tracing played cut = record {
+pub cut_amid : (m : Mode) (r : Run) (manifest : Listed) (now : Files) (so_far rest : List Segment) (v : Network) (t : Told) → manifest.tree ≡ tree_of r.input → segments m r.input ≡ so_far ++ rest →
+    v.log.tracing ≡ manifest.options.trace → HasTold m r.input so_far v (t with v.log) → AreCut manifest r.before now (texts-with t.events v.log.events t.left v.log.left t.lines v.log.lines) → IsCutOff m r manifest now
+cut_amid m r manifest now so_far rest v t tree segments_are tracing played cut = record {
   tree = tree;
   so_far = so_far;
   rest = rest;
   segments_are = segments_are;
   network = v;
-  told = told ++ more;
-  passed = passed;
-  gone = gone ++ all_left left;
-  lines = lines ++ new;
+  told = t with v.log;
   played = played;
   tracing = tracing;
   counts = [];
-  cut = cut_same manifest r.before now (texts-with told more gone left lines new) (text_so_far (told ++ more) (gone ++ all_left left) (lines ++ new) []) (text-more told more gone left lines new) cut;
+  cut = cut_same manifest r.before now (texts-with t.events v.log.events t.left v.log.left t.lines v.log.lines) (text_so_far (t.events ++ v.log.events) (t.left ++ all_left v.log.left) (t.lines ++ v.log.lines) [])
+      (text-more t.events v.log.events t.left v.log.left t.lines v.log.lines) cut;
 }
 
 -- while what is left of all is written
-pub cut_at_end : (tells : Type 0) (m : Mode) (r : Run) (manifest : Listed) (old now : Files) (n : Network) (c : Counted) (o : Outputs) → tells → (is : IsTold tells m r manifest old n c o (segments m r.input))
-    → (ports : Option Counters) → ((orig : Files) (text : Output → List ℕ) → HasTexts manifest (pieces_of o) orig old text → AreCut manifest orig now (with_end text manifest ports o)) → IsCutOff m r manifest now
-cut_at_end tells m r manifest old now n c o t is ports cut = record {
-  tree = is.tree;
-  so_far = segments m r.input;
-  rest = [];
-  segments_are = sym (append-nil (segments m r.input));
-  network = n;
-  told = is.told;
-  passed = is.passed;
-  gone = is.gone;
-  lines = is.lines;
-  counts = counts_text manifest ports o;
-  played = is.played;
-  tracing = is.tracing;
-  cut = cut_same manifest r.before now (with_end (text_so_far is.told is.gone is.lines []) manifest ports o) (text_so_far is.told is.gone is.lines (counts_text manifest ports o))
-      (end_written is.told is.gone is.lines manifest ports o) (cut r.before (text_so_far is.told is.gone is.lines []) (is.texts t));
-}
+pub cut_at_end : (tells : Type 0) (r : Run) (p : Player) (now : Files) → tells → (is : IsTold tells r p (segments p.mode r.input)) → (ports : Option Counters) →
+    ((orig : Files) (text : Output → List ℕ) → HasTexts p.manifest (pieces_of p.outputs) orig p.disk.files text → AreCut p.manifest orig now (with_end text p.manifest ports p.outputs)) → IsCutOff p.mode r p.manifest now
+cut_at_end tells r p now t is ports cut =
+    let told = is.told in
+    record {
+      tree = is.tree;
+      so_far = segments p.mode r.input;
+      rest = [];
+      segments_are = sym (append-nil (segments p.mode r.input));
+      network = p.world;
+      told = told;
+      counts = counts_text p.manifest ports p.outputs;
+      played = is.played;
+      tracing = is.tracing;
+      cut = cut_same p.manifest r.before now (with_end (text_so_far told.events told.left told.lines []) p.manifest ports p.outputs) (text_so_far told.events told.left told.lines (counts_text p.manifest ports p.outputs))
+          (end_written told.events told.left told.lines p.manifest ports p.outputs) (cut r.before (text_so_far told.events told.left told.lines []) (is.texts t));
+    }
 
 -- ---- texts of a longer history
 flat_later : (b : Basis) (q : ℕ) (es : List Event) (h : History) → (more : List Sent) × (flat b (h then es) q ≡ flat b h q ++ more)
@@ -112,28 +98,28 @@ module _ (law : RunsWriteFronts) (r : Run) (manifest : Listed) (now : Files) (ti
   written : HasWrittenFront r.input k.played.done
   written = law r.input k.so_far k.rest k.played.done timely k.segments_are k.played.plays
 
-  history : eager r.input ≡ (([] then k.told) then written.more)
+  history : eager r.input ≡ (([] then k.told.events) then written.more)
   history = written.journal ∙ ap (λ (es : List Event). ([] then es) then written.more) (sym k.played.told)
 
-  capture_goes : (q : ℕ) → is_external (tree_of r.input) q ≡ true → (more : List ℕ) × (capture_text (flat (basis_of r.input) (eager r.input) q) ≡ capture_text (left_at q k.gone) ++ more)
+  capture_goes : (q : ℕ) → is_external (tree_of r.input) q ≡ true → (more : List ℕ) × (capture_text (flat (basis_of r.input) (eager r.input) q) ≡ capture_text (left_at q k.told.left) ++ more)
   capture_goes q ext =
       let b : Basis = basis_of r.input in
-      let later = flat_later b q written.more ([] then k.told) in
-      let left : left_at q k.gone ≡ flat b ([] then k.told) q =
+      let later = flat_later b q written.more ([] then k.told.events) in
+      let left : left_at q k.told.left ≡ flat b ([] then k.told.events) q =
       ap (left_at q) k.played.gone ∙ (written.captures q ext ∙ ap (λ (es : List Event). flat b ([] then es) q) (sym k.played.told)) in (
         flat_map record_text later.0,
-        ap (λ (h : History). capture_text (flat b h q)) history ∙ (ap capture_text (later.1 ∙ ap (λ (xs : List Sent). xs ++ later.0) (sym left)) ∙ capture_text-append (left_at q k.gone) later.0),
+        ap (λ (h : History). capture_text (flat b h q)) history ∙ (ap capture_text (later.1 ∙ ap (λ (xs : List Sent). xs ++ later.0) (sym left)) ∙ capture_text-append (left_at q k.told.left) later.0),
       )
 
-  journal_goes : (more : List ℕ) × (journal_text (eager r.input) ≡ journal_text ([] then k.told) ++ more)
-  journal_goes = (lines_of written.more, ap journal_text history ∙ journal_text-then ([] then k.told) written.more)
+  journal_goes : (more : List ℕ) × (journal_text (eager r.input) ≡ journal_text ([] then k.told.events) ++ more)
+  journal_goes = (lines_of written.more, ap journal_text history ∙ journal_text-then ([] then k.told.events) written.more)
 
-  goes : (o : Output) → IsMade manifest.options manifest.tree o → GrowsEagerly o → GoesOnAs (text_so_far k.told k.gone k.lines k.counts) (output_text r.input (eager r.input) []) o
-  goes = goes_eagerly r.input manifest.options manifest.tree k.told k.gone k.lines k.counts (λ q out. capture_goes q (ap (λ (t : Shape). is_external t q) (sym k.tree) ∙ out)) journal_goes
+  goes : (o : Output) → IsMade manifest.options manifest.tree o → GrowsEagerly o → GoesOnAs (text_so_far k.told.events k.told.left k.told.lines k.counts) (output_text r.input (eager r.input) []) o
+  goes = goes_eagerly r.input manifest.options manifest.tree k.told.events k.told.left k.told.lines k.counts (λ q out. capture_goes q (ap (λ (t : Shape). is_external t q) (sym k.tree) ∙ out)) journal_goes
 
   -- of a run that ended early
   whole : AreCutEagerly r.input manifest r.before now
-  whole j low grows = longer r.before now manifest j (text_so_far k.told k.gone k.lines k.counts) (output_text r.input (eager r.input) []) (goes (kind_at manifest j) (kind_is manifest j low).made grows) (k.cut.each j low)
+  whole j low grows = longer r.before now manifest j (text_so_far k.told.events k.told.left k.told.lines k.counts) (output_text r.input (eager r.input) []) (goes (kind_at manifest j) (kind_is manifest j low).made grows) (k.cut.each j low)
 
 pub cut_eagerly : (law : RunsWriteFronts) (r : Run) (manifest : Listed) (now : Files) → IsTimely r.input → IsCutOff Eager r manifest now → AreCutEagerly r.input manifest r.before now
 cut_eagerly law r manifest now timely k = whole law r manifest now timely k
@@ -147,7 +133,7 @@ played_eagerly i manifest f g line played =
     (λ j bytes l is. is ∙ ap (λ (h : History). output_text i h played.lines (kind_at manifest j)) (played.eager refl))))
 
 -- however it ended
-pub ended_eagerly : (law : RunsWriteFronts) (m : Mode) (r : Run) (manifest : Listed) (now : Files) (o : Result (String Global) Fault) → m ≡ Eager → IsTimely r.input
+pub ended_eagerly : {E : Type 0} (law : RunsWriteFronts) (m : Mode) (r : Run) (manifest : Listed) (now : Files) (o : Result (String Global) E) → m ≡ Eager → IsTimely r.input
     → IfOk o (λ line. HasPlayed m r.input manifest r.before now (string_bytes line)) → OnErr o (IsCutOff m r manifest now) → AreCutEagerly r.input manifest r.before now
 ended_eagerly law m r manifest now (Ok line) is timely played cut =
     played_eagerly r.input manifest r.before now (string_bytes line) (subst (λ (k : Mode). HasPlayed k r.input manifest r.before now (string_bytes line)) is played)

@@ -1,5 +1,18 @@
 -- The end of a run: what it wrote and counted is what the input calls for.
 use Rattle.std.proofs.Common.{◌≡◌, ℕ, ◌<◌, ◌^◌, Bool, true, List, [], Option, Some, None, length, All, get_or, refl, ap, sym, subst, ◌∙◌, arith}
+use Rattle.exb_model.specs.Texts.{summary_line}
+use Rattle.exb_network.specs.Networks.{Network}
+use Rattle.exb_shelf.specs.Files.{Files, Filled}
+use Rattle.exb_text.specs.Tallies.{counts_of}
+use Rattle.exb_text.specs.declared.output.Output.{Output}
+use Rattle.exb_outputs.proofs.Filling.{weaker}
+use Rattle.exb_outputs.specs.Manifests.{output_name}
+use Rattle.exb_outputs.specs.Writing.{HasTexts, pieces_of}
+use Rattle.exb_writers.proofs.Telling.{end_written}
+use Rattle.exb_writers.specs.Telling.{with_end}
+use Rattle.exb_play.specs.Outputs.{HasPlayed}
+use Rattle.exb_play.specs.Playing.{CanBeKept, HasTold, IsAllTold, Player, Run}
+use Rattle.exb_play.proofs.ReadBack.{moments-fit, numbers-then}
 use Rattle.std.proofs.lemmas.Bool.{false≢true}
 use Rattle.exb_model.specs.declared.event.Event.{Event}
 use Rattle.exb_model.specs.EagerHistory.{eager}
@@ -19,7 +32,6 @@ use Rattle.exb_machine.specs.Worlds.{Left, left_at}
 use Rattle.exb_motion.specs.Playing.{IsTimely}
 use Rattle.exb_network.specs.Networks.{Network}
 use Rattle.exb_motion.specs.Runs.Playing.{HasWrittenIn, PlaysIn, RunsAreUnderWay, RunsSayPassed, RunsWriteEagerly, RunsWriteLegally}
-use Rattle.exb_schedule.specs.Playing.{HasPlayed}
 use Rattle.exb_tracing.specs.Runs.{RunsTellLegally}
 use Rattle.exb_play.specs.Outputs.{IsTraceOf}
 use Rattle.exb_writers.specs.Texts.{output_text, text_so_far}
@@ -33,8 +45,37 @@ use Rattle.exb_writers.proofs.Counting.{LeftExternal, counts-whole}
 use Rattle.exb_outputs.proofs.Places.{external_low}
 use Rattle.exb_writers.proofs.Cutting.{whole_is}
 
-module _ (m : Mode) (i : Input) (manifest : Listed) (tree : manifest.tree ≡ tree_of i) (is_tree : IsTree manifest.tree) (timely : IsTimely i) (under_way : RunsAreUnderWay) (legally : RunsWriteLegally)
-    (n : Network) (told : List Event) (passed : List Bool) (gone : List Left) (lines : List TraceLine) (played : HasPlayed m i (segments m i) n told passed gone lines) where
+module _ (tells : Type 0) (r : Run) (p : Player) (all : IsAllTold tells r p) (is_tree : IsTree p.manifest.tree) (timely : IsTimely r.input) (under_way : RunsAreUnderWay) (legally : RunsWriteLegally) where
+  abbrev m : Mode
+  m = p.mode
+
+  abbrev i : Input
+  i = r.input
+
+  abbrev manifest : Listed
+  manifest = p.manifest
+
+  abbrev tree : p.manifest.tree ≡ tree_of r.input
+  tree = all.is.tree
+
+  abbrev n : Network
+  n = p.world
+
+  abbrev told : List Event
+  told = all.is.told.events
+
+  abbrev passed : List Bool
+  passed = all.is.told.passed
+
+  abbrev gone : List Left
+  gone = all.is.told.left
+
+  abbrev lines : List TraceLine
+  lines = all.is.told.lines
+
+  abbrev played : HasTold p.mode r.input (segments p.mode r.input) p.world all.is.told
+  played = all.is.played
+
   written : HasWrittenIn m i played.done
   written = legally m i played.done timely played.plays
 
@@ -42,15 +83,15 @@ module _ (m : Mode) (i : Input) (manifest : Listed) (tree : manifest.tree ≡ tr
   same-history = ap (λ (es : List Event). [] then es) played.told
 
   -- the history is legal
-  pub legal : Legal m i ([] then told)
+  legal : Legal m i ([] then told)
   legal = subst (Legal m i) (sym same-history) written.journal
 
   -- and in an eager run the eager one
-  pub eagerly : RunsWriteEagerly → m ≡ Eager → ([] then told) ≡ eager i
+  eagerly : RunsWriteEagerly → m ≡ Eager → ([] then told) ≡ eager i
   eagerly law is = same-history ∙ (law i played.done timely (subst (λ (k : Mode). PlaysIn k i (segments k i) played.done) is played.plays)).journal
 
   -- its trace is legal
-  pub trace : RunsTellLegally → n.log.tracing ≡ true → IsTraceOf i ([] then told) lines
+  trace : RunsTellLegally → n.log.tracing ≡ true → IsTraceOf i ([] then told) lines
   trace law on =
       subst (λ (ls : List TraceLine). IsTraceOf i ([] then told) ls) (sym (played.traced on))
       (subst (λ (g : History). IsTraceOf i g (all_told played.done.lines)) (sym same-history) (law m i played.done timely played.plays))
@@ -66,7 +107,7 @@ module _ (m : Mode) (i : Input) (manifest : Listed) (tree : manifest.tree ≡ tr
       (λ q low out. port_whole manifest o c told passed gone q low out (are.2 q (are.1 q low out)) has (room q))
 
   -- its texts
-  pub texts-whole : (ports : Option Counters) (o : Outputs) → AreCounted manifest ports told passed → HasSent manifest o (λ q. left_at q gone) → ((q : ℕ) → capture_size (left_at q gone) < 2 ^ 64) → CountsGoOn → RunsSayPassed →
+  texts-whole : (ports : Option Counters) (o : Outputs) → AreCounted manifest ports told passed → HasSent manifest o (λ q. left_at q gone) → ((q : ℕ) → capture_size (left_at q gone) < 2 ^ 64) → CountsGoOn → RunsSayPassed →
       (j : ℕ) → j < output_count manifest → text_so_far told gone lines (counts_text manifest ports o) (kind_at manifest j) ≡ output_text i ([] then told) lines (kind_at manifest j)
   texts-whole ports o are has room go_on says j low =
       whole_is i manifest.options manifest.tree told gone lines (counts_text manifest ports o) (λ q out. sent q (ap (λ (t : Shape). is_external t q) (sym tree) ∙ out)) (counters-whole ports o are has room go_on says)
@@ -81,5 +122,24 @@ module _ (m : Mode) (i : Input) (manifest : Listed) (tree : manifest.tree ≡ tr
       record { port = port; low = external_low manifest.tree (get_or gone k d).port is_tree (ap (λ (t : Shape). is_external t (get_or gone k d).port) tree ∙ port) }
 
   -- its counts
-  pub counts-end : counts_so_far told gone ≡ counts (tree_of i) (basis_of i) ([] then told)
+  counts-end : counts_so_far told gone ≡ counts (tree_of i) (basis_of i) ([] then told)
   counts-end = counts-whole (tree_of i) (basis_of i) ([] then told) told gone refl sent own
+
+  -- so all was played
+  pub has-played : tells → CanBeKept (segments p.mode r.input) → RunsWriteEagerly → RunsTellLegally → CountsGoOn → RunsSayPassed → (now : Files) (line : List ℕ) → line ≡ summary_line (counts_of p.counted.tally) →
+      ((orig : Files) (text : Output → List ℕ) → HasTexts p.manifest (pieces_of p.outputs) orig p.disk.files text
+      → Filled orig now (output_count p.manifest) (output_name p.manifest) (λ j bytes. bytes ≡ with_end text p.manifest p.counted.ports p.outputs (kind_at p.manifest j))) →
+      HasPlayed p.mode r.input p.manifest r.before now line
+  has-played t kept eager_law trace_law go_on says now line line_is texts = record {
+    history = [] then told;
+    lines = lines;
+    legal = legal;
+    back = record { valid = played.plays.valid; numbers = numbers-then told all.is.numbers; moments = moments-fit m i ([] then told) legal kept };
+    bytes = all.is.bytes;
+    eager = eagerly eager_law;
+    trace = λ on. trace trace_law (all.is.tracing ∙ on);
+    outputs = weaker r.before now (output_count manifest) (output_name manifest) (λ j bytes. bytes ≡ with_end (text_so_far told gone lines []) manifest p.counted.ports p.outputs (kind_at manifest j))
+        (λ j bytes. bytes ≡ output_text i ([] then told) lines (kind_at manifest j)) (texts r.before (text_so_far told gone lines []) (all.is.texts t))
+        (λ j bytes low is. is ∙ end_written told gone lines manifest p.counted.ports p.outputs (kind_at manifest j) ∙ texts-whole p.counted.ports p.outputs all.is.counted.ports all.is.sent all.room go_on says j low);
+    says = line_is ∙ ap summary_line (all.is.counted.tally ∙ counts-end);
+  }

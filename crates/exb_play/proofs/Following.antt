@@ -6,18 +6,16 @@ use Rattle.std.proofs.lemmas.Bool.{cases_eq, ne_eqb}
 use Rattle.std.proofs.lemmas.Grind.{flat_map-append}
 use Rattle.std.proofs.lemmas.List.{append-nil}
 use Rattle.std.proofs.lemmas.List.Sums.{sum_by-append}
-use Rattle.exb_model.specs.declared.event.Event.{Event}
 use Rattle.exb_model.specs.declared.setup.Timed.{Timed}
 use Rattle.exb_model.specs.declared.command.Command.{Command}
 use Rattle.exb_model.specs.History.{command_of}
 use Rattle.exb_model.specs.declared.arrival.Arrival.{Arrival}
 use Rattle.exb_model.specs.Input.{Input, Segment, Coming, Mode, basis_of, tree_of, given_by, segment_of, seconds_after, segments_after}
 use Rattle.exb_model.specs.Setup.{Limits, NamesExternal}
-use Rattle.exb_model.specs.Traces.{TraceLine}
 use Rattle.exb_model.specs.Tree.{Shape, is_external}
 use Rattle.exb_machine.specs.Allowing.{MayArrive}
 use Rattle.exb_machine.specs.Stepping.{stepped}
-use Rattle.exb_machine.specs.Worlds.{World, Step, Arrive, Order, Tick, Left}
+use Rattle.exb_machine.specs.Worlds.{World, Step, Arrive, Order, Tick}
 use Rattle.exb_merge.specs.Agendas.{begins_in, still_to_come}
 use Rattle.exb_merge.specs.declared.programme.Next.{Next}
 use Rattle.exb_merge.specs.declared.programme.Programme.{Programme}
@@ -25,12 +23,11 @@ use Rattle.exb_merge.specs.Programmes.{IsComing, IsProgramme, played_with}
 use Rattle.exb_merge.specs.Replays.{left_in}
 use Rattle.exb_network.specs.Networks.{Network, world_of, bounds_of as limits_in}
 use Rattle.exb_motion.specs.Runs.Playing.{RunsAreUnderWay, arrivals_in}
-use Rattle.exb_schedule.specs.Playing.{CanAll, CanFrom, HasPlayed, IsSegment, arrive, gives, letters_in, orders, tick}
-use Rattle.exb_shelf.specs.Files.{Files}
-use Rattle.exb_shelf.specs.Shelf.{Id}
+use Rattle.exb_play.specs.Playing.{HasTold, Player, Run, Told}
+use Rattle.exb_schedule.specs.Playing.{CanAll, CanFrom, IsSegment, arrive, gives, letters_in, orders, tick}
 use Rattle.exb_play.specs.declared.feed.Feed.{Feed}
 use Rattle.exb_play.specs.Playing.{CanBeKept}
-use Rattle.exb_play.specs.UnderWay.{CanFollow, IsGathered, IsGoingOn, IsSinceLast, LeadsOn, commands_played, second_by, seconds_played}
+use Rattle.exb_play.specs.UnderWay.{CanGoOn, CanFollow, IsGathered, IsGoingOn, IsSinceLast, LeadsOn, commands_played, second_by, seconds_played}
 use Rattle.exb_play.proofs.Counters.{arrive_next, order_next, order_given, tick_next, tick_given}
 use Rattle.exb_play.proofs.Segmenting.{segments_after-next}
 use Rattle.exb_play.proofs.Taking.{GoesOnBehind, HasCommands, HavePlaces, IsFit, arrivals-fit, arrivals_by, at-more, at_port, came_by, comes-commands, comes-from, comes-later, comes-size, comes-start, goes-behind, group-is, has-commands, take-front}
@@ -115,9 +112,9 @@ module _ (t : Shape) (l : Limits) where
       )
 
 -- it may be made in the network where it may be in the world of the run
-can-in : (m : Mode) (i : Input) (so_far : List Segment) (n : Network) (told : List Event) (passed : List Bool) (gone : List Left) (lines : List TraceLine) (p : HasPlayed m i so_far n told passed gone lines) (steps : List Step) →
+can-in : (m : Mode) (i : Input) (so_far : List Segment) (n : Network) (told : Told) (p : HasTold m i so_far n told) (steps : List Step) →
     CanFrom (tree_of i) (limits_in n) p.done.world steps → CanAll n steps
-can-in m i so_far n told passed gone lines p steps can =
+can-in m i so_far n told p steps can =
     let P : Shape → Type 0 = λ t. CanFrom t (limits_in n) (world_of n) steps in
     let Q : World → Type 0 = λ w. CanFrom (tree_of i) (limits_in n) w steps in
     subst P (sym p.tree) (subst Q (sym p.world) can)
@@ -160,8 +157,31 @@ names-front t (x ∷ xs) ys all = (all.0, names-front t xs ys all.1)
 
 -- ---- what was gathered
 -- Behind these segments one more was gathered: what came first, in this second, and all that came with it.
-module _ (m : Mode) (i : Input) (so_far : List Segment) (last : Option ℕ) (a : Programme) (tells : Type 0) (file files : Files) (given ids : ℕ → Id) (second : ℕ) (f : Feed) (seconds : ℕ)
-    (now : IsGoingOn i so_far last a) (got : IsGathered tells m file files given ids second a f) (fine : IsProgramme ids f.programme) (are : seconds ≡ seconds_after last second) where
+module _ (tells : Type 0) (r : Run) (p : Player) (last : Option ℕ) (second from : ℕ) (f : Feed) (k : CanGoOn tells r p last second from f) where
+  abbrev m : Mode
+  m = p.mode
+
+  abbrev i : Input
+  i = r.input
+
+  abbrev so_far : List Segment
+  so_far = k.so_far
+
+  abbrev a : Programme
+  a = k.old
+
+  abbrev now : IsGoingOn r.input k.so_far last k.old
+  now = k.next
+
+  abbrev got : IsGathered tells p.mode k.given p.disk second k.old f
+  got = k.got
+
+  abbrev fine : IsProgramme p.disk.ids f.programme
+  fine = k.programme
+
+  abbrev seconds : ℕ
+  seconds = seconds_after last second
+
   abbrev b : Programme
   b = f.programme
 
@@ -213,7 +233,7 @@ module _ (m : Mode) (i : Input) (so_far : List Segment) (last : Option ℕ) (a :
 
   -- the seconds that pass, and all so far
   since-seconds : (seconds ≤ second) × (seconds_played so_far + seconds + a.start ≤ second) × (second < a.start + 2 ^ 32)
-  since-seconds = by_last last now.since are
+  since-seconds = by_last last now.since refl
     where
       one : IsComing a got.first got.comes.0
       one = let (n, is, rest) = got.comes in is
@@ -254,7 +274,7 @@ module _ (m : Mode) (i : Input) (so_far : List Segment) (last : Option ℕ) (a :
   }
 
   -- and leads on, where the files are told
-  pub leading-on : tells → LeadsOn m i so_far last file given a → LeadsOn m i (so_far ++ segment_of seconds (came_by (got.first ∷ got.more)) ∷ []) (Some second) files ids f.programme
+  pub leading-on : tells → LeadsOn m i so_far last k.given a → LeadsOn m i (so_far ++ segment_of seconds (came_by (got.first ∷ got.more)) ∷ []) (Some second) p.disk f.programme
   leading-on t led =
       let (rest, order, replays) = got.takes t led.streams led.replays in
       record {
@@ -268,7 +288,6 @@ module _ (m : Mode) (i : Input) (so_far : List Segment) (last : Option ℕ) (a :
             (subst (λ (s : ℕ). AllByRecursion (λ d. second_by d ≡ s) got.more) (sym got.is_first) got.within)
             (λ seeded. subst (λ (s : ℕ). begins_in s (still_to_come (played_with rest b)) ≡ false) (sym got.is_first) (got.whole t seeded rest replays))))
             ∙ ap (λ (s : ℕ). so_far ++ segment_of (seconds_after last s) (came_by all) ∷ segments_after m (Some s) (still_to_come (played_with rest b))) got.is_first
-            ∙ ap (λ (k : ℕ). so_far ++ segment_of k (came_by all) ∷ segments_after m (Some second) (still_to_come (played_with rest b))) (sym are)
             ∙ sym (append_assoc so_far (next_segment ∷ []) (segments_after m (Some second) (still_to_come (played_with rest b))));
       }
 
@@ -303,7 +322,13 @@ module _ (m : Mode) (i : Input) (so_far : List Segment) (last : Option ℕ) (a :
       ∙ sum_by-append (λ (c : Timed). length c.fate) taken.given (drop b.taken b.commands.now)
 
   -- and it can be played
-  module _ (law : RunsAreUnderWay) (net : Network) (told : List Event) (passed : List Bool) (gone : List Left) (lines : List TraceLine) (played : HasPlayed m i so_far net told passed gone lines) where
+  module _ (law : RunsAreUnderWay) where
+    abbrev net : Network
+    net = p.world
+
+    abbrev played : HasTold p.mode r.input k.so_far p.world k.is.told
+    played = k.is.played
+
     pub can-play : (cs : List Timed) → cs ≡ taken.given → (frames : List Arrival) → frames ≡ f.gathered.items → CanAll net (gives seconds cs frames)
     can-play cs given_are frames frames_are =
         let t : Shape = tree_of i in
@@ -324,4 +349,4 @@ module _ (m : Mode) (i : Input) (so_far : List Segment) (last : Option ℕ) (a :
         (can-tick t l w seconds a.taken (arrivals_in so_far) (orders taken.given ++ arrive came) begun clock
         (λ v g. can-order t l taken.given v a.taken (arrivals_in so_far) (arrive came) g names few
         (λ u h. can-arrive t l i came u (a.taken + length taken.given) (arrivals_in so_far) refl h behind.places fit))) in
-        can-in m i so_far net told passed gone lines played (gives seconds cs frames) (subst (λ (xs : List Timed). CanFrom t l w (gives seconds xs frames)) (sym given_are) can)
+        can-in m i so_far net k.is.told played (gives seconds cs frames) (subst (λ (xs : List Timed). CanFrom t l w (gives seconds xs frames)) (sym given_are) can)

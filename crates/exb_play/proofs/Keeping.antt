@@ -1,43 +1,67 @@
 -- What stays of a run under way, while captures are read and outputs are written.
-use Rattle.std.proofs.Common.{◌≡◌, ℕ, List, refl, sym, subst, ◌∙◌}
+use Rattle.std.proofs.Common.{◌≡◌, ℕ, List, [], sym, subst}
 use Rattle.std.specs.Prelude.{Option}
+use mathlib.Core.Path.{fun_ext}
 use Rattle.exb_model.specs.Input.{Input, Segment, Mode}
 use Rattle.exb_merge.specs.declared.programme.Programme.{Programme}
-use Rattle.exb_merge.specs.Replays.{ids_in}
+use Rattle.exb_merge.specs.Programmes.{IsProgramme}
+use Rattle.exb_merge.specs.Replays.{AreReplays, ids_in}
 use Rattle.exb_shelf.specs.Files.{Files}
 use Rattle.exb_shelf.specs.Shelf.{Id}
-use Rattle.exb_outputs.specs.Manifests.{OnlyListed, Listed}
-use Rattle.exb_play.specs.Shelving.{OnlyGoesOn}
-use Rattle.exb_inputs.specs.Shelving.{OnlyReads}
-use Rattle.exb_outputs.specs.Shelving.{OnlyWrites}
-use Rattle.exb_play.specs.declared.feed.Feed.{Feed}
 use Rattle.exb_outputs.specs.Apart.{AreApart}
-use Rattle.exb_play.specs.UnderWay.{CanFeed, LeadsOn}
-use Rattle.exb_outputs.proofs.Keeping.{replays-written, ids-same, reads-then, reads-none}
+use Rattle.exb_outputs.specs.Manifests.{Listed}
+use Rattle.exb_outputs.specs.Writing.{HasTexts, pieces_of}
+use Rattle.exb_outputs.proofs.Keeping.{ids-same, replays-written}
+use Rattle.exb_writers.specs.Texts.{text_so_far}
+use Rattle.exb_play.specs.Disks.{Disk, Plays, Reads}
+use Rattle.exb_play.specs.Playing.{IsTold, Player, Run}
+use Rattle.exb_play.specs.UnderWay.{AreOthers, LeadsOn, Stands}
 
-pub leads-written : (m : Mode) (i : Input) (so_far : List Segment) (last : Option ℕ) (manifest : Listed) (file files : Files) (ids : ℕ → Id) (p : Programme) → AreApart manifest ids (ids_in p.captures) →
-    OnlyListed manifest file files → LeadsOn m i so_far last file ids p → LeadsOn m i so_far last files ids p
-leads-written m i so_far last manifest file files ids p apart only led = record {
-  streams = led.streams;
-  replays = replays-written manifest file files ids p.captures.sources.items led.streams apart only led.replays;
-  rest = led.rest;
+-- ---- while captures are read
+-- the same files
+pub files-read : (mine : List ℕ) (a b : Disk) → Reads mine a b → b.files ≡ a.files
+files-read mine a b reads = fun_ext λ name. reads.files tt name tt
+
+-- so what was told is written as it was
+abbrev pub told-read : (tells : Type 0) (r : Run) (p : Player) (so_far : List Segment) (mine : List ℕ) (d : Disk) → Reads mine p.disk d → IsTold tells r p so_far → IsTold tells r (record p { disk = d }) so_far
+told-read tells r p so_far mine d reads is = record {
+  tree = is.tree;
+  told = is.told;
+  played = is.played;
+  tracing = is.tracing;
+  numbers = is.numbers;
+  bytes = is.bytes;
+  counted = is.counted;
+  texts = λ t.
+      subst (λ (now : Files). HasTexts p.manifest (pieces_of p.outputs) r.before now (text_so_far is.told.events is.told.left is.told.lines [])) (sym (files-read mine p.disk d reads)) (is.texts t);
+  sent = is.sent;
+  quiet = is.quiet;
 }
 
--- read, written, or both
-pub goes-none : (tells : Type 0) (manifest : Listed) (mine : List ℕ) (f : Files) (a : ℕ → Id) → OnlyGoesOn tells manifest mine f f a a
-goes-none tells manifest mine f a = record { others = λ t m away. refl; reads = reads-none mine a a (λ j. refl) }
+-- ---- while outputs are written
+-- the same ids
+pub ids-written : (tells : Type 0) (manifest : Listed) (a b : Disk) → Plays tells manifest [] a b → b.ids ≡ a.ids
+ids-written tells manifest a b writes = ids-same a.ids b.ids (λ j. writes.ids.others j tt)
 
-pub goes-reading : (tells : Type 0) (manifest : Listed) (mine : List ℕ) (f g h : Files) (a b c : ℕ → Id) → OnlyGoesOn tells manifest mine f g a b → OnlyReads mine g h b c → OnlyGoesOn tells manifest mine f h a c
-goes-reading tells manifest mine f g h a b c one two = record { others = λ t m away. two.files m ∙ one.others t m away; reads = reads-then mine a b c one.reads two.reads }
+-- so a programme goes on, apart from the outputs
+pub programme-written : (tells : Type 0) (manifest : Listed) (a b : Disk) (q : Programme) → Plays tells manifest [] a b → IsProgramme a.ids q → IsProgramme b.ids q
+programme-written tells manifest a b q writes is = subst (λ (ids : ℕ → Id). IsProgramme ids q) (sym (ids-written tells manifest a b writes)) is
 
-pub goes-writing : (tells : Type 0) (manifest : Listed) (mine : List ℕ) (f g h : Files) (a b c : ℕ → Id) → OnlyGoesOn tells manifest mine f g a b → OnlyWrites tells manifest g h b c → OnlyGoesOn tells manifest mine f h a c
-goes-writing tells manifest mine f g h a b c one two =
-    record { others = λ t m away. two.others t m away ∙ one.others t m away; reads = reads-then mine a b c one.reads (reads-none mine b c two.kept) }
+pub apart-written : (tells : Type 0) (manifest : Listed) (a b : Disk) (mine : List ℕ) → Plays tells manifest [] a b → AreApart manifest a.ids mine → AreApart manifest b.ids mine
+apart-written tells manifest a b mine writes is = subst (λ (ids : ℕ → Id). AreApart manifest ids mine) (sym (ids-written tells manifest a b writes)) is
 
-pub goes-then : (tells : Type 0) (manifest : Listed) (mine : List ℕ) (f g h : Files) (a b c : ℕ → Id) → OnlyGoesOn tells manifest mine f g a b → OnlyGoesOn tells manifest mine g h b c → OnlyGoesOn tells manifest mine f h a c
-goes-then tells manifest mine f g h a b c one two =
-    record { others = λ t m away. two.others t m away ∙ one.others t m away; reads = reads-then mine a b c one.reads two.reads }
+-- and leads on
+pub leads-written : (tells : Type 0) (m : Mode) (i : Input) (so_far : List Segment) (last : Option ℕ) (manifest : Listed) (a b : Disk) (q : Programme) → tells → Plays tells manifest [] a b →
+    AreApart manifest a.ids (ids_in q.captures) → LeadsOn m i so_far last a q → LeadsOn m i so_far last b q
+leads-written tells m i so_far last manifest a b q t writes apart led =
+    let same = ids-written tells manifest a b writes in
+    let there = replays-written manifest a.files b.files a.ids q.captures.sources.items led.streams apart (writes.files t) led.replays in
+    record {
+      streams = led.streams;
+      replays = subst (λ (ids : ℕ → Id). AreReplays b.files ids q.captures.sources.items led.streams) (sym same) there;
+      rest = led.rest;
+    }
 
--- a feed while outputs are written
-pub feed-written : (given ids : ℕ → Id) (f : Feed) → ((j : ℕ) → ids j ≡ given j) → CanFeed given f → CanFeed ids f
-feed-written given ids f same can = subst (λ (i : ℕ → Id). CanFeed i f) (sym (ids-same given ids same)) can
+-- where the files are told, a run that stands reads those that were checked
+pub never-others : (tells : Type 0) (r : Run) (p : Player) (last : Option ℕ) (q : Programme) → Stands tells r p last q → tells → AreOthers p.disk q → ⊥
+never-others tells r p last q s t others = let led = s.leads t in others led.streams led.replays

@@ -1,4 +1,5 @@
 pub mod Parts
+pub mod Touching
 pub mod Beginning
 pub mod Ports
 pub mod Telling
@@ -12,4 +13,5 @@ pub mod Following
 pub mod CuttingOff
 pub mod Going
 pub mod Ending
+pub mod Ends
 pub mod ReadBack

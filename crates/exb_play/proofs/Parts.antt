@@ -18,7 +18,6 @@ use Rattle.exb_motion.specs.Playing.{IsTimely}
 use Rattle.exb_tracing.specs.SoFar.{HasToldSoFar, IsHistorySoFar, IsTraceSoFar, RunsTellSoFar}
 use Rattle.exb_shelf.specs.Files.{Files}
 use Rattle.exb_text.specs.declared.output.Output.{Output}
-use Rattle.exb_inputs.specs.declared.fault.Fault.{Fault}
 use Rattle.exb_outputs.specs.Manifests.{IsMade, Listed, kind_at, output_name}
 use Rattle.exb_outputs.specs.Writing.{AreCut, HasTexts, first_text}
 use Rattle.exb_outputs.proofs.ByKind.{kind_is}
@@ -35,24 +34,24 @@ module _ (law : RunsTellSoFar) (m : Mode) (r : Run) (manifest : Listed) (now : F
   so : HasToldSoFar m r.input k.played.done
   so = law m r.input k.so_far k.rest k.played.done timely k.segments_are k.played.plays
 
-  same-history : ([] then k.played.done.events) ≡ ([] then k.told)
+  same-history : ([] then k.played.done.events) ≡ ([] then k.told.events)
   same-history = ap (λ (es : List Event). [] then es) (sym k.played.told)
 
-  trace_of : manifest.options.trace ≡ true → IsTraceSoFar r.input ([] then k.told) k.lines
+  trace_of : manifest.options.trace ≡ true → IsTraceSoFar r.input ([] then k.told.events) k.told.lines
   trace_of on =
-      subst (λ (ls : List TraceLine). IsTraceSoFar r.input ([] then k.told) ls) (sym (k.played.traced (k.tracing ∙ on)))
+      subst (λ (ls : List TraceLine). IsTraceSoFar r.input ([] then k.told.events) ls) (sym (k.played.traced (k.tracing ∙ on)))
       (subst (λ (h : History). IsTraceSoFar r.input h (all_told k.played.done.lines)) same-history so.trace)
 
-  sent : (q : ℕ) → is_external manifest.tree q ≡ true → left_at q k.gone ≡ flat (basis_of r.input) ([] then k.told) q
+  sent : (q : ℕ) → is_external manifest.tree q ≡ true → left_at q k.told.left ≡ flat (basis_of r.input) ([] then k.told.events) q
   sent q out = ap (left_at q) k.played.gone ∙ so.captures q (ap (λ (t : Shape). is_external t q) (sym k.tree) ∙ out) ∙ ap (λ (h : History). flat (basis_of r.input) h q) same-history
 
-  text_is : (o : Output) → IsMade manifest.options manifest.tree o → IsWrittenAlong o → text_so_far k.told k.gone k.lines k.counts o ≡ output_text r.input ([] then k.told) k.lines o
-  text_is = along_is r.input manifest.options manifest.tree k.told k.gone k.lines k.counts sent
+  text_is : (o : Output) → IsMade manifest.options manifest.tree o → IsWrittenAlong o → text_so_far k.told.events k.told.left k.told.lines k.counts o ≡ output_text r.input ([] then k.told.events) k.told.lines o
+  text_is = along_is r.input manifest.options manifest.tree k.told.events k.told.left k.told.lines k.counts sent
 
   pub cut-so-far : IsCutSoFar m r.input manifest r.before now
   cut-so-far = record {
-    history = [] then k.told;
-    lines = k.lines;
+    history = [] then k.told.events;
+    lines = k.told.lines;
     told = subst (λ (h : History). IsHistorySoFar m r.input h) same-history so.journal;
     traced = trace_of;
     cut = λ j low along. subst (λ (text : List ℕ). IsCut (r.before (output_name manifest j)) (now (output_name manifest j)) text) (text_is (kind_at manifest j) (kind_is manifest j low).made along) (k.cut.each j low);
@@ -87,7 +86,7 @@ cut-played m i manifest f g line played = record {
 }
 
 -- ---- however it ended
-pub ended-so-far : (law : RunsTellSoFar) (m : Mode) (r : Run) (manifest : Listed) (now : Files) (o : Result (String Global) Fault) → IsTimely r.input
+pub ended-so-far : {E : Type 0} (law : RunsTellSoFar) (m : Mode) (r : Run) (manifest : Listed) (now : Files) (o : Result (String Global) E) → IsTimely r.input
     → IfOk o (λ line. HasPlayed m r.input manifest r.before now (string_bytes line)) → OnErr o (IsCutOff m r manifest now) → AreCutSoFar m r.input manifest r.before now
 ended-so-far law m r manifest now (Ok line) timely played cut = inr (cut-played m r.input manifest r.before now (string_bytes line) played)
 ended-so-far law m r manifest now (Err x) timely played cut = inr (cut-so-far law m r manifest now timely cut)

@@ -14,11 +14,11 @@ use Rattle.exb_network.specs.Networks.{Network, world_of, IsQuiet, IsSame}
 use Rattle.exb_bridge.specs.Sites.{Site, limits_in as limits_at}
 use Rattle.exb_bridge.specs.Worlds.{all_left, copies_of}
 use Rattle.exb_boxes.specs.declared.log.Left.{Left}
+use Rattle.exb_boxes.specs.declared.log.Log.{Log}
 use Rattle.exb_motion.specs.Runs.Playing.{IsCopyOfAny, RunsAreUnderWay, RunsAreFew, arrivals_in}
-use Rattle.exb_schedule.specs.Playing.{HasPlayed}
 use Rattle.exb_text.specs.Tallies.{FitsTally, nothing_counted}
 use Rattle.exb_outputs.specs.Manifests.{Listed}
-use Rattle.exb_play.specs.Playing.{CanBeKept}
+use Rattle.exb_play.specs.Playing.{CanBeKept, HasTold, Told, ◌with◌}
 use Rattle.exb_writers.specs.Counts.{counts_so_far}
 use Rattle.exb_play.specs.UnderWay.{CanFollow}
 use Rattle.exb_writers.specs.Leaving.{CanBeWritten}
@@ -27,24 +27,24 @@ use Rattle.exb_outputs.proofs.Places.{external_low}
 use Rattle.exb_writers.proofs.Telling.{counts-more}
 
 -- ---- the run
-pub quiet-played : (m : Mode) (i : Input) (so_far : List Segment) (n : Network) (told : List Event) (passed : List Bool) (gone : List Leaving) (lines : List TraceLine) → IsQuiet n → HasPlayed m i so_far n told passed gone lines →
-    HasPlayed m i so_far n (told ++ n.log.events) (passed ++ n.log.passed) (gone ++ all_left n.log.left) (lines ++ n.log.lines)
-quiet-played m i so_far n told passed gone lines quiet p = record {
+pub quiet-played : (m : Mode) (i : Input) (so_far : List Segment) (n : Network) (t : Told) → IsQuiet n → HasTold m i so_far n t →
+    HasTold m i so_far n (t with n.log)
+quiet-played m i so_far n t quiet p = record {
   done = p.done;
   plays = p.plays;
   tree = p.tree;
   limits = p.limits;
   world = p.world;
-  told = ap (λ (es : List Event). told ++ es) quiet.events ∙ append-nil told ∙ p.told;
-  said = ap (λ (bs : List Bool). passed ++ bs) quiet.passed ∙ append-nil passed ∙ p.said;
-  gone = ap (λ (xs : List Left). gone ++ all_left xs) quiet.left ∙ append-nil gone ∙ p.gone;
-  traced = λ on. ap (λ (ls : List TraceLine). lines ++ ls) quiet.lines ∙ append-nil lines ∙ p.traced on;
-  silent = λ off. ap (λ (ls : List TraceLine). lines ++ ls) quiet.lines ∙ append-nil lines ∙ p.silent off;
+  told = ap (λ (es : List Event). t.events ++ es) quiet.events ∙ append-nil t.events ∙ p.told;
+  said = ap (λ (bs : List Bool). t.passed ++ bs) quiet.passed ∙ append-nil t.passed ∙ p.said;
+  gone = ap (λ (xs : List Left). t.left ++ all_left xs) quiet.left ∙ append-nil t.left ∙ p.gone;
+  traced = λ on. ap (λ (ls : List TraceLine). t.lines ++ ls) quiet.lines ∙ append-nil t.lines ∙ p.traced on;
+  silent = λ off. ap (λ (ls : List TraceLine). t.lines ++ ls) quiet.lines ∙ append-nil t.lines ∙ p.silent off;
 }
 
-pub cleared-played : (m : Mode) (i : Input) (so_far : List Segment) (n v : Network) (told : List Event) (passed : List Bool) (gone : List Leaving) (lines : List TraceLine) → world_of v ≡ world_of n → IsSame n v →
-    HasPlayed m i so_far n told passed gone lines → HasPlayed m i so_far v told passed gone lines
-cleared-played m i so_far n v told passed gone lines world same p = record {
+pub cleared-played : (m : Mode) (i : Input) (so_far : List Segment) (n v : Network) (t : Told) → world_of v ≡ world_of n → IsSame n v →
+    HasTold m i so_far n t → HasTold m i so_far v t
+cleared-played m i so_far n v t world same p = record {
   done = p.done;
   plays = p.plays;
   tree = ap (λ (s : Site). s.tree) same.site ∙ p.tree;
@@ -59,9 +59,9 @@ cleared-played m i so_far n v told passed gone lines world same p = record {
 
 -- ---- how much is counted
 -- the counts of what a run told fit, with what has left
-pub counts-fit : (m : Mode) (i : Input) (so_far : List Segment) (n : Network) (told : List Event) (passed : List Bool) (gone : List Leaving) (lines : List TraceLine) → RunsAreFew → CanFollow i so_far →
-    HasPlayed m i so_far n told passed gone lines → FitsTally (counts_so_far told gone)
-counts-fit m i so_far n told passed gone lines law follows p =
+pub counts-fit : (m : Mode) (i : Input) (so_far : List Segment) (n : Network) (t : Told) → RunsAreFew → CanFollow i so_far →
+    HasTold m i so_far n t → FitsTally (counts_so_far t.events t.left)
+counts-fit m i so_far n t law follows p =
     let few = law m i so_far p.done p.plays in
     let events = p.told in
     let relayed = ap (λ (es : List Event). (count_events nothing_counted es).relayed) events in
@@ -72,7 +72,7 @@ counts-fit m i so_far n told passed gone lines law follows p =
     let decided = few.decided in
     let arrivals = follows.few_arrivals in
     let commands = follows.few_commands in
-    let none = count_events-left told nothing_counted in
+    let none = count_events-left t.events nothing_counted in
     let frames = few.left in
     let size = ap (λ (xs : List Leaving). length xs) p.gone in
     record {
@@ -84,9 +84,9 @@ counts-fit m i so_far n told passed gone lines law follows p =
     }
 
 -- arrivals together
-pub arrivals-low : (m : Mode) (i : Input) (so_far : List Segment) (n : Network) (told : List Event) (passed : List Bool) (gone : List Leaving) (lines : List TraceLine) → RunsAreFew → length (arrivals_in so_far) ≤ 2 ^ 49 →
-    HasPlayed m i so_far n told passed gone lines → (counts_so_far told gone).relayed + (counts_so_far told gone).ignored < 2 ^ 64
-arrivals-low m i so_far n told passed gone lines law low p =
+pub arrivals-low : (m : Mode) (i : Input) (so_far : List Segment) (n : Network) (t : Told) → RunsAreFew → length (arrivals_in so_far) ≤ 2 ^ 49 →
+    HasTold m i so_far n t → (counts_so_far t.events t.left).relayed + (counts_so_far t.events t.left).ignored < 2 ^ 64
+arrivals-low m i so_far n t law low p =
     let few = law m i so_far p.done p.plays in
     let events = p.told in
     let relayed = ap (λ (es : List Event). (count_events nothing_counted es).relayed) events in
@@ -94,13 +94,13 @@ arrivals-low m i so_far n told passed gone lines law low p =
     let entered = few.entered in
     omega (arith, relayed, ignored, entered, low)
 
--- so do those of a tally, one segment more
-pub tally-fits : (m : Mode) (i : Input) (so_far : List Segment) (n : Network) (told more : List Event) (passed : List Bool) (gone : List Leaving) (xs : List Left) (lines : List TraceLine) (c : Counts) → RunsAreFew → CanFollow i so_far →
-    HasPlayed m i so_far n (told ++ more) passed (gone ++ all_left xs) lines → c ≡ counts_so_far told gone → FitsTally (with_left (length (all_left xs)) (count_events c more))
-tally-fits m i so_far n told more passed gone xs lines c law follows p is =
-    let whole : with_left (length (all_left xs)) (count_events c more) ≡ counts_so_far (told ++ more) (gone ++ all_left xs) =
-    ap (λ (b : Counts). with_left (length (all_left xs)) (count_events b more)) is ∙ counts-more told more gone xs in
-    subst FitsTally (sym whole) (counts-fit m i so_far n (told ++ more) passed (gone ++ all_left xs) lines law follows p)
+-- so do those of a tally, with what stands in a log behind it
+pub tally-fits : (m : Mode) (i : Input) (so_far : List Segment) (n : Network) (t : Told) (log : Log) (c : Counts) → RunsAreFew → CanFollow i so_far → HasTold m i so_far n (t with log) →
+    c ≡ counts_so_far t.events t.left → FitsTally (with_left (length (all_left log.left)) (count_events c log.events))
+tally-fits m i so_far n t log c law follows p is =
+    let whole : with_left (length (all_left log.left)) (count_events c log.events) ≡ counts_so_far (t.events ++ log.events) (t.left ++ all_left log.left) =
+    ap (λ (b : Counts). with_left (length (all_left log.left)) (count_events b log.events)) is ∙ counts-more t.events log.events t.left log.left in
+    subst FitsTally (sym whole) (counts-fit m i so_far n (t with log) law follows p)
 
 -- ---- what leaves can be written
 all-right : (P : Leaving → Type 0) (xs ys : List Leaving) → All P (xs ++ ys) → All P ys
@@ -123,14 +123,14 @@ kept-at [] k a low is all = absurd (omega (arith, low))
 kept-at (b ∷ came) zero a low is all = let same = ap (λ (x : Arrival). x.moment) is in let own = all.0 in omega (arith, same, own)
 kept-at (b ∷ came) (suc k) a low is all = kept-at came k a (omega (arith, low)) is all.1
 
-pub frames-fit : (m : Mode) (i : Input) (manifest : Listed) (so_far : List Segment) (n : Network) (told : List Event) (passed : List Bool) (gone : List Leaving) (xs : List Left) (lines : List TraceLine) → RunsAreUnderWay → manifest.tree ≡ tree_of i →
-    IsTree manifest.tree → CanBeKept so_far → HasPlayed m i so_far n told passed (gone ++ all_left xs) lines → All (λ (x : Left). CanBeWritten manifest x) xs
-frames-fit m i manifest so_far n told passed gone xs lines law tree is_tree kept p k d low j e within =
+pub frames-fit : (m : Mode) (i : Input) (manifest : Listed) (so_far : List Segment) (n : Network) (t : Told) (log : Log) → RunsAreUnderWay → manifest.tree ≡ tree_of i → IsTree manifest.tree → CanBeKept so_far →
+    HasTold m i so_far n (t with log) → All (λ (x : Left). CanBeWritten manifest x) log.left
+frames-fit m i manifest so_far n t log law tree is_tree kept p k d low j e within =
     let P : List Leaving → Type 0 = All (λ (x : Leaving). IsCopyOfAny i (arrivals_in so_far) x) in
     let all = subst P (sym p.gone) (law m i so_far p.done p.plays).copies in
-    let copy = all-mapped (λ (x : Leaving). IsCopyOfAny i (arrivals_in so_far) x) xs (all-right (λ (x : Leaving). IsCopyOfAny i (arrivals_in so_far) x) gone (all_left xs) all) k d low j e within in
-    let port : ℕ = (get_or (copies_of (get_or xs k d)) j e).port in
-    let own : is_external manifest.tree port ≡ true = ap (λ (t : Shape). is_external t port) tree ∙ copy.port in
+    let copy = all-mapped (λ (x : Leaving). IsCopyOfAny i (arrivals_in so_far) x) log.left (all-right (λ (x : Leaving). IsCopyOfAny i (arrivals_in so_far) x) t.left (all_left log.left) all) k d low j e within in
+    let port : ℕ = (get_or (copies_of (get_or log.left k d)) j e).port in
+    let own : is_external manifest.tree port ≡ true = ap (λ (s : Shape). is_external s port) tree ∙ copy.port in
     record {
       port = own;
       low = external_low manifest.tree port is_tree own;

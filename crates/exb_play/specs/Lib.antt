@@ -1,4 +1,7 @@
+pub mod Disks
+pub mod Faults
 pub mod Playing
+pub mod Here
 pub mod UnderWay
 pub mod Shelving
 pub mod Outputs

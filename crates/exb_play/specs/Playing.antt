@@ -1,5 +1,5 @@
 -- A run under way: what was told and has left so far, what is written and counted of it, and what is still to come.
-use Rattle.std.specs.Prelude.{[], ◌≡◌, ◌≤◌, ◌<◌, ◌+◌, ◌*◌, ◌^◌, ℕ, Bool, List, ◌++◌, length, sum_by, All, AllPairs}
+use Rattle.std.specs.Prelude.{[], None, ◌≡◌, ◌≤◌, ◌<◌, ◌+◌, ◌*◌, ◌^◌, ℕ, Bool, List, ◌++◌, length, sum_by, All, AllPairs}
 use Rattle.std.specs.List.{AllByRecursion}
 use Rattle.exb_model.specs.declared.event.Event.{Event}
 use Rattle.exb_model.specs.declared.setup.Timed.{Timed}
@@ -9,6 +9,8 @@ use Rattle.exb_model.specs.Setup.{NamesExternal}
 use Rattle.exb_model.specs.Traces.{TraceLine}
 use Rattle.exb_model.specs.Tree.{Shape}
 use Rattle.exb_machine.specs.Worlds.{Left, left_at}
+use Rattle.exb_boxes.specs.declared.log.Log.{Log}
+use Rattle.exb_bridge.specs.Worlds.{all_left}
 use Rattle.exb_network.specs.Networks.{Network, IsQuiet}
 use Rattle.exb_motion.specs.Runs.Playing.{arrivals_in}
 use Rattle.exb_schedule.specs.Playing.{HasPlayed as IsPlayedBy}
@@ -17,6 +19,7 @@ use Rattle.exb_legal.specs.Spelled.{HasBytes}
 use Rattle.exb_legal.specs.TextLaws.{IsOfNumbers}
 use Rattle.exb_writers.specs.declared.counted.Counted.{Counted}
 use Rattle.exb_outputs.specs.declared.outputs.Outputs.{Outputs}
+use Rattle.exb_play.specs.Disks.{Disk}
 use Rattle.exb_play.specs.declared.script.Schedule.{Schedule}
 use Rattle.exb_play.specs.declared.script.Schedule.TheVariants as schedule
 use Rattle.exb_outputs.specs.Manifests.{Listed}
@@ -43,27 +46,58 @@ pub record Run : Type 0 where
   pub input : Input
   pub before : Files
 
--- The network has played these segments of the input, what is written and counted are those of what it told, whose numbers have 64 bits
--- and whose frames are bytes, and nothing is still to be written.
-pub record IsTold (tells : Type 0) (m : Mode) (r : Run) (manifest : Listed) (now : Files) (n : Network) (c : Counted) (o : Outputs) (so_far : List Segment) : Type 0 where
-  pub tree : manifest.tree ≡ tree_of r.input
-  pub told : List Event
+abbrev pub no_run : Run
+no_run = record { input = record { setup = record { ports = 0; extenders = []; channels = 0; groups = 0; ageing = 0; start = [] }; commands = []; records = λ q. [] }; before = λ name. None }
+
+-- What a world told, as one value: its events, whether each relayed frame passed, what has left, and the lines of its trace.
+pub record Told : Type 0 where
+  pub events : List Event
   pub passed : List Bool
-  pub gone : List Left
+  pub left : List Left
   pub lines : List TraceLine
-  pub played : IsPlayedBy m r.input so_far n told passed gone lines
-  pub tracing : n.log.tracing ≡ manifest.options.trace
-  pub numbers : All IsOfNumbers told
-  pub bytes : All HasBytes lines
-  pub counted : IsCounted manifest c told passed gone
-  pub texts : tells → HasTexts manifest (pieces_of o) r.before now (text_so_far told gone lines [])
-  pub sent : HasSent manifest o (λ q. left_at q gone)
-  pub quiet : IsQuiet n
+
+abbrev pub untold : Told
+untold = record { events = []; passed = []; left = []; lines = [] }
+
+-- and what stands in a log behind it
+infixl 20 ◌with◌
+abbrev pub ◌with◌ : Told → Log → Told
+t with log = record { events = t.events ++ log.events; passed = t.passed ++ log.passed; left = t.left ++ all_left log.left; lines = t.lines ++ log.lines }
+
+-- the network has played these segments, by which it told this
+abbrev pub HasTold : Mode → Input → List Segment → Network → Told → Type 0
+HasTold m i so_far n t = IsPlayedBy m i so_far n t.events t.passed t.left t.lines
+
+-- A player: what is played and how, the world, what is counted and written of it, and the disk.
+pub record Player : Type 0 where
+  pub mode : Mode
+  pub manifest : Listed
+  pub world : Network
+  pub counted : Counted
+  pub outputs : Outputs
+  pub disk : Disk
+
+abbrev pub player : Schedule → Listed → Network → Counted → Outputs → Disk → Player
+player schedule manifest n c o d = record { mode = mode_of schedule; manifest = manifest; world = n; counted = c; outputs = o; disk = d }
+
+-- Its network has played these segments of the input, what is written and counted are those of what it told, whose numbers have 64 bits
+-- and whose frames are bytes, and nothing is still to be written.
+pub record IsTold (tells : Type 0) (r : Run) (p : Player) (so_far : List Segment) : Type 0 where
+  pub tree : p.manifest.tree ≡ tree_of r.input
+  pub told : Told
+  pub played : HasTold p.mode r.input so_far p.world told
+  pub tracing : p.world.log.tracing ≡ p.manifest.options.trace
+  pub numbers : All IsOfNumbers told.events
+  pub bytes : All HasBytes told.lines
+  pub counted : IsCounted p.manifest p.counted told.events told.passed told.left
+  pub texts : tells → HasTexts p.manifest (pieces_of p.outputs) r.before p.disk.files (text_so_far told.events told.left told.lines [])
+  pub sent : HasSent p.manifest p.outputs (λ q. left_at q told.left)
+  pub quiet : IsQuiet p.world
 
 -- All segments were played, and the bytes of each capture are few enough that all are counted.
-pub record IsAllTold (tells : Type 0) (m : Mode) (r : Run) (manifest : Listed) (now : Files) (n : Network) (c : Counted) (o : Outputs) : Type 0 where
-  pub is : IsTold tells m r manifest now n c o (segments m r.input)
-  pub room : (q : ℕ) → capture_size (left_at q is.gone) < 2 ^ 64
+pub record IsAllTold (tells : Type 0) (r : Run) (p : Player) : Type 0 where
+  pub is : IsTold tells r p (segments p.mode r.input)
+  pub room : (q : ℕ) → capture_size (left_at q is.told.left) < 2 ^ 64
 
 -- The run ended early, after some of its segments: each output is as it was, or holds a front of its text over what these told.
 pub record IsCutOff (m : Mode) (r : Run) (manifest : Listed) (now : Files) : Type 0 where
@@ -72,14 +106,11 @@ pub record IsCutOff (m : Mode) (r : Run) (manifest : Listed) (now : Files) : Typ
   pub rest : List Segment
   pub segments_are : segments m r.input ≡ so_far ++ rest
   pub network : Network
-  pub told : List Event
-  pub passed : List Bool
-  pub gone : List Left
-  pub lines : List TraceLine
+  pub told : Told
   pub counts : List ℕ
-  pub played : IsPlayedBy m r.input so_far network told passed gone lines
+  pub played : HasTold m r.input so_far network told
   pub tracing : network.log.tracing ≡ manifest.options.trace
-  pub cut : AreCut manifest r.before now (text_so_far told gone lines counts)
+  pub cut : AreCut manifest r.before now (text_so_far told.events told.left told.lines counts)
 
 -- ---- what comes
 -- the arrivals of some segments can be written in a capture

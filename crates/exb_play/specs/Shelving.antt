@@ -1,17 +1,11 @@
 -- What calls that play say of the shelf: what has changed, and what was opened.
 use Rattle.std.specs.Prelude.{◌⊎◌, ℕ, List}
-use Rattle.exb_merge.specs.Replays.{ReadsOn}
 use Rattle.exb_shelf.specs.Files.{Files}
 use Rattle.exb_shelf.specs.Shelf.{Id, Opens}
 use Rattle.exb_outputs.specs.Manifests.{Listed, OnlyListed}
 use Rattle.exb_outputs.specs.Shelving.{WritesListed}
 use Rattle.exb_tables.specs.declared.rows.Named.{Named}
 use Rattle.exb_inputs.specs.Shelving.{ReadsCapture}
-
--- the same, where through these ids was read
-pub record OnlyGoesOn (tells : Type 0) (manifest : Listed) (mine : List ℕ) (old new : Files) (given ids : ℕ → Id) : Type 0 where
-  pub others : tells → OnlyListed manifest old new
-  pub reads : ReadsOn mine given ids
 
 -- an id to read the capture of a port that is named, or to write an output of a manifest
 abbrev pub IsOfRun : List Named → Listed → Id → Type 0

@@ -1,34 +1,53 @@
 -- A run under way that reads its captures again: what holds whatever these give, and what holds where the files are told.
-use Rattle.std.specs.Prelude.{[], ◌≡◌, ◌≤◌, ◌<◌, ◌+◌, ◌*◌, ◌^◌, ◌==◌, true, false, ℕ, List, ◌∷◌, ◌++◌, Option, Some, None, length, map, filter, filter_map, flat_map, sum_by, All}
+use Rattle.std.specs.Prelude.{[], ◌≡◌, ◌≤◌, ◌<◌, ◌+◌, ◌*◌, ◌^◌, ◌==◌, true, false, ℕ, List, ◌∷◌, ◌++◌, Option, Some, None, Result, Ok, Err, length, map, filter, filter_map, flat_map, sum_by, All, fold, OnOk, OnErr}
 use Rattle.std.specs.List.{AllByRecursion}
 use Rattle.exb_model.specs.declared.setup.Setup.{Setup}
 use Rattle.exb_model.specs.declared.setup.Timed.{Timed}
 use Rattle.exb_model.specs.History.{command_of}
-use Rattle.exb_model.specs.Input.{Input, Segment, Mode, Eager, Seeded, arrival_in, basis_of, tree_of, given_by, moment_of, second_of, segments, segments_after, seconds_after}
+use Rattle.exb_model.specs.Input.{Input, Segment, Mode, Eager, Seeded, arrival_in, basis_of, tree_of, given_by, moment_of, second_of, segments, segments_after}
 use Rattle.exb_model.specs.Setup.{NamesExternal}
 use Rattle.exb_model.specs.Tree.{is_external}
 use Rattle.exb_merge.specs.Agendas.{begins_in, still_to_come}
 use Rattle.exb_merge.specs.declared.programme.Next.{Next}
 use Rattle.exb_merge.specs.declared.programme.Programme.{Programme}
-use Rattle.exb_merge.specs.Programmes.{IsComing, IsFrom, IsProgramme, IsTakenOf, played_with, what}
+use Rattle.exb_merge.specs.Programmes.{IsComing, IsFrom, IsProgramme, played_with, what}
 use Rattle.exb_merge.specs.Replays.{AreReplays, HasPort, ids_in, left_in, number_of, standings}
 use Rattle.exb_merge.specs.Streams.{Stream}
-use Rattle.exb_network.specs.Networks.{Network}
-use Rattle.exb_bridge.specs.Worlds.{all_left}
 use Rattle.exb_motion.specs.Playing.{IsTimely}
 use Rattle.exb_motion.specs.Runs.Playing.{arrivals_in}
 use Rattle.exb_model.specs.declared.arrival.Arrival.{Arrival}
-use Rattle.exb_schedule.specs.Playing.{CanAll, HasPlayed as IsPlayedBy, IsSegment, gives}
-use Rattle.exb_shelf.specs.Files.{Files}
-use Rattle.exb_shelf.specs.Shelf.{Id}
-use Rattle.exb_writers.specs.declared.counted.Counted.{Counted}
+use Rattle.exb_schedule.specs.Playing.{CanAll, IsSegment, gives}
+use Rattle.exb_shelf.specs.Counting.{after_write}
+use Rattle.exb_merge.specs.Counting.{CountsFault}
+use Rattle.exb_merge.specs.declared.replays.CaptureFault.{CaptureFault}
+use Rattle.exb_merge.specs.declared.replays.CaptureFault.TheVariants as capture_fault
+use Rattle.exb_play.specs.declared.fault.PlayFault.{PlayFault}
+use Rattle.exb_play.specs.declared.fault.PlayFault.TheVariants as play_fault
 use Rattle.exb_play.specs.declared.feed.Feed.{Feed}
 use Rattle.exb_outputs.specs.declared.outputs.Outputs.{Outputs}
 use Rattle.exb_outputs.specs.Manifests.{Listed}
-use Rattle.exb_play.specs.Playing.{CanBeKept, IsTold, Run}
-use Rattle.exb_writers.specs.Counts.{IsCounted}
-use Rattle.exb_outputs.specs.Sent.{HasSent}
-use Rattle.exb_outputs.specs.Writing.{HasTexts, first_text, pieces_of}
+use Rattle.exb_inputs.specs.Inputs.{input_from}
+use Rattle.exb_tables.specs.declared.rows.Named.{Named}
+use Rattle.exb_boxes.specs.declared.log.Left.{Left}
+use Rattle.exb_boxes.specs.declared.log.Log.{Log}
+use Rattle.exb_model.specs.declared.event.Event.{Event}
+use Rattle.exb_model.specs.Traces.{TraceLine}
+use Rattle.exb_bridge.specs.Worlds.{all_left}
+use Rattle.exb_model.specs.FlatBridge.{Sent}
+use Rattle.exb_model.specs.Texts.{counted, with_left}
+use Rattle.exb_network.specs.Networks.{Network, IsQuiet, IsSame, world_of}
+use Rattle.exb_shelf.specs.Files.{Files}
+use Rattle.exb_shelf.specs.declared.shelf.ShelfFault.{ShelfFault}
+use Rattle.exb_text.specs.Tallies.{counts_of}
+use Rattle.exb_text.specs.declared.output.Output.{Output}
+use Rattle.exb_writers.specs.Leaving.{sent_with}
+use Rattle.exb_writers.specs.Telling.{with_told}
+use Rattle.exb_writers.specs.declared.counted.Counted.{Counted}
+use Rattle.exb_play.specs.Disks.{Disk, Plays, Reads, Touches}
+use Rattle.exb_play.specs.Playing.{CanBeKept, IsCutOff, HasTold, IsAllTold, IsTold, Player, Run, untold, ◌with◌}
+use Rattle.exb_writers.specs.Counts.{AreCountsOf, CountsOn, IsCounted}
+use Rattle.exb_outputs.specs.Sent.{AreCountedAt, HasSent}
+use Rattle.exb_outputs.specs.Writing.{AreCut, HasTexts, IsReady, first_text, pieces_of}
 use Rattle.exb_outputs.specs.Apart.{AreApart}
 
 -- ---- whatever the captures give
@@ -68,48 +87,61 @@ pub record CanFollow (i : Input) (so_far : List Segment) : Type 0 where
   pub few_commands : commands_played i so_far ≤ 65536
 
 -- ---- where the files are told
+-- on this disk these are the streams of a programme's captures
+abbrev pub HasStreams : Disk → Programme → List Stream → Type 0
+HasStreams d p streams = AreReplays d.files d.ids p.captures.sources.items streams
+
 -- The files of the captures are those that were checked, and what is still to come of them leads from these segments to all of the input.
-pub record LeadsOn (m : Mode) (i : Input) (so_far : List Segment) (last : Option ℕ) (file : Files) (ids : ℕ → Id) (p : Programme) : Type 0 where
+pub record LeadsOn (m : Mode) (i : Input) (so_far : List Segment) (last : Option ℕ) (d : Disk) (p : Programme) : Type 0 where
   pub streams : List Stream
-  pub replays : AreReplays file ids p.captures.sources.items streams
+  pub replays : HasStreams d p streams
   pub rest : segments m i ≡ so_far ++ segments_after m last (still_to_come (played_with streams p))
 
--- The run stands after some segments, and the programme goes on; where the files are told, it leads to all of the input.
-pub record IsPlaying (tells : Type 0) (m : Mode) (r : Run) (manifest : Listed) (now : Files) (ids : ℕ → Id) (n : Network) (c : Counted) (o : Outputs) (last : Option ℕ) (p : Programme) : Type 0 where
+-- A run stands after some segments, the last of which was of this second, and a programme goes on: its captures can be read and its outputs
+-- be written; where the files are told, it leads to all of the input.
+pub record Stands (tells : Type 0) (r : Run) (p : Player) (last : Option ℕ) (q : Programme) : Type 0 where
   pub so_far : List Segment
-  pub is : IsTold tells m r manifest now n c o so_far
-  pub next : IsGoingOn r.input so_far last p
-  pub apart : AreApart manifest ids (ids_in p.captures)
-  pub leads : tells → LeadsOn m r.input so_far last now ids p
+  pub is : IsTold tells r p so_far
+  pub next : IsGoingOn r.input so_far last q
+  pub ready : IsReady p.manifest p.disk.ids p.outputs
+  pub programme : IsProgramme p.disk.ids q
+  pub apart : AreApart p.manifest p.disk.ids (ids_in q.captures)
+  pub leads : tells → LeadsOn p.mode r.input so_far last p.disk q
+
+-- A run of this setup, these commands and, where the files are told, the captures in these.
+pub record IsRunOf (tells : Type 0) (r : Run) (setup : Setup) (commands : List Timed) (names : List Named) (file : Files) : Type 0 where
+  pub setup_is : r.input.setup ≡ setup
+  pub given : r.input.commands ≡ map given_by commands
+  pub is : tells → r.input ≡ input_from setup commands names file
+
+abbrev pub run_of : Setup → List Timed → List Named → Files → Run
+run_of setup commands names file = record { input = input_from setup commands names file; before = file }
 
 -- Before anything was played: the outputs were made and hold nothing but their first texts, the seconds of the commands don't fall, and the
 -- programme has all of an input.
-pub record CanBegin (tells : Type 0) (m : Mode) (r : Run) (s : Setup) (manifest : Listed) (now : Files) (ids : ℕ → Id) (o : Outputs) (p : Programme) : Type 0 where
+pub record CanBegin (tells : Type 0) (m : Mode) (r : Run) (s : Setup) (manifest : Listed) (d : Disk) (o : Outputs) (q : Programme) : Type 0 where
   pub setup : r.input.setup ≡ s
-  pub texts : tells → HasTexts manifest (pieces_of o) r.before now first_text
+  pub texts : tells → HasTexts manifest (pieces_of o) r.before d.files first_text
   pub sent : HasSent manifest o (λ q. [])
   pub timely : IsTimely r.input
-  pub next : IsGoingOn r.input [] None p
-  pub apart : AreApart manifest ids (ids_in p.captures)
-  pub leads : tells → LeadsOn m r.input [] None now ids p
+  pub next : IsGoingOn r.input [] None q
+  pub ready : IsReady manifest d.ids o
+  pub programme : IsProgramme d.ids q
+  pub apart : AreApart manifest d.ids (ids_in q.captures)
+  pub leads : tells → LeadsOn m r.input [] None d q
 
 -- The world is opened, and nothing of it is written or counted yet; the programme has all of an input.
-pub record IsOpened (tells : Type 0) (m : Mode) (r : Run) (manifest : Listed) (now : Files) (ids : ℕ → Id) (n : Network) (c : Counted) (o : Outputs) (p : Programme) : Type 0 where
-  pub tree : manifest.tree ≡ tree_of r.input
-  pub played : IsPlayedBy m r.input [] n n.log.events n.log.passed (all_left n.log.left) n.log.lines
-  pub tracing : n.log.tracing ≡ manifest.options.trace
-  pub counted : IsCounted manifest c [] [] []
-  pub texts : tells → HasTexts manifest (pieces_of o) r.before now first_text
-  pub sent : HasSent manifest o (λ q. [])
-  pub timely : IsTimely r.input
-  pub next : IsGoingOn r.input [] None p
-  pub apart : AreApart manifest ids (ids_in p.captures)
-  pub leads : tells → LeadsOn m r.input [] None now ids p
+pub record IsOpened (tells : Type 0) (r : Run) (p : Player) (q : Programme) : Type 0 where
+  pub tree : p.manifest.tree ≡ tree_of r.input
+  pub played : HasTold p.mode r.input [] p.world (untold with p.world.log)
+  pub tracing : p.world.log.tracing ≡ p.manifest.options.trace
+  pub counted : IsCounted p.manifest p.counted [] [] []
+  pub begins : CanBegin tells p.mode r r.input.setup p.manifest p.disk p.outputs q
 
 -- ---- one segment more
 -- a programme that can go on
-pub record CanFeed (ids : ℕ → Id) (f : Feed) : Type 0 where
-  pub programme : IsProgramme ids f.programme
+pub record CanFeed (d : Disk) (f : Feed) : Type 0 where
+  pub programme : IsProgramme d.ids f.programme
 
 -- the second of what comes
 abbrev pub second_by : Next → ℕ
@@ -121,70 +153,161 @@ ComeAll old [] new = old ≡ new
 ComeAll old (d ∷ ds) new = (next : Programme) × IsComing old d next × ComeAll next ds new
 
 -- and where the files are told, they are what was still to come of them
-abbrev pub TakesAllOf : Files → Files → (ℕ → Id) → (ℕ → Id) → Programme → List Next → Programme → Type 0
-TakesAllOf file files given ids old ds new =
-    (streams : List Stream) → AreReplays file given old.captures.sources.items streams
-    → (rest : List Stream) × (still_to_come (played_with streams old) ≡ map what ds ++ still_to_come (played_with rest new)) × AreReplays files ids new.captures.sources.items rest
-
--- One of these came, and its arrival stands behind those that had come.
-pub record IsTaken (tells : Type 0) (file files : Files) (given ids : ℕ → Id) (old : Feed) (d : Next) (new : Feed) : Type 0 where
-  pub coming : IsComing old.programme d new.programme
-  pub takes : tells → IsTakenOf file files given ids old.programme d new.programme
-  pub arrivals_are : new.gathered.items ≡ old.gathered.items ++ filter_map arrival_in (what d ∷ [])
+abbrev pub TakesAllOf : Disk → Disk → Programme → List Next → Programme → Type 0
+TakesAllOf a b old ds new =
+    (streams : List Stream) → HasStreams a old streams
+    → (rest : List Stream) × (still_to_come (played_with streams old) ≡ map what ds ++ still_to_come (played_with rest new)) × HasStreams b new rest
 
 -- All of these came, and their arrivals stand behind those that had come.
-pub record HasTaken (tells : Type 0) (file files : Files) (given ids : ℕ → Id) (old : Feed) (ds : List Next) (new : Feed) : Type 0 where
+pub record HasTaken (tells : Type 0) (a b : Disk) (old : Feed) (ds : List Next) (new : Feed) : Type 0 where
   pub comes : ComeAll old.programme ds new.programme
-  pub takes : tells → TakesAllOf file files given ids old.programme ds new.programme
+  pub takes : tells → TakesAllOf a b old.programme ds new.programme
   pub arrivals_are : new.gathered.items ≡ old.gathered.items ++ filter_map arrival_in (map what ds)
 
+-- One came, of this second.
+pub record IsTaken (tells : Type 0) (second : ℕ) (a b : Disk) (old new : Feed) : Type 0 where
+  pub d : Next
+  pub has : HasTaken tells a b old (d ∷ []) new
+  pub within : second_by d ≡ second
+
 -- all of one second was taken
-pub record HasTakenSecond (tells : Type 0) (second : ℕ) (file files : Files) (given ids : ℕ → Id) (old new : Feed) : Type 0 where
+pub record HasTakenSecond (tells : Type 0) (second : ℕ) (a b : Disk) (old new : Feed) : Type 0 where
   pub ds : List Next
-  pub has : HasTaken tells file files given ids old ds new
+  pub has : HasTaken tells a b old ds new
   pub within : AllByRecursion (λ d. second_by d ≡ second) ds
 
 -- where the files are told, nothing is left that is of this second
-abbrev pub NoMoreIn : ℕ → Files → (ℕ → Id) → Programme → Type 0
-NoMoreIn second file ids p = (streams : List Stream) → AreReplays file ids p.captures.sources.items streams → begins_in second (still_to_come (played_with streams p)) ≡ false
+abbrev pub NoMoreIn : ℕ → Disk → Programme → Type 0
+NoMoreIn second d p = (streams : List Stream) → HasStreams d p streams → begins_in second (still_to_come (played_with streams p)) ≡ false
 
 -- where the files are told, nothing is left
-abbrev pub NothingIsLeft : Files → (ℕ → Id) → Programme → Type 0
-NothingIsLeft file ids p = (streams : List Stream) → AreReplays file ids p.captures.sources.items streams → still_to_come (played_with streams p) ≡ []
+abbrev pub NothingIsLeft : Disk → Programme → Type 0
+NothingIsLeft d p = (streams : List Stream) → HasStreams d p streams → still_to_come (played_with streams p) ≡ []
 
 -- where the files are told they aren't those that were checked
-abbrev pub AreOthers : Files → (ℕ → Id) → Programme → Type 0
-AreOthers file ids p = (streams : List Stream) → AreReplays file ids p.captures.sources.items streams → ⊥
+abbrev pub AreOthers : Disk → Programme → Type 0
+AreOthers d p = (streams : List Stream) → HasStreams d p streams → ⊥
 
 -- One segment was gathered: what came first, in this second, alone in the eager mode, and in a seeded one all of the same second.
-pub record IsGathered (tells : Type 0) (m : Mode) (file files : Files) (given ids : ℕ → Id) (second : ℕ) (old : Programme) (new : Feed) : Type 0 where
+pub record IsGathered (tells : Type 0) (m : Mode) (a b : Disk) (second : ℕ) (old : Programme) (new : Feed) : Type 0 where
   pub first : Next
   pub more : List Next
   pub comes : ComeAll old (first ∷ more) new.programme
-  pub takes : tells → TakesAllOf file files given ids old (first ∷ more) new.programme
+  pub takes : tells → TakesAllOf a b old (first ∷ more) new.programme
   pub arrivals_are : new.gathered.items ≡ filter_map arrival_in (map what (first ∷ more))
   pub is_first : second_by first ≡ second
   pub alone : m ≡ Eager → more ≡ []
   pub within : AllByRecursion (λ d. second_by d ≡ second) more
-  pub whole : tells → m ≡ Seeded → NoMoreIn second files ids new.programme
+  pub whole : tells → m ≡ Seeded → NoMoreIn second b new.programme
 
--- A run stands after some segments, and this was gathered behind them: so many commands were taken before it, and so many seconds pass
--- before it.
-pub record CanGoOn (tells : Type 0) (m : Mode) (r : Run) (manifest : Listed) (now : Files) (ids : ℕ → Id) (n : Network) (c : Counted) (o : Outputs) (seconds from second : ℕ) (f : Feed) : Type 0 where
-  pub last : Option ℕ
-  pub old : Programme
-  pub given : ℕ → Id
-  pub playing : IsPlaying tells m r manifest now given n c o last old
-  pub got : IsGathered tells m now now given ids second old f
-  pub apart : AreApart manifest ids (ids_in f.programme.captures)
-  pub from_is : from ≡ old.taken
-  pub seconds_are : seconds ≡ seconds_after last second
+-- ---- how it ends
+-- Why captures couldn't be read on: one has changed only where it is one of them, and then this holds.
+abbrev pub IsWhy : Type 0 → Programme → CaptureFault → Type 0
+IsWhy others p (capture_fault.Changed q at) = HasPort q (standings p.captures) × others
+IsWhy others p _ = Unit {0}
 
--- the run stands after some segments, and these seconds, commands and arrivals make the next one, which can be played
-pub record CanBePlayed (tells : Type 0) (m : Mode) (r : Run) (manifest : Listed) (now : Files) (n : Network) (c : Counted) (o : Outputs) (seconds : ℕ) (cs : List Timed) (frames : List Arrival) : Type 0 where
+-- What calls say that read on from there, by their answer: why they couldn't, and what was counted.
+abbrev pub EndsReading : {X : Type 0} → Type 0 → Disk → Programme → Disk → Result X CaptureFault → Type 0
+EndsReading tells old p new (Ok x) = new.faults ≡ old.faults
+EndsReading tells old p new (Err fault) = IsWhy (tells → AreOthers old p) p fault × CountsFault fault old.faults new.faults
+
+pub record ReadsAgain {X : Type 0} (tells : Type 0) (old : Disk) (p : Programme) (new : Disk) (result : Result X CaptureFault) : Type 0 where
+  pub reads : Reads (ids_in p.captures) old new
+  pub ends : EndsReading tells old p new result
+
+-- and that write
+pub record WritesOn {X : Type 0} (tells : Type 0) (manifest : Listed) (old new : Disk) (result : Result X ShelfFault) : Type 0 where
+  pub plays : Plays tells manifest [] old new
+  pub counts : new.faults ≡ after_write result old.faults
+
+-- and that play, reading on from there and writing
+abbrev pub EndsPlaying : {X : Type 0} → Type 0 → Disk → Programme → Disk → Result X PlayFault → Type 0
+EndsPlaying tells old p new (Ok x) = new.faults ≡ old.faults
+EndsPlaying tells old p new (Err (play_fault.Reading fault)) = IsWhy (tells → ⊥) p fault × CountsFault fault old.faults new.faults
+EndsPlaying tells old p new (Err (play_fault.Writing fault)) = new.faults ≡ after_write {X = Unit {0}} (Err fault) old.faults
+
+pub record PlaysOn {X : Type 0} (tells : Type 0) (manifest : Listed) (old : Disk) (p : Programme) (new : Disk) (result : Result X PlayFault) : Type 0 where
+  pub plays : Plays tells manifest (ids_in p.captures) old new
+  pub ends : EndsPlaying tells old p new result
+
+-- What was told is written; or writing broke off, and each output holds a front of its text.
+pub record WritesTold {X : Type 0} (tells : Type 0) (manifest : Listed) (old new : Disk) (o p : Outputs) (events : List Event) (left : List Left) (lines : List TraceLine) (result : Result X ShelfFault) : Type 0 where
+  pub ready : IsReady manifest new.ids p
+  pub texts : tells → OnOk result ((orig : Files) (text : Output → List ℕ) → HasTexts manifest (pieces_of o) orig old.files text
+      → HasTexts manifest (pieces_of p) orig new.files (with_told text events left lines))
+  pub cut : tells → OnErr result ((orig : Files) (text : Output → List ℕ) → HasTexts manifest (pieces_of o) orig old.files text
+      → AreCut manifest orig new.files (with_told text events left lines))
+  pub sent : OnOk result ((sent : ℕ → List Sent) → HasSent manifest o sent → HasSent manifest p (sent_with sent left))
+  pub writes : WritesOn tells manifest old new result
+
+abbrev pub WritesLog : {X : Type 0} → Type 0 → Listed → Disk → Disk → Outputs → Outputs → Log → Result X ShelfFault → Type 0
+WritesLog tells manifest old new o p log result = WritesTold tells manifest old new o p log.events log.left log.lines result
+
+-- The same world, of which nothing is still to be written or counted.
+pub record IsCleared (old new : Network) : Type 0 where
+  pub world : world_of new ≡ world_of old
+  pub same : IsSame old new
+  pub quiet : IsQuiet new
+
+-- what it told is counted
+pub record CountsLog (old new : Counted) (log : Log) : Type 0 where
+  pub tally : counts_of new.tally ≡ with_left (length (all_left log.left)) (fold (λ c e. counted e c) (counts_of old.tally) log.events)
+  pub ports : CountsOn old.ports new.ports log.events log.passed
+
+-- Calls went on without a fault from one disk and programme to another, through the same ids and captures of the same ports. It goes from
+-- each to itself, and on from there.
+pub record HasGone (known : Type 0) (stays : List ℕ → Type 0) (a : Disk) (p : Programme) (b : Disk) (q : Programme) : Type 0 where
+  pub touches : Touches known stays (ids_in p.captures) a b
+  pub same : ids_in q.captures ≡ ids_in p.captures
+  pub ports : (k : ℕ) → HasPort k (standings q.captures) → HasPort k (standings p.captures)
+  pub counts : b.faults ≡ a.faults
+
+-- They read, and where the files are told they are still those that were checked.
+pub record HasRead (tells : Type 0) (a : Disk) (p : Programme) (b : Disk) (q : Programme) : Type 0 where
+  pub gone : HasGone (Unit {0}) (λ name. Unit {0}) a p b q
+  pub streams : tells → (xs : List Stream) → HasStreams a p xs → (ys : List Stream) × HasStreams b q ys
+
+-- ---- a segment more
+-- A player stands after some segments, and this was gathered behind them, from another disk: so many commands were taken before it.
+pub record CanGoOn (tells : Type 0) (r : Run) (p : Player) (last : Option ℕ) (second from : ℕ) (f : Feed) : Type 0 where
   pub so_far : List Segment
-  pub is : IsTold tells m r manifest now n c o so_far
+  pub old : Programme
+  pub given : Disk
+  pub is : IsTold tells r p so_far
+  pub next : IsGoingOn r.input so_far last old
+  pub leads : tells → LeadsOn p.mode r.input so_far last given old
+  pub got : IsGathered tells p.mode given p.disk second old f
+  pub ready : IsReady p.manifest p.disk.ids p.outputs
+  pub programme : IsProgramme p.disk.ids f.programme
+  pub apart : AreApart p.manifest p.disk.ids (ids_in f.programme.captures)
+  pub from_is : from ≡ old.taken
+
+-- a player stands after some segments, and these seconds, commands and arrivals make the next one, which can be played
+pub record CanBePlayed (tells : Type 0) (r : Run) (p : Player) (seconds : ℕ) (cs : List Timed) (frames : List Arrival) : Type 0 where
+  pub so_far : List Segment
+  pub is : IsTold tells r p so_far
+  pub ready : IsReady p.manifest p.disk.ids p.outputs
   pub next : Segment
   pub segment : IsSegment r.input next seconds cs frames
-  pub can : CanAll n (gives seconds cs frames)
+  pub can : CanAll p.world (gives seconds cs frames)
   pub follows : CanFollow r.input (so_far ++ next ∷ [])
+
+-- Whatever segments were played, one more was, of these seconds, commands and arrivals.
+pub record IsOneMore (tells : Type 0) (r : Run) (old new : Player) (seconds : ℕ) (cs : List Timed) (frames : List Arrival) : Type 0 where
+  pub ready : IsReady new.manifest new.disk.ids new.outputs
+  pub told : (so_far : List Segment) (s : Segment) → IsSegment r.input s seconds cs frames → IsTold tells r old so_far → IsTold tells r new (so_far ++ s ∷ [])
+
+-- or while it was, the run was cut off
+abbrev pub IsCutWithin : Type 0 → Run → Player → ℕ → List Timed → List Arrival → Files → Type 0
+IsCutWithin tells r old seconds cs frames now =
+    (so_far rest : List Segment) (s : Segment) → segments old.mode r.input ≡ so_far ++ s ∷ rest → IsSegment r.input s seconds cs frames → IsTold tells r old so_far
+    → IsCutOff old.mode r old.manifest now
+
+-- All was played: what is left to be written is ready and counted.
+pub record HasPlayedAll (tells : Type 0) (r : Run) (p : Player) : Type 0 where
+  pub ready : IsReady p.manifest p.disk.ids p.outputs
+  pub few : p.counted.tally.relayed + p.counted.tally.ignored < 2 ^ 64
+  pub counted : AreCountsOf p.manifest p.counted.ports
+  pub sent : AreCountedAt p.manifest p.outputs
+  pub told : tells → IsAllTold tells r p
+  pub kept : tells → CanBeKept (segments p.mode r.input)

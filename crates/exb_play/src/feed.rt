@@ -1,13 +1,8 @@
 //! What comes in one segment: one event, or all of one second.
-ghost use Rattle.std.specs.Prelude.{◌≡◌, ◌++◌, ◌∷◌, [], true, false, IfOk, OnOk, IfErr, IfSome, IfNone, IsErrOf, ℕ};
-ghost use Rattle.exb_model.specs.Input.{Eager};
-ghost use Rattle.exb_merge.specs.Counting.{CountsAgain};
-ghost use Rattle.exb_merge.specs.declared.programme.Next.{Next as Coming};
-ghost use Rattle.exb_merge.specs.Replays.{ids_in, HasPort, standings};
-ghost use Rattle.exb_shelf.specs.Shelf.{NoFewer};
+ghost use Rattle.std.specs.Prelude.{◌≡◌, ◌++◌, ◌∷◌, [], true, false, IfOk, OnOk, IfErr, IfSome, IfNone};
+ghost use Rattle.exb_play.specs.Disks.{disk};
 ghost use Rattle.exb_play.specs.Playing.{mode_of};
-ghost use Rattle.exb_inputs.specs.Shelving.{OnlyReads};
-ghost use Rattle.exb_play.specs.UnderWay.{AreOthers, CanFeed, HasTakenSecond, IsGathered, IsTaken, NoMoreIn, NothingIsLeft, second_by};
+ghost use Rattle.exb_play.specs.UnderWay.{CanFeed, HasTakenSecond, IsGathered, IsTaken, NoMoreIn, NothingIsLeft, ReadsAgain};
 
 use crate::script::Schedule;
 use exb_merge::{CaptureFault, Next, Programme};
@@ -82,15 +77,11 @@ impl Feed<'_> {
         shelf: &mut S,
         buffer: Vec<u8>,
     ) -> Result<Option<u64>, CaptureFault>
-        requires feed { CanFeed (S.ids shelf.old) self.old }
-        ensures feed { OnOk result (CanFeed (S.ids shelf.new) self.new) }
-        ensures taken { IfOk result (λ next. IfSome next (λ second. (d : Coming) × IsTaken S.tells (S.file shelf.old) (S.file shelf.new) (S.ids shelf.old) (S.ids shelf.new) self.old d self.new × (second_by d ≡ second))) }
-        ensures end { S.tells → IfOk result (λ next. IfNone next (NothingIsLeft (S.file shelf.old) (S.ids shelf.old) self.old.programme)) }
-        ensures never { S.tells → (p at : ℕ) → IsErrOf result (CaptureFault.Changed p at) → AreOthers (S.file shelf.old) (S.ids shelf.old) self.old.programme }
-        ensures reads { OnlyReads (ids_in self.old.programme.captures) (S.file shelf.old) (S.file shelf.new) (S.ids shelf.old) (S.ids shelf.new) }
-        ensures port { (p at : ℕ) → IsErrOf result (CaptureFault.Changed p at) → HasPort p (standings self.old.programme.captures) }
-        ensures counts { CountsAgain result (S.faults shelf.old) (S.faults shelf.new) }
-        ensures faults { NoFewer (S.faults shelf.old) (S.faults shelf.new) }
+        requires feed { CanFeed (disk S.Shelf shelf.old) self.old }
+        ensures feed { OnOk result (CanFeed (disk S.Shelf shelf.new) self.new) }
+        ensures taken { IfOk result (λ next. IfSome next (λ second. IsTaken S.tells second (disk S.Shelf shelf.old) (disk S.Shelf shelf.new) self.old self.new)) }
+        ensures end { S.tells → IfOk result (λ next. IfNone next (NothingIsLeft (disk S.Shelf shelf.old) self.old.programme)) }
+        ensures reads { ReadsAgain S.tells (disk S.Shelf shelf.old) self.old.programme (disk S.Shelf shelf.new) result }
     {
         match self.programme.next(shelf, buffer)? {
             Some(Next::Record(came)) => {
@@ -110,16 +101,12 @@ impl Feed<'_> {
         shelf: &mut S,
         second: u64,
     ) -> Result<bool, CaptureFault>
-        requires feed { CanFeed (S.ids shelf.old) self.old }
-        ensures feed { OnOk result (CanFeed (S.ids shelf.new) self.new) }
-        ensures taken { IfOk result (λ came. came ≡ true → (d : Coming) × IsTaken S.tells (S.file shelf.old) (S.file shelf.new) (S.ids shelf.old) (S.ids shelf.new) self.old d self.new × (second_by d ≡ second)) }
+        requires feed { CanFeed (disk S.Shelf shelf.old) self.old }
+        ensures feed { OnOk result (CanFeed (disk S.Shelf shelf.new) self.new) }
+        ensures taken { IfOk result (λ came. came ≡ true → IsTaken S.tells second (disk S.Shelf shelf.old) (disk S.Shelf shelf.new) self.old self.new) }
         ensures same { IfOk result (λ came. came ≡ false → (self.new.programme ≡ self.old.programme) × (self.new.gathered.items ≡ self.old.gathered.items)) }
-        ensures end { S.tells → IfOk result (λ came. came ≡ false → NoMoreIn second (S.file shelf.new) (S.ids shelf.new) self.new.programme) }
-        ensures never { S.tells → (p at : ℕ) → IsErrOf result (CaptureFault.Changed p at) → AreOthers (S.file shelf.old) (S.ids shelf.old) self.old.programme }
-        ensures reads { OnlyReads (ids_in self.old.programme.captures) (S.file shelf.old) (S.file shelf.new) (S.ids shelf.old) (S.ids shelf.new) }
-        ensures port { (p at : ℕ) → IsErrOf result (CaptureFault.Changed p at) → HasPort p (standings self.old.programme.captures) }
-        ensures counts { CountsAgain result (S.faults shelf.old) (S.faults shelf.new) }
-        ensures faults { NoFewer (S.faults shelf.old) (S.faults shelf.new) }
+        ensures end { S.tells → IfOk result (λ came. came ≡ false → NoMoreIn second (disk S.Shelf shelf.new) self.new.programme) }
+        ensures reads { ReadsAgain S.tells (disk S.Shelf shelf.old) self.old.programme (disk S.Shelf shelf.new) result }
     {
         let buffer = spare(alloc, &mut self.played);
         match self.programme.next_within(shelf, buffer, second)? {
@@ -141,15 +128,11 @@ impl Feed<'_> {
         shelf: &mut S,
         second: u64,
     ) -> Result<(), CaptureFault>
-        requires feed { CanFeed (S.ids shelf.old) self.old }
-        ensures feed { OnOk result (CanFeed (S.ids shelf.new) self.new) }
-        ensures taken { OnOk result (HasTakenSecond S.tells second (S.file shelf.old) (S.file shelf.new) (S.ids shelf.old) (S.ids shelf.new) self.old self.new) }
-        ensures end { S.tells → OnOk result (NoMoreIn second (S.file shelf.new) (S.ids shelf.new) self.new.programme) }
-        ensures never { S.tells → (p at : ℕ) → IsErrOf result (CaptureFault.Changed p at) → AreOthers (S.file shelf.old) (S.ids shelf.old) self.old.programme }
-        ensures reads { OnlyReads (ids_in self.old.programme.captures) (S.file shelf.old) (S.file shelf.new) (S.ids shelf.old) (S.ids shelf.new) }
-        ensures port { (p at : ℕ) → IsErrOf result (CaptureFault.Changed p at) → HasPort p (standings self.old.programme.captures) }
-        ensures counts { CountsAgain result (S.faults shelf.old) (S.faults shelf.new) }
-        ensures faults { NoFewer (S.faults shelf.old) (S.faults shelf.new) }
+        requires feed { CanFeed (disk S.Shelf shelf.old) self.old }
+        ensures feed { OnOk result (CanFeed (disk S.Shelf shelf.new) self.new) }
+        ensures taken { OnOk result (HasTakenSecond S.tells second (disk S.Shelf shelf.old) (disk S.Shelf shelf.new) self.old self.new) }
+        ensures end { S.tells → OnOk result (NoMoreIn second (disk S.Shelf shelf.new) self.new.programme) }
+        ensures reads { ReadsAgain S.tells (disk S.Shelf shelf.old) self.old.programme (disk S.Shelf shelf.new) result }
     {
         'second: while self.take_within(alloc, shelf, second)? {}
         Ok(())
@@ -163,15 +146,11 @@ impl Feed<'_> {
         shelf: &mut S,
         schedule: Schedule,
     ) -> Result<Option<u64>, CaptureFault>
-        requires feed { CanFeed (S.ids shelf.old) self.old }
-        ensures feed { OnOk result (CanFeed (S.ids shelf.new) self.new) }
-        ensures gathered { IfOk result (λ next. IfSome next (λ second. IsGathered S.tells (mode_of schedule) (S.file shelf.old) (S.file shelf.new) (S.ids shelf.old) (S.ids shelf.new) second self.old.programme self.new)) }
-        ensures end { S.tells → IfOk result (λ next. IfNone next (NothingIsLeft (S.file shelf.old) (S.ids shelf.old) self.old.programme)) }
-        ensures never { S.tells → (p at : ℕ) → IsErrOf result (CaptureFault.Changed p at) → AreOthers (S.file shelf.old) (S.ids shelf.old) self.old.programme }
-        ensures reads { OnlyReads (ids_in self.old.programme.captures) (S.file shelf.old) (S.file shelf.new) (S.ids shelf.old) (S.ids shelf.new) }
-        ensures port { (p at : ℕ) → IsErrOf result (CaptureFault.Changed p at) → HasPort p (standings self.old.programme.captures) }
-        ensures counts { CountsAgain result (S.faults shelf.old) (S.faults shelf.new) }
-        ensures faults { NoFewer (S.faults shelf.old) (S.faults shelf.new) }
+        requires feed { CanFeed (disk S.Shelf shelf.old) self.old }
+        ensures feed { OnOk result (CanFeed (disk S.Shelf shelf.new) self.new) }
+        ensures gathered { IfOk result (λ next. IfSome next (λ second. IsGathered S.tells (mode_of schedule) (disk S.Shelf shelf.old) (disk S.Shelf shelf.new) second self.old.programme self.new)) }
+        ensures end { S.tells → IfOk result (λ next. IfNone next (NothingIsLeft (disk S.Shelf shelf.old) self.old.programme)) }
+        ensures reads { ReadsAgain S.tells (disk S.Shelf shelf.old) self.old.programme (disk S.Shelf shelf.new) result }
     {
         let buffer = begin(alloc, schedule, &mut self.gathered, &mut self.played);
         let Some(second) = self.take_first(shelf, buffer)? else {

@@ -1,43 +1,37 @@
 //! A run under way: the world, what is written of it, and what is counted.
-ghost use Rattle.std.specs.Prelude.{◌≡◌, ◌≤◌, ◌<◌, ◌+◌, ◌^◌, ◌++◌, ◌∷◌, [], ℕ, Bool, List, length, drop, All, fold, IfOk, OnOk, OnErr, IfErr, None, Some, string_bytes};
-ghost use Rattle.exb_model.specs.declared.event.Event.{Event};
-ghost use Rattle.exb_model.specs.Input.{Input, Eager, Segment, segments, seconds_after};
-ghost use Rattle.exb_model.specs.FlatBridge.{Sent};
+ghost use Rattle.std.specs.Prelude.{◌≡◌, ◌≤◌, ◌<◌, ◌+◌, ◌^◌, ◌++◌, ◌∷◌, [], ℕ, List, length, drop, All, IfOk, OnOk, OnErr, None, Some, string_bytes};
+ghost use Rattle.exb_model.specs.Input.{Input, Eager, Segment, seconds_after};
 ghost use Rattle.exb_model.specs.Setup.{IsValid, shape_of};
-ghost use Rattle.exb_model.specs.Texts.{counted, with_left, summary_line};
-ghost use Rattle.exb_model.specs.Traces.{TraceLine};
+ghost use Rattle.exb_model.specs.Texts.{summary_line};
 ghost use Rattle.exb_legal.specs.Spelled.{HasBytes};
 ghost use Rattle.exb_legal.specs.TextLaws.{IsOfNumbers};
-ghost use Rattle.exb_machine.specs.Worlds.{Left as Leaving};
-ghost use Rattle.exb_merge.specs.Replays.{ids_in, HasPort, standings};
 ghost use Rattle.exb_motion.specs.Playing.{IsTimely};
-ghost use Rattle.exb_network.specs.Networks.{world_of, IsQuiet, IsSame};
+ghost use Rattle.exb_network.specs.Networks.{IsSame};
 ghost use Rattle.exb_bridge.specs.Worlds.{all_left};
-ghost use Rattle.exb_schedule.specs.Playing.{CanAll, HasPlayed as IsPlayedBy, IsSegment, gives, letters_in};
+ghost use Rattle.exb_schedule.specs.Playing.{CanAll, IsSegment, gives, letters_in};
 ghost use Rattle.exb_shelf.specs.Files.{Files, Filled};
 ghost use Rattle.exb_text.specs.declared.output.Output.{Output};
 ghost use Rattle.exb_text.specs.Tallies.{counts_of};
 ghost use Rattle.exb_outputs.specs.Manifests.{kind_at, output_count, output_name};
-ghost use Rattle.exb_writers.specs.Counts.{AreCountsOf, CanCount, CountsOn, IsSummary};
-ghost use Rattle.exb_play.specs.Playing.{CanBeKept, Run, IsAllTold, IsCutOff, IsTold, mode_of};
-ghost use Rattle.exb_play.specs.UnderWay.{CanBegin, CanBePlayed, CanFeed, CanGoOn, IsOpened, IsPlaying};
-ghost use Rattle.exb_play.specs.Parts.{AreCutSoFar};
-ghost use Rattle.exb_writers.specs.Texts.{AreCutEagerly};
-ghost use Rattle.exb_play.specs.Outputs.{HasPlayed};
-ghost use Rattle.exb_inputs.specs.Shelving.{CountsFaults};
-ghost use Rattle.exb_inputs.specs.Reading.{IsChange, IsOfPlay};
-ghost use Rattle.exb_play.specs.Shelving.{OnlyGoesOn};
-ghost use Rattle.exb_outputs.specs.Shelving.{CountsWrites, IsOfWriting, OnlyWrites};
-ghost use Rattle.exb_outputs.specs.Sent.{AreCountedAt, HasSent};
+ghost use Rattle.exb_outputs.specs.Sent.{AreCountedAt};
 ghost use Rattle.exb_outputs.specs.Writing.{AreCut, HasTexts, IsReady, pieces_of};
-ghost use Rattle.exb_writers.specs.Leaving.{sent_with, CanBeWritten};
-ghost use Rattle.exb_writers.specs.Telling.{with_end, with_told};
+ghost use Rattle.exb_writers.specs.Counts.{AreCountsOf, CanCount, IsSummary};
+ghost use Rattle.exb_writers.specs.Leaving.{CanBeWritten};
+ghost use Rattle.exb_writers.specs.Telling.{with_end};
+ghost use Rattle.exb_writers.specs.Texts.{AreCutEagerly};
+ghost use Rattle.exb_play.specs.Disks.{disk};
+ghost use Rattle.exb_play.specs.Here.{here};
+ghost use Rattle.exb_play.specs.Playing.{HasTold, IsCutOff, Told, mode_of, player, ◌with◌};
+ghost use Rattle.exb_play.specs.UnderWay.{CanBegin, CanBePlayed, CanGoOn, CountsLog, HasPlayedAll, IsCleared, IsCutWithin, IsOneMore, IsOpened, PlaysOn, Stands, WritesLog, WritesOn};
+ghost use Rattle.exb_play.specs.Parts.{AreCutSoFar};
+ghost use Rattle.exb_play.specs.Outputs.{HasPlayed};
 
+use crate::fault::PlayFault;
 use crate::feed::Feed;
+use crate::run::OfRun;
 use crate::script::{Schedule, Script};
 use exb_audit::facts::{events_numbers, lines_bytes};
 use exb_fate::Fate;
-use exb_inputs::Fault;
 use exb_machine::laws::steps_tell_passed;
 use exb_model::arrival::Arrival;
 use exb_model::setup::Timed;
@@ -86,16 +80,7 @@ fn write_all<S: Shelf>(
 ) -> Result<(), ShelfFault>
     requires ready { IsReady manifest.now (S.ids shelf.old) outputs.old }
     requires frames { All (λ x. CanBeWritten manifest.now x) world.now.log.left }
-    ensures ready { IsReady manifest.now (S.ids shelf.new) outputs.new }
-    ensures texts { S.tells → OnOk result ((orig : Files) (text : Output → List ℕ) → HasTexts manifest.now (pieces_of outputs.old) orig (S.file shelf.old) text
-        → HasTexts manifest.now (pieces_of outputs.new) orig (S.file shelf.new)
-        (with_told text world.now.log.events world.now.log.left world.now.log.lines)) }
-    ensures cut { S.tells → OnErr result ((orig : Files) (text : Output → List ℕ) → HasTexts manifest.now (pieces_of outputs.old) orig (S.file shelf.old) text
-        → AreCut manifest.now orig (S.file shelf.new)
-        (with_told text world.now.log.events world.now.log.left world.now.log.lines)) }
-    ensures sent { OnOk result ((sent : ℕ → List Sent) → HasSent manifest.now outputs.old sent → HasSent manifest.now outputs.new (sent_with sent world.now.log.left)) }
-    ensures only { OnlyWrites S.tells manifest.now (S.file shelf.old) (S.file shelf.new) (S.ids shelf.old) (S.ids shelf.new) }
-    ensures faults { CountsWrites result (S.faults shelf.old) (S.faults shelf.new) }
+    ensures { WritesLog S.tells manifest.now (disk S.Shelf shelf.old) (disk S.Shelf shelf.new) outputs.old outputs.new world.now.log result }
 {
     write_told(
         shelf,
@@ -121,9 +106,8 @@ fn play_segment(
 ) -> Result<(), WorldFault>
     requires can { CanAll world.old (gives seconds commands.now arrivals.now) }
     requires few { left fate.old + letters_in commands.now < 2 ^ 57 }
-    ensures plays { OnOk result ((i : Input) (so_far : List Segment) (s : Segment) (events : List Event) (passed : List Bool) (left : List Leaving) (lines : List TraceLine) → IsSegment i s seconds commands.now arrivals.now
-        → IsPlayedBy (mode_of schedule) i so_far world.old (events ++ world.old.log.events) (passed ++ world.old.log.passed) (left ++ all_left world.old.log.left) (lines ++ world.old.log.lines)
-        → IsPlayedBy (mode_of schedule) i (so_far ++ s ∷ []) world.new (events ++ world.new.log.events) (passed ++ world.new.log.passed) (left ++ all_left world.new.log.left) (lines ++ world.new.log.lines)) }
+    ensures plays { OnOk result ((i : Input) (so_far : List Segment) (s : Segment) (t : Told) → IsSegment i s seconds commands.now arrivals.now
+        → HasTold (mode_of schedule) i so_far world.old (t with world.old.log) → HasTold (mode_of schedule) i (so_far ++ s ∷ []) world.new (t with world.new.log)) }
     ensures same { OnOk result (IsSame world.old world.new) }
     ensures fate { left fate.new ≤ left fate.old + letters_in commands.now }
 {
@@ -160,23 +144,10 @@ impl Game {
         requires ready { IsReady manifest.now (S.ids shelf.old) self.old.outputs }
         requires frames { All (λ x. CanBeWritten manifest.now x) self.old.world.log.left }
         requires can { CanCount self.old.counted self.old.world.log.events self.old.world.log.passed (length (all_left self.old.world.log.left)) }
-        ensures ready { IsReady manifest.now (S.ids shelf.new) self.new.outputs }
-        ensures world { OnOk result (world_of self.new.world ≡ world_of self.old.world) }
-        ensures same { OnOk result (IsSame self.old.world self.new.world) }
-        ensures quiet { OnOk result (IsQuiet self.new.world) }
-        ensures texts { S.tells → OnOk result ((orig : Files) (text : Output → List ℕ) → HasTexts manifest.now (pieces_of self.old.outputs) orig (S.file shelf.old) text
-            → HasTexts manifest.now (pieces_of self.new.outputs) orig (S.file shelf.new)
-            (with_told text self.old.world.log.events self.old.world.log.left self.old.world.log.lines)) }
-        ensures cut { S.tells → OnErr result ((orig : Files) (text : Output → List ℕ) → HasTexts manifest.now (pieces_of self.old.outputs) orig (S.file shelf.old) text
-            → AreCut manifest.now orig (S.file shelf.new)
-            (with_told text self.old.world.log.events self.old.world.log.left self.old.world.log.lines)) }
-        ensures sent { OnOk result ((sent : ℕ → List Sent) → HasSent manifest.now self.old.outputs sent → HasSent manifest.now self.new.outputs (sent_with sent self.old.world.log.left)) }
-        ensures tally { OnOk result (counts_of self.new.counted.tally
-            ≡ with_left (length (all_left self.old.world.log.left)) (fold (λ c e. counted e c) (counts_of self.old.counted.tally) self.old.world.log.events)) }
-        ensures ports { OnOk result (CountsOn self.old.counted.ports self.new.counted.ports self.old.world.log.events self.old.world.log.passed) }
+        ensures writes { WritesLog S.tells manifest.now (disk S.Shelf shelf.old) (disk S.Shelf shelf.new) self.old.outputs self.new.outputs self.old.world.log result }
+        ensures cleared { OnOk result (IsCleared self.old.world self.new.world) }
+        ensures counts { OnOk result (CountsLog self.old.counted self.new.counted self.old.world.log) }
         ensures fate { OnOk result (left self.new.fate ≡ left self.old.fate) }
-        ensures only { OnlyWrites S.tells manifest.now (S.file shelf.old) (S.file shelf.new) (S.ids shelf.old) (S.ids shelf.new) }
-        ensures faults { CountsWrites result (S.faults shelf.old) (S.faults shelf.new) }
     {
         write_all(
             shelf,
@@ -195,7 +166,7 @@ impl Game {
     }
 
     /// Plays a segment, and writes and counts what happens.
-    fn turn<S: Shelf>(
+    fn turn<S: Shelf, R: OfRun>(
         &mut self,
         shelf: &mut S,
         manifest: &Manifest,
@@ -204,20 +175,12 @@ impl Game {
         commands: &[Timed],
         arrivals: &[Arrival],
     ) -> Result<(), ShelfFault>
-        requires ready { IsReady manifest.now (S.ids shelf.old) self.old.outputs }
-        requires playable { (run : Run) × CanBePlayed S.tells (mode_of schedule) run manifest.now (S.file shelf.old) self.old.world self.old.counted self.old.outputs seconds commands.now arrivals.now }
+        requires playable { CanBePlayed S.tells R.run (here schedule manifest.now self.old (disk S.Shelf shelf.old)) seconds commands.now arrivals.now }
         requires budget { left self.old.fate + letters_in commands.now < 2 ^ 57 }
-        ensures ready { IsReady manifest.now (S.ids shelf.new) self.new.outputs }
-        ensures told { OnOk result ((run : Run) (so_far : List Segment) (s : Segment) → IsSegment run.input s seconds commands.now arrivals.now
-            → IsTold S.tells (mode_of schedule) run manifest.now (S.file shelf.old) self.old.world self.old.counted self.old.outputs so_far
-            → IsTold S.tells (mode_of schedule) run manifest.now (S.file shelf.new) self.new.world self.new.counted self.new.outputs (so_far ++ s ∷ [])) }
-        ensures cut { S.tells → OnErr result ((run : Run) (so_far rest : List Segment) (s : Segment) → segments (mode_of schedule) run.input ≡ so_far ++ s ∷ rest
-            → IsSegment run.input s seconds commands.now arrivals.now
-            → IsTold S.tells (mode_of schedule) run manifest.now (S.file shelf.old) self.old.world self.old.counted self.old.outputs so_far
-            → IsCutOff (mode_of schedule) run manifest.now (S.file shelf.new)) }
+        ensures told { OnOk result (IsOneMore S.tells R.run (here schedule manifest.now self.old (disk S.Shelf shelf.old)) (here schedule manifest.now self.new (disk S.Shelf shelf.new)) seconds commands.now arrivals.now) }
+        ensures cut { S.tells → OnErr result (IsCutWithin S.tells R.run (here schedule manifest.now self.old (disk S.Shelf shelf.old)) seconds commands.now arrivals.now (S.file shelf.new)) }
         ensures budget { OnOk result (left self.new.fate ≤ left self.old.fate + letters_in commands.now) }
-        ensures only { OnlyWrites S.tells manifest.now (S.file shelf.old) (S.file shelf.new) (S.ids shelf.old) (S.ids shelf.new) }
-        ensures faults { CountsWrites result (S.faults shelf.old) (S.faults shelf.new) }
+        ensures writes { WritesOn S.tells manifest.now (disk S.Shelf shelf.old) (disk S.Shelf shelf.new) result }
     {
         runs_are_under_way();
         runs_are_few();
@@ -240,77 +203,52 @@ impl Game {
         self.note(shelf, manifest)
     }
 
-    /// Plays what was gathered, `seconds` after what came before it. So many commands were taken `from` the programme before it.
-    fn go_on<S: Shelf>(
+    /// Plays what was gathered, of this second, behind what came before it. So many commands were taken `from` the programme before it.
+    fn go_on<S: Shelf, R: OfRun>(
         &mut self,
         shelf: &mut S,
         manifest: &Manifest,
         schedule: Schedule,
-        seconds: u32,
+        last: Option<u64>,
+        second: u64,
         from: usize,
         feed: &Feed<'_>,
     ) -> Result<(), ShelfFault>
-        requires ready { IsReady manifest.now (S.ids shelf.old) self.old.outputs }
-        requires feed { CanFeed (S.ids shelf.old) feed.now }
-        requires playing { (run : Run) × ((second : ℕ) × CanGoOn S.tells (mode_of schedule) run manifest.now (S.file shelf.old) (S.ids shelf.old) self.old.world self.old.counted self.old.outputs seconds from second feed.now) }
+        requires gathered { CanGoOn S.tells R.run (here schedule manifest.now self.old (disk S.Shelf shelf.old)) last second from feed.now }
         requires budget { left self.old.fate + letters_in (drop from feed.now.programme.commands.now) < 2 ^ 57 }
-        ensures ready { IsReady manifest.now (S.ids shelf.new) self.new.outputs }
-        ensures told { OnOk result ((run : Run) (second : ℕ)
-            → CanGoOn S.tells (mode_of schedule) run manifest.now (S.file shelf.old) (S.ids shelf.old) self.old.world self.old.counted self.old.outputs seconds from second feed.now
-            → IsPlaying S.tells (mode_of schedule) run manifest.now (S.file shelf.new) (S.ids shelf.new) self.new.world self.new.counted self.new.outputs (Some second) feed.now.programme) }
-        ensures cut { S.tells → OnErr result ((run : Run) (second : ℕ)
-            → CanGoOn S.tells (mode_of schedule) run manifest.now (S.file shelf.old) (S.ids shelf.old) self.old.world self.old.counted self.old.outputs seconds from second feed.now
-            → IsCutOff (mode_of schedule) run manifest.now (S.file shelf.new)) }
+        ensures stands { OnOk result (Stands S.tells R.run (here schedule manifest.now self.new (disk S.Shelf shelf.new)) (Some second) feed.now.programme) }
+        ensures cut { S.tells → OnErr result (IsCutOff (mode_of schedule) R.run manifest.now (S.file shelf.new)) }
         ensures budget { OnOk result (left self.new.fate + letters_in (drop feed.now.programme.taken feed.now.programme.commands.now) < 2 ^ 57) }
-        ensures only { OnlyWrites S.tells manifest.now (S.file shelf.old) (S.file shelf.new) (S.ids shelf.old) (S.ids shelf.new) }
-        ensures faults { CountsWrites result (S.faults shelf.old) (S.faults shelf.new) }
+        ensures writes { WritesOn S.tells manifest.now (disk S.Shelf shelf.old) (disk S.Shelf shelf.new) result }
     {
         runs_are_under_way();
         let commands = feed.programme.taken_since(from);
         let arrivals = feed.gathered.as_slice();
-        self.turn(shelf, manifest, schedule, seconds, commands, arrivals)
+        let seconds = seconds_since(last, second);
+        self.turn::<S, R>(shelf, manifest, schedule, seconds, commands, arrivals)
     }
 
     /// Plays all that comes, one segment after another.
-    fn play_all<S: Shelf>(
+    fn play_all<S: Shelf, R: OfRun>(
         &mut self,
         alloc: Global,
         shelf: &mut S,
         manifest: &Manifest,
         schedule: Schedule,
         feed: &mut Feed<'_>,
-    ) -> Result<(), Fault>
-        requires ready { IsReady manifest.now (S.ids shelf.old) self.old.outputs }
-        requires feed { CanFeed (S.ids shelf.old) feed.old }
-        requires playing { (run : Run) × IsPlaying S.tells (mode_of schedule) run manifest.now (S.file shelf.old) (S.ids shelf.old) self.old.world self.old.counted self.old.outputs None feed.old.programme }
+    ) -> Result<(), PlayFault>
+        requires stands { Stands S.tells R.run (here schedule manifest.now self.old (disk S.Shelf shelf.old)) None feed.old.programme }
         requires budget { left self.old.fate + letters_in (drop feed.old.programme.taken feed.old.programme.commands.now) < 2 ^ 57 }
-        ensures ready { OnOk result (IsReady manifest.now (S.ids shelf.new) self.new.outputs) }
-        ensures few { OnOk result (self.new.counted.tally.relayed + self.new.counted.tally.ignored < 2 ^ 64) }
-        ensures counted { OnOk result (AreCountsOf manifest.now self.new.counted.ports) }
-        ensures sent { OnOk result (AreCountedAt manifest.now self.new.outputs) }
-        ensures told { S.tells → OnOk result ((run : Run)
-            → IsPlaying S.tells (mode_of schedule) run manifest.now (S.file shelf.old) (S.ids shelf.old) self.old.world self.old.counted self.old.outputs None feed.old.programme
-            → IsAllTold S.tells (mode_of schedule) run manifest.now (S.file shelf.new) self.new.world self.new.counted self.new.outputs) }
-        ensures kept { S.tells → OnOk result ((run : Run)
-            → IsPlaying S.tells (mode_of schedule) run manifest.now (S.file shelf.old) (S.ids shelf.old) self.old.world self.old.counted self.old.outputs None feed.old.programme
-            → CanBeKept (segments (mode_of schedule) run.input)) }
-        ensures cut { S.tells → OnErr result ((run : Run)
-            → IsPlaying S.tells (mode_of schedule) run manifest.now (S.file shelf.old) (S.ids shelf.old) self.old.world self.old.counted self.old.outputs None feed.old.programme
-            → IsCutOff (mode_of schedule) run manifest.now (S.file shelf.new)) }
-        ensures never { S.tells → IfErr result (λ fault. IsChange fault → (run : Run)
-            → IsPlaying S.tells (mode_of schedule) run manifest.now (S.file shelf.old) (S.ids shelf.old) self.old.world self.old.counted self.old.outputs None feed.old.programme → ⊥) }
-        ensures only { OnlyGoesOn S.tells manifest.now (ids_in feed.old.programme.captures) (S.file shelf.old) (S.file shelf.new) (S.ids shelf.old) (S.ids shelf.new) }
-        ensures port { IfErr result (λ fault. (p at : ℕ) → fault ≡ Fault.Changed p at → HasPort p (standings feed.old.programme.captures)) }
-        ensures causes { IfErr result IsOfPlay }
-        ensures faults { CountsFaults result (S.faults shelf.old) (S.faults shelf.new) }
+        ensures played { OnOk result (HasPlayedAll S.tells R.run (here schedule manifest.now self.new (disk S.Shelf shelf.new))) }
+        ensures cut { S.tells → OnErr result (IsCutOff (mode_of schedule) R.run manifest.now (S.file shelf.new)) }
+        ensures plays { PlaysOn S.tells manifest.now (disk S.Shelf shelf.old) feed.old.programme (disk S.Shelf shelf.new) result }
     {
         runs_are_under_way();
         runs_are_few();
         let mut last: Option<u64> = None;
         let mut taken = feed.programme.taken();
         'events: while let Some(second) = feed.gather(alloc, shelf, schedule)? {
-            let seconds = seconds_since(last, second);
-            self.go_on(shelf, manifest, schedule, seconds, taken, feed)?;
+            self.go_on::<S, R>(shelf, manifest, schedule, last, second, taken, feed)?;
             taken = feed.programme.taken();
             last = Some(second);
         }
@@ -323,7 +261,7 @@ impl Game {
         alloc: Global,
         shelf: &mut S,
         manifest: &Manifest,
-    ) -> Result<String, Fault>
+    ) -> Result<String, ShelfFault>
         requires ready { IsReady manifest.now (S.ids shelf.old) self.old.outputs }
         requires counted { AreCountsOf manifest.now self.old.counted.ports }
         requires sent { AreCountedAt manifest.now self.old.outputs }
@@ -333,9 +271,7 @@ impl Game {
         ensures cut { S.tells → OnErr result ((orig : Files) (text : Output → List ℕ) → HasTexts manifest.now (pieces_of self.old.outputs) orig (S.file shelf.old) text
             → AreCut manifest.now orig (S.file shelf.new) (with_end text manifest.now self.old.counted.ports self.old.outputs)) }
         ensures line { IfOk result (λ line. string_bytes line ≡ summary_line (counts_of self.old.counted.tally)) }
-        ensures only { OnlyWrites S.tells manifest.now (S.file shelf.old) (S.file shelf.new) (S.ids shelf.old) (S.ids shelf.new) }
-        ensures causes { IfErr result IsOfWriting }
-        ensures faults { CountsFaults result (S.faults shelf.old) (S.faults shelf.new) }
+        ensures writes { WritesOn S.tells manifest.now (disk S.Shelf shelf.old) (disk S.Shelf shelf.new) result }
     {
         write_end(
             shelf,
@@ -345,35 +281,28 @@ impl Game {
             &self.counted.ports,
         )?;
         self.outputs.finish(shelf, manifest)?;
-        Ok(self.counted.tally.line(alloc)?)
+        match self.counted.tally.line(alloc) {
+            Ok(line) => Ok(line),
+            Err(_) => Err(ShelfFault::Memory),
+        }
     }
 
     /// Plays all that comes, writes what is still to be written, and answers the summary line.
-    fn play_on<S: Shelf>(
+    fn play_on<S: Shelf, R: OfRun>(
         &mut self,
         alloc: Global,
         shelf: &mut S,
         manifest: &Manifest,
         schedule: Schedule,
         feed: &mut Feed<'_>,
-    ) -> Result<String, Fault>
-        requires ready { IsReady manifest.now (S.ids shelf.old) self.old.outputs }
-        requires feed { CanFeed (S.ids shelf.old) feed.old }
-        requires playing { (run : Run) × IsPlaying S.tells (mode_of schedule) run manifest.now (S.file shelf.old) (S.ids shelf.old) self.old.world self.old.counted self.old.outputs None feed.old.programme }
+    ) -> Result<String, PlayFault>
+        requires stands { Stands S.tells R.run (here schedule manifest.now self.old (disk S.Shelf shelf.old)) None feed.old.programme }
+        requires timely { IsTimely R.run.input }
         requires budget { left self.old.fate + letters_in (drop feed.old.programme.taken feed.old.programme.commands.now) < 2 ^ 57 }
-        ensures done { S.tells → IfOk result (λ line. (run : Run) → IsTimely run.input
-            → IsPlaying S.tells (mode_of schedule) run manifest.now (S.file shelf.old) (S.ids shelf.old) self.old.world self.old.counted self.old.outputs None feed.old.programme
-            → HasPlayed (mode_of schedule) run.input manifest.now run.before (S.file shelf.new) (string_bytes line)) }
+        ensures done { S.tells → IfOk result (λ line. HasPlayed (mode_of schedule) R.run.input manifest.now R.run.before (S.file shelf.new) (string_bytes line)) }
         ensures says { IfOk result (λ line. IsSummary (string_bytes line)) }
-        ensures cut { S.tells → OnErr result ((run : Run)
-            → IsPlaying S.tells (mode_of schedule) run manifest.now (S.file shelf.old) (S.ids shelf.old) self.old.world self.old.counted self.old.outputs None feed.old.programme
-            → IsCutOff (mode_of schedule) run manifest.now (S.file shelf.new)) }
-        ensures never { S.tells → IfErr result (λ fault. IsChange fault → (run : Run)
-            → IsPlaying S.tells (mode_of schedule) run manifest.now (S.file shelf.old) (S.ids shelf.old) self.old.world self.old.counted self.old.outputs None feed.old.programme → ⊥) }
-        ensures only { OnlyGoesOn S.tells manifest.now (ids_in feed.old.programme.captures) (S.file shelf.old) (S.file shelf.new) (S.ids shelf.old) (S.ids shelf.new) }
-        ensures port { IfErr result (λ fault. (p at : ℕ) → fault ≡ Fault.Changed p at → HasPort p (standings feed.old.programme.captures)) }
-        ensures causes { IfErr result IsOfPlay }
-        ensures faults { CountsFaults result (S.faults shelf.old) (S.faults shelf.new) }
+        ensures cut { S.tells → OnErr result (IsCutOff (mode_of schedule) R.run manifest.now (S.file shelf.new)) }
+        ensures plays { PlaysOn S.tells manifest.now (disk S.Shelf shelf.old) feed.old.programme (disk S.Shelf shelf.new) result }
     {
         runs_are_under_way();
         runs_write_legally();
@@ -382,36 +311,25 @@ impl Game {
         counts_go_on();
         runs_tell_legally();
         manifest.is_tree();
-        self.play_all(alloc, shelf, manifest, schedule, feed)?;
-        self.end(alloc, shelf, manifest)
+        self.play_all::<S, R>(alloc, shelf, manifest, schedule, feed)?;
+        Ok(self.end(alloc, shelf, manifest)?)
     }
 
     /// Writes and counts what happened by the opening, plays all that comes, and answers the summary line.
-    fn play_opened<S: Shelf>(
+    fn play_opened<S: Shelf, R: OfRun>(
         &mut self,
         alloc: Global,
         shelf: &mut S,
         manifest: &Manifest,
         schedule: Schedule,
         feed: &mut Feed<'_>,
-    ) -> Result<String, Fault>
-        requires ready { IsReady manifest.now (S.ids shelf.old) self.old.outputs }
-        requires feed { CanFeed (S.ids shelf.old) feed.old }
-        requires opened { (run : Run) × IsOpened S.tells (mode_of schedule) run manifest.now (S.file shelf.old) (S.ids shelf.old) self.old.world self.old.counted self.old.outputs feed.old.programme }
+    ) -> Result<String, PlayFault>
+        requires opened { IsOpened S.tells R.run (here schedule manifest.now self.old (disk S.Shelf shelf.old)) feed.old.programme }
         requires budget { left self.old.fate + letters_in (drop feed.old.programme.taken feed.old.programme.commands.now) < 2 ^ 57 }
-        ensures done { S.tells → IfOk result (λ line. (run : Run)
-            → IsOpened S.tells (mode_of schedule) run manifest.now (S.file shelf.old) (S.ids shelf.old) self.old.world self.old.counted self.old.outputs feed.old.programme
-            → HasPlayed (mode_of schedule) run.input manifest.now run.before (S.file shelf.new) (string_bytes line)) }
+        ensures done { S.tells → IfOk result (λ line. HasPlayed (mode_of schedule) R.run.input manifest.now R.run.before (S.file shelf.new) (string_bytes line)) }
         ensures says { IfOk result (λ line. IsSummary (string_bytes line)) }
-        ensures cut { S.tells → OnErr result ((run : Run)
-            → IsOpened S.tells (mode_of schedule) run manifest.now (S.file shelf.old) (S.ids shelf.old) self.old.world self.old.counted self.old.outputs feed.old.programme
-            → IsCutOff (mode_of schedule) run manifest.now (S.file shelf.new)) }
-        ensures never { S.tells → IfErr result (λ fault. IsChange fault → (run : Run)
-            → IsOpened S.tells (mode_of schedule) run manifest.now (S.file shelf.old) (S.ids shelf.old) self.old.world self.old.counted self.old.outputs feed.old.programme → ⊥) }
-        ensures only { OnlyGoesOn S.tells manifest.now (ids_in feed.old.programme.captures) (S.file shelf.old) (S.file shelf.new) (S.ids shelf.old) (S.ids shelf.new) }
-        ensures port { IfErr result (λ fault. (p at : ℕ) → fault ≡ Fault.Changed p at → HasPort p (standings feed.old.programme.captures)) }
-        ensures causes { IfErr result IsOfPlay }
-        ensures faults { CountsFaults result (S.faults shelf.old) (S.faults shelf.new) }
+        ensures cut { S.tells → OnErr result (IsCutOff (mode_of schedule) R.run manifest.now (S.file shelf.new)) }
+        ensures plays { PlaysOn S.tells manifest.now (disk S.Shelf shelf.old) feed.old.programme (disk S.Shelf shelf.new) result }
     {
         runs_are_under_way();
         runs_are_few();
@@ -419,12 +337,12 @@ impl Game {
         manifest.is_tree();
         told_by_types(&self.world);
         self.note(shelf, manifest)?;
-        self.play_on(alloc, shelf, manifest, schedule, feed)
+        self.play_on::<S, R>(alloc, shelf, manifest, schedule, feed)
     }
 }
 
 /// Plays what a feed has in a world that is opened, and answers the summary line.
-fn play_world<S: Shelf>(
+fn play_world<S: Shelf, R: OfRun>(
     alloc: Global,
     shelf: &mut S,
     manifest: &Manifest,
@@ -434,24 +352,13 @@ fn play_world<S: Shelf>(
     outputs: Outputs,
     counted: Counted,
     feed: &mut Feed<'_>,
-) -> Result<String, Fault>
-    requires ready { IsReady manifest.now (S.ids shelf.old) outputs }
-    requires feed { CanFeed (S.ids shelf.old) feed.old }
-    requires opened { (run : Run) × IsOpened S.tells (mode_of schedule) run manifest.now (S.file shelf.old) (S.ids shelf.old) world counted outputs feed.old.programme }
+) -> Result<String, PlayFault>
+    requires opened { IsOpened S.tells R.run (player schedule manifest.now world counted outputs (disk S.Shelf shelf.old)) feed.old.programme }
     requires budget { left fate + letters_in (drop feed.old.programme.taken feed.old.programme.commands.now) < 2 ^ 57 }
-    ensures done { S.tells → IfOk result (λ line. (run : Run)
-        → IsOpened S.tells (mode_of schedule) run manifest.now (S.file shelf.old) (S.ids shelf.old) world counted outputs feed.old.programme
-        → HasPlayed (mode_of schedule) run.input manifest.now run.before (S.file shelf.new) (string_bytes line)) }
+    ensures done { S.tells → IfOk result (λ line. HasPlayed (mode_of schedule) R.run.input manifest.now R.run.before (S.file shelf.new) (string_bytes line)) }
     ensures says { IfOk result (λ line. IsSummary (string_bytes line)) }
-    ensures cut { S.tells → OnErr result ((run : Run)
-        → IsOpened S.tells (mode_of schedule) run manifest.now (S.file shelf.old) (S.ids shelf.old) world counted outputs feed.old.programme
-        → IsCutOff (mode_of schedule) run manifest.now (S.file shelf.new)) }
-    ensures never { S.tells → IfErr result (λ fault. IsChange fault → (run : Run)
-        → IsOpened S.tells (mode_of schedule) run manifest.now (S.file shelf.old) (S.ids shelf.old) world counted outputs feed.old.programme → ⊥) }
-    ensures only { OnlyGoesOn S.tells manifest.now (ids_in feed.old.programme.captures) (S.file shelf.old) (S.file shelf.new) (S.ids shelf.old) (S.ids shelf.new) }
-    ensures port { IfErr result (λ fault. (p at : ℕ) → fault ≡ Fault.Changed p at → HasPort p (standings feed.old.programme.captures)) }
-    ensures causes { IfErr result IsOfPlay }
-    ensures faults { CountsFaults result (S.faults shelf.old) (S.faults shelf.new) }
+    ensures cut { S.tells → OnErr result (IsCutOff (mode_of schedule) R.run manifest.now (S.file shelf.new)) }
+    ensures plays { PlaysOn S.tells manifest.now (disk S.Shelf shelf.old) feed.old.programme (disk S.Shelf shelf.new) result }
 {
     let mut game = Game {
         world,
@@ -461,14 +368,14 @@ fn play_world<S: Shelf>(
         rng: Lcg64Xsh32::seed_from_u64(seed_of(schedule)),
         room: Room::new(alloc),
     };
-    let played = game.play_opened(alloc, shelf, manifest, schedule, feed);
+    let played = game.play_opened::<S, R>(alloc, shelf, manifest, schedule, feed);
     // By a call, since a block's end is far longer to prove where it lets a world go.
     drop(game);
     played
 }
 
 /// Opens the world of a script's setup, plays what a feed has from there into outputs that were made, and answers the summary line.
-pub(crate) fn play_feed<S: Shelf>(
+pub(crate) fn play_feed<S: Shelf, R: OfRun>(
     alloc: Global,
     shelf: &mut S,
     manifest: &Manifest,
@@ -477,34 +384,21 @@ pub(crate) fn play_feed<S: Shelf>(
     fate: Box<dyn Fate>,
     outputs: Outputs,
     feed: &mut Feed<'_>,
-) -> Result<String, Fault>
+) -> Result<String, PlayFault>
     requires valid { IsValid script.now.setup.now }
     requires tree { manifest.now.tree ≡ shape_of script.now.setup.now }
-    requires ready { IsReady manifest.now (S.ids shelf.old) outputs }
-    requires feed { CanFeed (S.ids shelf.old) feed.old }
-    requires begins { (run : Run) × CanBegin S.tells (mode_of schedule) run script.now.setup.now manifest.now (S.file shelf.old) (S.ids shelf.old) outputs feed.old.programme }
+    requires begins { CanBegin S.tells (mode_of schedule) R.run script.now.setup.now manifest.now (disk S.Shelf shelf.old) outputs feed.old.programme }
     requires budget { left fate + length script.now.fate.now + letters_in (drop feed.old.programme.taken feed.old.programme.commands.now) < 2 ^ 57 }
-    ensures done { S.tells → IfOk result (λ line. (run : Run)
-        → CanBegin S.tells (mode_of schedule) run script.now.setup.now manifest.now (S.file shelf.old) (S.ids shelf.old) outputs feed.old.programme
-        → HasPlayed (mode_of schedule) run.input manifest.now run.before (S.file shelf.new) (string_bytes line)) }
+    ensures done { S.tells → IfOk result (λ line. HasPlayed (mode_of schedule) R.run.input manifest.now R.run.before (S.file shelf.new) (string_bytes line)) }
     ensures says { IfOk result (λ line. IsSummary (string_bytes line)) }
-    ensures fronts { S.tells → mode_of schedule ≡ Eager → (run : Run)
-        → CanBegin S.tells (mode_of schedule) run script.now.setup.now manifest.now (S.file shelf.old) (S.ids shelf.old) outputs feed.old.programme
-        → AreCutEagerly run.input manifest.now run.before (S.file shelf.new) }
-    ensures so_far { S.tells → (run : Run)
-        → CanBegin S.tells (mode_of schedule) run script.now.setup.now manifest.now (S.file shelf.old) (S.ids shelf.old) outputs feed.old.programme
-        → AreCutSoFar (mode_of schedule) run.input manifest.now run.before (S.file shelf.new) }
-    ensures never { S.tells → IfErr result (λ fault. IsChange fault → (run : Run)
-        → CanBegin S.tells (mode_of schedule) run script.now.setup.now manifest.now (S.file shelf.old) (S.ids shelf.old) outputs feed.old.programme → ⊥) }
-    ensures only { OnlyGoesOn S.tells manifest.now (ids_in feed.old.programme.captures) (S.file shelf.old) (S.file shelf.new) (S.ids shelf.old) (S.ids shelf.new) }
-    ensures port { IfErr result (λ fault. (p at : ℕ) → fault ≡ Fault.Changed p at → HasPort p (standings feed.old.programme.captures)) }
-    ensures causes { IfErr result IsOfPlay }
-    ensures faults { CountsFaults result (S.faults shelf.old) (S.faults shelf.new) }
+    ensures fronts { S.tells → mode_of schedule ≡ Eager → AreCutEagerly R.run.input manifest.now R.run.before (S.file shelf.new) }
+    ensures so_far { S.tells → AreCutSoFar (mode_of schedule) R.run.input manifest.now R.run.before (S.file shelf.new) }
+    ensures plays { PlaysOn S.tells manifest.now (disk S.Shelf shelf.old) feed.old.programme (disk S.Shelf shelf.new) result }
 {
     runs_write_fronts();
     runs_tell_so_far();
     let Ok(counted) = Counted::new(alloc, script.setup, manifest) else {
-        return Err(Fault::Memory);
+        return Err(PlayFault::Writing(ShelfFault::Memory));
     };
     let mut fate = fate;
     let Ok(world) = open(
@@ -514,9 +408,9 @@ pub(crate) fn play_feed<S: Shelf>(
         script.fate,
         manifest.options().trace,
     ) else {
-        return Err(Fault::Memory);
+        return Err(PlayFault::Writing(ShelfFault::Memory));
     };
-    play_world(
+    play_world::<S, R>(
         alloc, shelf, manifest, schedule, world, fate, outputs, counted, feed,
     )
 }

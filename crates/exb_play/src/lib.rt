@@ -7,10 +7,15 @@
 //! written of it and counted), `script` (what is played, and how).
 #![tactic(auto)]
 
+mod fault;
 mod feed;
 mod game;
 mod playing;
+mod run;
 mod script;
+mod whole;
 
+pub use fault::PlayFault;
 pub use playing::play;
+pub use run::OfRun;
 pub use script::{Schedule, Script};

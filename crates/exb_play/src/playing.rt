@@ -10,17 +10,18 @@ ghost use Rattle.exb_play.specs.Parts.{AreCutSoFar};
 ghost use Rattle.exb_writers.specs.Texts.{AreCutEagerly};
 ghost use Rattle.exb_play.specs.Outputs.{HasPlayed};
 ghost use Rattle.exb_outputs.specs.Manifests.{OnlyListed};
+ghost use Rattle.exb_play.specs.UnderWay.{IsRunOf};
 ghost use Rattle.exb_play.specs.Playing.{IsScript, mode_of};
 ghost use Rattle.exb_writers.specs.Counts.{IsSummary};
 ghost use Rattle.exb_inputs.specs.Reading.{IsChange, IsOfPlay};
 ghost use Rattle.exb_play.specs.Shelving.{OnlyPlays};
 ghost use Rattle.exb_outputs.specs.Sent.{HasSent};
 ghost use Rattle.exb_outputs.specs.Writing.{HasTexts, IsReady, first_text, pieces_of};
-ghost use Rattle.exb_shelf.specs.Files.{Files};
 ghost use Rattle.exb_shelf.specs.Shelf.{Opens};
 
 use crate::feed::Feed;
 use crate::game::play_feed;
+use crate::run::OfRun;
 use crate::script::{Schedule, Script};
 use exb_fate::Fate;
 use exb_inputs::{Checked, Fault, open_all, start_of};
@@ -30,9 +31,10 @@ use exb_outputs::{Manifest, Outputs, create_all};
 use exb_shelf::Shelf;
 use exb_tables::Named;
 use std::alloc::Global;
+use std::marker::Brand;
 
 /// Plays a script and the captures that are named, of which this was told, into outputs that were made, and answers the summary line.
-fn play_into<S: Shelf>(
+fn play_into<S: Shelf, R: OfRun>(
     alloc: Global,
     shelf: &mut S,
     manifest: &Manifest,
@@ -49,15 +51,13 @@ fn play_into<S: Shelf>(
     requires captures { CanBeRead S.tells manifest.now names.now (S.file shelf.old) checked.now }
     requires fate { left fate < 2 ^ 56 }
     requires ready { IsReady manifest.now (S.ids shelf.old) outputs }
-    requires texts { (before : Files) × (S.tells → HasTexts manifest.now (pieces_of outputs) before (S.file shelf.old) first_text) }
+    requires run { IsRunOf S.tells R.run script.now.setup.now script.now.commands.now names.now (S.file shelf.old) }
+    requires texts { S.tells → HasTexts manifest.now (pieces_of outputs) R.run.before (S.file shelf.old) first_text }
     requires sent { HasSent manifest.now outputs (λ q. []) }
-    ensures done { S.tells → IfOk result (λ line. (before : Files) → HasTexts manifest.now (pieces_of outputs) before (S.file shelf.old) first_text
-        → HasPlayed (mode_of schedule) (input_from script.now.setup.now script.now.commands.now names.now (S.file shelf.old)) manifest.now before (S.file shelf.new) (string_bytes line)) }
+    ensures done { S.tells → IfOk result (λ line. HasPlayed (mode_of schedule) R.run.input manifest.now R.run.before (S.file shelf.new) (string_bytes line)) }
     ensures says { IfOk result (λ line. IsSummary (string_bytes line)) }
-    ensures fronts { S.tells → mode_of schedule ≡ Eager → (before : Files) → HasTexts manifest.now (pieces_of outputs) before (S.file shelf.old) first_text
-        → AreCutEagerly (input_from script.now.setup.now script.now.commands.now names.now (S.file shelf.old)) manifest.now before (S.file shelf.new) }
-    ensures so_far { S.tells → (before : Files) → HasTexts manifest.now (pieces_of outputs) before (S.file shelf.old) first_text
-        → AreCutSoFar (mode_of schedule) (input_from script.now.setup.now script.now.commands.now names.now (S.file shelf.old)) manifest.now before (S.file shelf.new) }
+    ensures fronts { S.tells → mode_of schedule ≡ Eager → AreCutEagerly R.run.input manifest.now R.run.before (S.file shelf.new) }
+    ensures so_far { S.tells → AreCutSoFar (mode_of schedule) R.run.input manifest.now R.run.before (S.file shelf.new) }
     ensures never { S.tells → IfErr result (λ fault. IsChange fault → ⊥) }
     ensures others { S.tells → OnlyListed manifest.now (S.file shelf.old) (S.file shelf.new) }
     ensures opens { Opens (ReadsCapture names.now) (S.ids shelf.old) (S.ids shelf.new) }
@@ -75,13 +75,48 @@ fn play_into<S: Shelf>(
         gathered: Vec::new(alloc),
         played: Vec::new(alloc),
     };
-    play_feed(
+    Ok(play_feed::<S, R>(
         alloc, shelf, manifest, script, schedule, fate, outputs, &mut feed,
+    )?)
+}
+
+/// Plays a script and the captures that are named, of which this was told, in a run of them. The outputs are made first;
+/// then each capture is read again in pieces.
+fn play_run<S: Shelf, R: OfRun>(
+    alloc: Global,
+    shelf: &mut S,
+    manifest: &Manifest,
+    script: &Script<'_>,
+    names: &[Named],
+    checked: &[Checked],
+    schedule: Schedule,
+    fate: Box<dyn Fate>,
+) -> Result<String, Fault>
+    requires valid { IsValid script.now.setup.now }
+    requires tree { manifest.now.tree ≡ shape_of script.now.setup.now }
+    requires script { IsScript (shape_of script.now.setup.now) script.now.commands.now script.now.fate.now }
+    requires captures { CanBeRead S.tells manifest.now names.now (S.file shelf.old) checked.now }
+    requires fate { left fate < 2 ^ 56 }
+    requires run { IsRunOf S.tells R.run script.now.setup.now script.now.commands.now names.now (S.file shelf.old) }
+    requires before { S.tells → R.run.before ≡ S.file shelf.old }
+    ensures done { S.tells → IfOk result (λ line. HasPlayed (mode_of schedule) R.run.input manifest.now R.run.before (S.file shelf.new) (string_bytes line)) }
+    ensures says { IfOk result (λ line. IsSummary (string_bytes line)) }
+    ensures fronts { S.tells → mode_of schedule ≡ Eager → AreCutEagerly R.run.input manifest.now R.run.before (S.file shelf.new) }
+    ensures so_far { S.tells → AreCutSoFar (mode_of schedule) R.run.input manifest.now R.run.before (S.file shelf.new) }
+    ensures never { S.tells → IfErr result (λ fault. IsChange fault → ⊥) }
+    ensures only { OnlyPlays S.tells names.now manifest.now (S.file shelf.old) (S.file shelf.new) (S.ids shelf.old) (S.ids shelf.new) }
+    ensures made { MakesInOrder manifest.now result (S.ids shelf.old) (S.ids shelf.new) }
+    ensures port { IfErr result (λ fault. (p at : ℕ) → fault ≡ Fault.Changed p at → is_named names.now p ≡ true) }
+    ensures causes { IfErr result IsOfPlay }
+    ensures faults { CountsFaults result (S.faults shelf.old) (S.faults shelf.new) }
+{
+    let outputs = create_all(alloc, shelf, manifest)?;
+    play_into::<S, R>(
+        alloc, shelf, manifest, script, names, checked, schedule, fate, outputs,
     )
 }
 
-/// Plays a script and the captures that are named, of which this was told, and answers the summary line. The outputs are made first;
-/// then each capture is read again in pieces.
+/// Plays a script and the captures that are named, of which this was told, and answers the summary line.
 pub fn play<S: Shelf>(
     alloc: Global,
     shelf: &mut S,
@@ -108,8 +143,7 @@ pub fn play<S: Shelf>(
     ensures causes { IfErr result IsOfPlay }
     ensures faults { CountsFaults result (S.faults shelf.old) (S.faults shelf.new) }
 {
-    let outputs = create_all(alloc, shelf, manifest)?;
-    play_into(
-        alloc, shelf, manifest, script, names, checked, schedule, fate, outputs,
+    play_run::<S, Brand>(
+        alloc, shelf, manifest, script, names, checked, schedule, fate,
     )
 }

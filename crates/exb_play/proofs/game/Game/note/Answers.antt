@@ -1,4 +1,4 @@
-use Rattle.std.proofs.Common.{◌≡◌, ℕ, Bool, List, length, ap, sym, subst, ◌∙◌, arith}
+use Rattle.std.proofs.Common.{◌≡◌, ℕ, Bool, List, length, ap, sym, subst, ◌∙◌, arith, rules}
 use Rattle.exb_model.specs.declared.event.Event.{Event}
 use Rattle.exb_model.specs.Texts.{with_left}
 use Rattle.exb_boxes.specs.declared.log.Left.{Left}
@@ -24,10 +24,13 @@ overflow_cast-count_left g c =
     let same = c.count_left.ensures ∙ ap (λ (xs : List Left). length (all_left xs)) c.left.ensures in
     omega (arith, fits, same)
 
-pub returns-clause-tally : goal.returns-clause-tally
-returns-clause-tally g c =
+pub returns-clause-counts : goal.returns-clause-counts
+returns-clause-counts g c =
     let n = c.args.self.now.world in
     let counts = counts_of c.args.self.now.counted.tally in
-    c.note.ensures.tally
-    ∙ ap (λ (es : List Event). with_left c.count_left.result (count_events counts es)) c.events.ensures
-    ∙ ap (λ (k : ℕ). with_left k (count_events counts n.log.events)) (c.count_left.ensures ∙ ap (λ (xs : List Left). length (all_left xs)) c.left.ensures)
+    record {
+      tally =
+          c.note.ensures.tally ∙ ap (λ (es : List Event). with_left c.count_left.result (count_events counts es)) c.events.ensures
+          ∙ ap (λ (k : ℕ). with_left k (count_events counts n.log.events)) (c.count_left.ensures ∙ ap (λ (xs : List Left). length (all_left xs)) c.left.ensures);
+      ports = search rules;
+    }

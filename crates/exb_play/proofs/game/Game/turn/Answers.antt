@@ -4,7 +4,8 @@ use Rattle.std.proofs.lemmas.Result.{on_err_weaker}
 use Rattle.exb_legal.specs.Spelled.{HasBytes}
 use Rattle.exb_legal.specs.TextLaws.{IsOfNumbers}
 use Rattle.exb_bridge.specs.Worlds.{all_left}
-use Rattle.exb_play.specs.Playing.{mode_of}
+use Rattle.exb_play.specs.Disks.{disk}
+use Rattle.exb_play.specs.Playing.{player, mode_of, ◌with◌}
 use Rattle.exb_writers.specs.Texts.{text_so_far}
 use Rattle.exb_outputs.specs.Writing.{pieces_of}
 use Rattle.exb_machine.specs.Worlds.{left_at}
@@ -23,74 +24,77 @@ pub note-requires-clause-frames : goal.note-requires-clause-frames
 note-requires-clause-frames g c =
     let m = mode_of c.args.schedule in
     let n = c.args.self.now.world in
-    let i = c.requires.playable.0.input in
-    let can = c.requires.playable.1 in
+    let i = g.R.OfRun.run.input in
+    let can = c.requires.playable in
     let is = can.is in
     let ok = sym c.is_err.ensures.value ∙ c.if-is_err.false in
     let v = c.play_segment.new.world in
-    let after = when_ok c.play_segment.result ok c.play_segment.ensures.plays i can.so_far can.next is.told is.passed is.gone is.lines can.segment (quiet-played m i can.so_far n is.told is.passed is.gone is.lines is.quiet is.played) in
-    frames-fit m i c.args.manifest.now (can.so_far ++ can.next ∷ []) v (is.told ++ v.log.events) (is.passed ++ v.log.passed) is.gone v.log.left (is.lines ++ v.log.lines)
-    c.runs_are_under_way.ensures is.tree c.is_tree.ensures can.follows.kept after
+    let after = when_ok c.play_segment.result ok c.play_segment.ensures.plays i can.so_far can.next is.told can.segment (quiet-played m i can.so_far n is.told is.quiet is.played) in
+    frames-fit m i c.args.manifest.now (can.so_far ++ can.next ∷ []) v is.told v.log c.runs_are_under_way.ensures is.tree c.is_tree.ensures can.follows.kept after
 
 pub note-requires-clause-can : goal.note-requires-clause-can
 note-requires-clause-can g c =
     let m = mode_of c.args.schedule in
     let n = c.args.self.now.world in
-    let i = c.requires.playable.0.input in
-    let can = c.requires.playable.1 in
+    let i = g.R.OfRun.run.input in
+    let can = c.requires.playable in
     let is = can.is in
     let ok = sym c.is_err.ensures.value ∙ c.if-is_err.false in
     let v = c.play_segment.new.world in
-    let after = when_ok c.play_segment.result ok c.play_segment.ensures.plays i can.so_far can.next is.told is.passed is.gone is.lines can.segment (quiet-played m i can.so_far n is.told is.passed is.gone is.lines is.quiet is.played) in
-    can-count m i c.args.manifest.now (can.so_far ++ can.next ∷ []) v c.args.self.now.counted is.told v.log.events is.passed v.log.passed is.gone v.log.left (is.lines ++ v.log.lines)
-    c.steps_tell_passed.ensures c.runs_are_few.ensures can.follows after is.counted (played_together c.steps_tell_passed.ensures m i can.so_far n is.told is.passed is.gone is.lines is.played)
+    let after = when_ok c.play_segment.result ok c.play_segment.ensures.plays i can.so_far can.next is.told can.segment (quiet-played m i can.so_far n is.told is.quiet is.played) in
+    can-count m i c.args.manifest.now (can.so_far ++ can.next ∷ []) v c.args.self.now.counted is.told v.log c.steps_tell_passed.ensures c.runs_are_few.ensures can.follows after is.counted
+    (played_together c.steps_tell_passed.ensures m i can.so_far n is.told is.played)
 
 pub returns-clause-told : goal.returns-clause-told
-returns-clause-told g c = on_ok_by c.note.result (λ get run so_far s segment is.
-    let S = g.S.Shelf in
-    let m = mode_of c.args.schedule in
-    let n = c.args.self.now.world in
-    let manifest = c.args.manifest.now in
-    let ok = sym c.is_err.ensures.value ∙ c.if-is_err.false in
-    let v = c.play_segment.new.world in
-    let more = v.log.events in
-    let left = v.log.left in
-    let new = v.log.lines in
-    let after = when_ok c.play_segment.result ok c.play_segment.ensures.plays run.input so_far s is.told is.passed is.gone is.lines segment (quiet-played m run.input so_far n is.told is.passed is.gone is.lines is.quiet is.played) in
-    record {
-      tree = is.tree;
-      told = is.told ++ more;
-      passed = is.passed ++ v.log.passed;
-      gone = is.gone ++ all_left left;
-      lines = is.lines ++ new;
-      played = cleared-played m run.input (so_far ++ s ∷ []) v c.note.new.self.world (is.told ++ more) (is.passed ++ v.log.passed) (is.gone ++ all_left left) (is.lines ++ new)
-          (get _ c.note.ensures.world) (get _ c.note.ensures.same) after;
-      tracing = (get _ c.note.ensures.same).tracing ∙ (when_ok c.play_segment.result ok c.play_segment.ensures.same).tracing ∙ is.tracing;
-      numbers = All-append IsOfNumbers is.told more is.numbers c.told_by_types.ensures.numbers;
-      bytes = All-append HasBytes is.lines new is.bytes c.told_by_types.ensures.bytes;
-      counted = counted-on manifest c.args.self.now.counted c.note.new.self.counted is.told more is.passed v.log.passed is.gone left (get _ c.note.ensures.tally) (get _ c.note.ensures.ports)
-          (played_together c.steps_tell_passed.ensures m run.input so_far n is.told is.passed is.gone is.lines is.played) is.counted;
-      texts = λ tells.
-          kinds_same manifest run.before (S.file c.note.new.shelf) (pieces_of c.note.new.self.outputs) _ (text_so_far (is.told ++ more) (is.gone ++ all_left left) (is.lines ++ new) [])
-          (text-more is.told more is.gone left is.lines new) (get _ (c.note.ensures.texts tells) run.before (text_so_far is.told is.gone is.lines []) (is.texts tells));
-      sent = sent_as manifest c.note.new.self.outputs (sent_with (λ q. left_at q is.gone) left) (λ q. left_at q (is.gone ++ all_left left)) (λ q. sym (left_at-append q is.gone (all_left left)))
-          (get _ c.note.ensures.sent (λ q. left_at q is.gone) is.sent);
-      quiet = get _ c.note.ensures.quiet;
-    })
+returns-clause-told g c = on_ok_by c.note.result (λ get. record {
+  ready = c.note.ensures.writes.ready;
+  told = λ so_far s segment is.
+      (let S = g.S.Shelf in
+      let run = g.R.OfRun.run in
+      let m = mode_of c.args.schedule in
+      let n = c.args.self.now.world in
+      let manifest = c.args.manifest.now in
+      let ok = sym c.is_err.ensures.value ∙ c.if-is_err.false in
+      let v = c.play_segment.new.world in
+      let t = is.told in
+      let log = v.log in
+      let writes = c.note.ensures.writes in
+      let cleared = get _ c.note.ensures.cleared in
+      let counts = get _ c.note.ensures.counts in
+      let after = when_ok c.play_segment.result ok c.play_segment.ensures.plays run.input so_far s t segment (quiet-played m run.input so_far n t is.quiet is.played) in
+      record {
+        tree = is.tree;
+        told = t with v.log;
+        played = cleared-played m run.input (so_far ++ s ∷ []) v c.note.new.self.world (t with v.log) cleared.world cleared.same after;
+        tracing = cleared.same.tracing ∙ (when_ok c.play_segment.result ok c.play_segment.ensures.same).tracing ∙ is.tracing;
+        numbers = All-append IsOfNumbers t.events log.events is.numbers c.told_by_types.ensures.numbers;
+        bytes = All-append HasBytes t.lines log.lines is.bytes c.told_by_types.ensures.bytes;
+        counted = counted-on manifest c.args.self.now.counted c.note.new.self.counted t.events log.events t.passed log.passed t.left log.left counts.tally counts.ports
+            (played_together c.steps_tell_passed.ensures m run.input so_far n t is.played) is.counted;
+        texts = λ tells.
+            kinds_same manifest run.before (S.file c.note.new.shelf) (pieces_of c.note.new.self.outputs) _ (text_so_far (t.events ++ log.events) (t with v.log).left (t.lines ++ log.lines) [])
+            (text-more t.events log.events t.left log.left t.lines log.lines) (get _ (writes.texts tells) run.before (text_so_far t.events t.left t.lines []) (is.texts tells));
+        sent = sent_as manifest c.note.new.self.outputs (sent_with (λ q. left_at q t.left) log.left) (λ q. left_at q (t with v.log).left) (λ q. sym (left_at-append q t.left (all_left log.left)))
+            (get _ writes.sent (λ q. left_at q t.left) is.sent);
+        quiet = cleared.quiet;
+      });
+})
 
 pub returns-then-is_err-clause-cut : goal.returns-then-is_err-clause-cut
-returns-then-is_err-clause-cut g c = λ t run so_far rest s segments_are segment is.
-    cut_before g.S.Shelf.tells (mode_of c.args.schedule) run c.args.manifest.now (g.S.Shelf.file c.args.shelf.now) c.args.self.now.world c.args.self.now.counted c.args.self.now.outputs so_far (s ∷ rest) t is segments_are
+returns-then-is_err-clause-cut g c = λ t so_far rest s segments_are segment is.
+    cut_before g.S.Shelf.tells g.R.OfRun.run (player c.args.schedule c.args.manifest.now c.args.self.now.world c.args.self.now.counted c.args.self.now.outputs (disk g.S.Shelf c.args.shelf.now)) so_far (s ∷ rest) t is segments_are
 
 pub returns-clause-cut : goal.returns-clause-cut
 returns-clause-cut g c = λ t. on_err_weaker c.note.result
-    (λ cut run so_far rest s segments_are segment is.
+    (λ cut so_far rest s segments_are segment is.
     let m = mode_of c.args.schedule in
+    let run = g.R.OfRun.run in
     let n = c.args.self.now.world in
-    let manifest = c.args.manifest.now in
     let ok = sym c.is_err.ensures.value ∙ c.if-is_err.false in
     let v = c.play_segment.new.world in
-    let after = when_ok c.play_segment.result ok c.play_segment.ensures.plays run.input so_far s is.told is.passed is.gone is.lines segment (quiet-played m run.input so_far n is.told is.passed is.gone is.lines is.quiet is.played) in
-    cut_amid m run manifest (g.S.Shelf.file c.note.new.shelf) (so_far ++ s ∷ []) rest v is.told v.log.events (is.passed ++ v.log.passed) is.gone v.log.left is.lines v.log.lines is.tree
-    (segments_are ∙ sym (append_assoc so_far (s ∷ []) rest)) ((when_ok c.play_segment.result ok c.play_segment.ensures.same).tracing ∙ is.tracing) after (cut run.before (text_so_far is.told is.gone is.lines []) (is.texts t)))
-    (c.note.ensures.cut t)
+    let told = is.told in
+    let after = when_ok c.play_segment.result ok c.play_segment.ensures.plays run.input so_far s told segment (quiet-played m run.input so_far n told is.quiet is.played) in
+    cut_amid m run c.args.manifest.now (g.S.Shelf.file c.note.new.shelf) (so_far ++ s ∷ []) rest v told is.tree
+    (segments_are ∙ sym (append_assoc so_far (s ∷ []) rest)) ((when_ok c.play_segment.result ok c.play_segment.ensures.same).tracing ∙ is.tracing) after
+    (cut run.before (text_so_far told.events told.left told.lines []) (is.texts t)))
+    (c.note.ensures.writes.cut t)

@@ -1,6 +1,6 @@
-use Rattle.std.proofs.Common.{◌≡◌, inl, inr, subst, ◌∙◌, ℕ, true}
-use Rattle.std.specs.Prelude.{string_bytes}
-use Rattle.exb_model.specs.Input.{Input}
+use Rattle.std.proofs.Common.{◌≡◌, inl, inr, subst, sym, ◌∙◌, ℕ, true}
+use Rattle.exb_shelf.specs.Files.{Files}
+use Rattle.exb_outputs.specs.Writing.{HasTexts, first_text, pieces_of}
 use Rattle.std.proofs.lemmas.Result.{err_from_is_err_and}
 use Rattle.exb_play.specs.Parts.{AreCutSoFar}
 use Rattle.exb_play.proofs.Parts.{made-so-far}
@@ -9,44 +9,42 @@ use Rattle.exb_inputs.specs.Inputs.{is_named}
 use Rattle.exb_inputs.specs.Shelving.{ReadsCapture}
 use Rattle.exb_shelf.proofs.IdLemmas.{opens_then, opens_weaker}
 use Rattle.exb_writers.specs.Texts.{AreCutEagerly}
-use Rattle.exb_play.specs.Outputs.{HasPlayed}
 use Rattle.exb_play.specs.Playing.{mode_of}
 use Rattle.exb_outputs.proofs.Apart.{can-read-on, input-stays}
 use Rattle.exb_writers.proofs.Cutting.{made_eagerly}
 use Rattle.exb_outputs.proofs.Orders.{makes_as, makes_then_read}
-use Rattle.exb_inputs.proofs.Outcomes.{if_ok_map}
 use Rattle.exb_inputs.proofs.ShelvingLemmas.{counts_from}
-use Rattle.exb_play.proofs.playing.play.Goals as goal
+use Rattle.exb_play.proofs.playing.play_run.Goals as goal
 
 pub play_into-requires-clause-captures : goal.play_into-requires-clause-captures
 play_into-requires-clause-captures g c =
     let S = g.S.Shelf in
     can-read-on S.tells c.args.manifest.now c.args.names.now (S.file c.args.shelf.now) (S.file c.create_all.new.shelf) c.args.checked.now c.create_all.ensures.only.others c.requires.captures
 
+pub play_into-requires-clause-run : goal.play_into-requires-clause-run
+play_into-requires-clause-run g c =
+    let S = g.S.Shelf in
+    let s = c.args.script.now in
+    record {
+      setup_is = c.requires.run.setup_is;
+      given = c.requires.run.given;
+      is = λ t. c.requires.run.is t ∙ sym (input-stays s.setup.now s.commands.now c.args.manifest.now c.args.names.now (S.file c.args.shelf.now) (S.file c.create_all.new.shelf) c.args.checked.now S.tells (c.create_all.ensures.only.others t) c.requires.captures);
+    }
+
 pub play_into-requires-clause-texts : goal.play_into-requires-clause-texts
-play_into-requires-clause-texts g c = (g.S.Shelf.file c.args.shelf.now, c.in_ok-outputs.ensures.texts)
-
-pub returns-clause-done : goal.returns-clause-done
-returns-clause-done g c tells =
+play_into-requires-clause-texts g c = λ t.
     let S = g.S.Shelf in
-    let s = c.args.script.now in
-    let same = input-stays s.setup.now s.commands.now c.args.manifest.now c.args.names.now (S.file c.args.shelf.now) (S.file c.create_all.new.shelf) c.args.checked.now S.tells (c.create_all.ensures.only.others tells) c.requires.captures in
-    if_ok_map c.play_into.result
-    (λ line played.
-    subst (λ (i : Input). HasPlayed (mode_of c.args.schedule) i c.args.manifest.now (S.file c.args.shelf.now) (S.file c.play_into.new.shelf) (string_bytes line)) same
-    (played (S.file c.args.shelf.now) (c.in_ok-outputs.ensures.texts tells)))
-    (c.play_into.ensures.done tells)
-
-pub returns-clause-fronts : goal.returns-clause-fronts
-returns-clause-fronts g c tells eager =
-    let S = g.S.Shelf in
-    let s = c.args.script.now in
-    let same = input-stays s.setup.now s.commands.now c.args.manifest.now c.args.names.now (S.file c.args.shelf.now) (S.file c.create_all.new.shelf) c.args.checked.now S.tells (c.create_all.ensures.only.others tells) c.requires.captures in
-    subst (λ (i : Input). AreCutEagerly i c.args.manifest.now (S.file c.args.shelf.now) (S.file c.play_into.new.shelf)) same
-    (c.play_into.ensures.fronts tells eager (S.file c.args.shelf.now) (c.in_ok-outputs.ensures.texts tells))
+    subst (λ (f : Files). HasTexts c.args.manifest.now (pieces_of c.in_ok-outputs.outputs) f (S.file c.create_all.new.shelf) first_text) (sym (c.requires.before t)) (c.in_ok-outputs.ensures.texts t)
 
 pub returns-in_err-outputs-clause-fronts : goal.returns-in_err-outputs-clause-fronts
-returns-in_err-outputs-clause-fronts g c tells eager = made_eagerly _ c.args.manifest.now _ _ (c.in_err-outputs.ensures.cut tells)
+returns-in_err-outputs-clause-fronts g c tells eager =
+    subst (λ (f : Files). AreCutEagerly g.R.OfRun.run.input c.args.manifest.now f (g.S.Shelf.file c.create_all.new.shelf)) (sym (c.requires.before tells))
+    (made_eagerly _ c.args.manifest.now _ _ (c.in_err-outputs.ensures.cut tells))
+
+pub returns-in_err-outputs-clause-so_far : goal.returns-in_err-outputs-clause-so_far
+returns-in_err-outputs-clause-so_far g c tells =
+    subst (λ (f : Files). AreCutSoFar (mode_of c.args.schedule) g.R.OfRun.run.input c.args.manifest.now f (g.S.Shelf.file c.create_all.new.shelf)) (sym (c.requires.before tells))
+    (made-so-far (mode_of c.args.schedule) _ c.args.manifest.now _ _ (c.in_err-outputs.ensures.cut tells))
 
 pub returns-clause-only : goal.returns-clause-only
 returns-clause-only g c =
@@ -76,15 +74,3 @@ pub returns-in_err-outputs-clause-port : goal.returns-in_err-outputs-clause-port
 returns-in_err-outputs-clause-port g c =
     let e = err_from_is_err_and c.from_residual.result c.from_residual.ensures.1 in
     rw (e.1, e.2) (writing-port (λ (q : ℕ). is_named c.args.names.now q ≡ true) c.in_err-outputs.field-0.0 c.in_err-outputs.ensures.causes)
-
--- ---- what it leaves, however it ended
-pub returns-clause-so_far : goal.returns-clause-so_far
-returns-clause-so_far g c tells =
-    let S = g.S.Shelf in
-    let s = c.args.script.now in
-    let same = input-stays s.setup.now s.commands.now c.args.manifest.now c.args.names.now (S.file c.args.shelf.now) (S.file c.create_all.new.shelf) c.args.checked.now S.tells (c.create_all.ensures.only.others tells) c.requires.captures in
-    subst (λ (i : Input). AreCutSoFar (mode_of c.args.schedule) i c.args.manifest.now (S.file c.args.shelf.now) (S.file c.play_into.new.shelf)) same
-    (c.play_into.ensures.so_far tells (S.file c.args.shelf.now) (c.in_ok-outputs.ensures.texts tells))
-
-pub returns-in_err-outputs-clause-so_far : goal.returns-in_err-outputs-clause-so_far
-returns-in_err-outputs-clause-so_far g c tells = made-so-far (mode_of c.args.schedule) _ c.args.manifest.now _ _ (c.in_err-outputs.ensures.cut tells)
