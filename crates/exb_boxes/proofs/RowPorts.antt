@@ -14,7 +14,7 @@ use Rattle.exb_csp.proofs.Loops.{without}
 use Rattle.exb_extender.proofs.ForwardingLemmas.{IsLowest, lowest, cleared_lower, flat_map-agree, flat_map-first, flat_map-none}
 use Rattle.exb_extender.proofs.TableLemmas.{in_mask-without}
 use Rattle.exb_boxes.specs.Rows.{Row, ports_in, HasNoneFrom, HasSome}
-use Rattle.exb_boxes.proofs.Bits.{none_from}
+use Rattle.exb_model.proofs.DeviceSets.{none_from}
 
 abbrev row : ℕ → ℕ → Row
 row device ports = record { device = device; ports = ports }

@@ -11,7 +11,7 @@ use Rattle.exb_machine.specs.Hearing.{beats_control, beats_near, moves}
 use Rattle.exb_machine.specs.Stepping.{all_extenders, if_there}
 use Rattle.exb_machine.specs.Worlds.{World}
 use Rattle.exb_boxes.specs.declared.log.Log.{Log}
-use Rattle.exb_boxes.specs.Ends.{near_of}
+use Rattle.exb_ecp.specs.Ends.{near_of}
 use Rattle.exb_bridge.specs.Leading.{Leads}
 use Rattle.exb_bridge.specs.Sites.{Site}
 use Rattle.exb_bridge.specs.Worlds.{Whole, world_in, IsAt, Does}

@@ -12,9 +12,9 @@ use Rattle.exb_machine.specs.Effects.{Effect, only, sending, leaving}
 use Rattle.exb_boxes.specs.declared.log.Left.{Left}
 use Rattle.exb_boxes.specs.declared.log.Log.{Log}
 use Rattle.exb_bridge.specs.Worlds.{Whole}
-use Rattle.exb_boxes.specs.Devices.{Devices, far_of, AreSame}
-use Rattle.exb_boxes.specs.Directions.{words_of}
-use Rattle.exb_boxes.specs.Ends.{near_of}
+use Rattle.exb_extender.specs.Extenders.{Devices, far_of, AreSame}
+use Rattle.exb_link.specs.Links.{words_of}
+use Rattle.exb_ecp.specs.Ends.{near_of}
 use Rattle.exb_bridge.specs.Sites.{Site}
 use Rattle.exb_boxes.specs.Rows.{Row, ports_in}
 use Rattle.exb_boxes.specs.Logs.{if_tracing}

@@ -9,7 +9,7 @@ use Rattle.exb_model.proofs.TreeHung.{extender-low}
 use Rattle.exb_model.proofs.TreeLoops.{level_none, level_in, level_out, levels_none, levels_more, by_depth_is}
 use Rattle.exb_changing.proofs.Plans.Lengths.{few_extenders}
 use Rattle.exb_machine.specs.Settling.{deepest_first}
-use Rattle.exb_boxes.specs.Numbers.{IsNumber}
+use Rattle.exb_model.specs.DeviceSets.{IsNumber}
 
 -- ---- how it is made
 -- the lowest i of 64 depths

@@ -9,7 +9,7 @@ use Rattle.exb_control.specs.Boxes.{IsMoved}
 use Rattle.exb_machine.specs.Worlds.{World, with_control, with_table}
 use Rattle.exb_machine.specs.Controls.{forgotten_all}
 use Rattle.exb_bridge.specs.Worlds.{Whole}
-use Rattle.exb_boxes.specs.Devices.{Devices, far_of, has_extender}
+use Rattle.exb_extender.specs.Extenders.{Devices, far_of, has_extender}
 use Rattle.exb_bridge.specs.Sites.{Site}
 use Rattle.exb_bridge.specs.Worlds.{world_in, IsAt}
 

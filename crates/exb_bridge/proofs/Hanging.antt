@@ -8,7 +8,7 @@ use Rattle.exb_model.specs.Tree.{Shape, IsTree, HasRole, HangsOn, is_port, is_ca
 use Rattle.exb_model.proofs.TreeHung.{hung_cascade}
 use Rattle.exb_machine.specs.Extending.{hung_on}
 use Rattle.exb_machine.proofs.Trees.{hung_is, hung_found, extender_there}
-use Rattle.exb_boxes.specs.Numbers.{IsNumber}
+use Rattle.exb_model.specs.DeviceSets.{IsNumber}
 use Rattle.exb_bridge.proofs.Deepest.{extender_number}
 
 -- it has a number

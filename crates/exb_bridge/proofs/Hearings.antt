@@ -30,7 +30,7 @@ use Rattle.exb_machine.specs.Runs.Sessions.{AreLow, Each}
 use Rattle.exb_machine.proofs.Hearing.{to_extender_control}
 use Rattle.exb_boxes.specs.declared.log.Log.{Log}
 use Rattle.exb_bridge.specs.Worlds.{Whole}
-use Rattle.exb_boxes.specs.Ends.{near_of}
+use Rattle.exb_ecp.specs.Ends.{near_of}
 use Rattle.exb_bridge.specs.Sites.{Site, limits_in}
 use Rattle.exb_bridge.specs.Worlds.{world_in, IsAt, Does}
 use Rattle.exb_bridge.proofs.Doing.{does_then}

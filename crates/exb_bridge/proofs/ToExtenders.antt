@@ -18,8 +18,8 @@ use Rattle.exb_machine.specs.Hearing.{bridge_request, puts, puts_tagged, to_exte
 use Rattle.exb_machine.specs.Runs.Sessions.{AreLow}
 use Rattle.exb_boxes.specs.declared.log.Log.{Log}
 use Rattle.exb_bridge.specs.Worlds.{Whole}
-use Rattle.exb_boxes.specs.Directions.{words_of}
-use Rattle.exb_boxes.specs.Ends.{near_of}
+use Rattle.exb_link.specs.Links.{words_of}
+use Rattle.exb_ecp.specs.Ends.{near_of}
 use Rattle.exb_bridge.specs.Sites.{Site}
 use Rattle.exb_bridge.specs.Worlds.{world_in, IsAt, Does}
 use Rattle.exb_bridge.proofs.Cores.{IsNoted, near_in, does_nothing, sends_down}

@@ -3,7 +3,7 @@ use Rattle.std.specs.Prelude.{◌≡◌, ℕ, ◌<◌, if◌then◌else◌, List
 use Rattle.exb_model.specs.Tree.{Shape, by_depth, is_extender}
 use Rattle.exb_model.specs.Setup.{Limits}
 use Rattle.exb_machine.specs.Settling.{deepest_first}
-use Rattle.exb_boxes.specs.Numbers.{number_in}
+use Rattle.exb_model.specs.DeviceSets.{number_in}
 
 -- the tree, and how many E-channels and groups the space of a bridge port has
 pub record Site : Type 0 where

@@ -13,10 +13,10 @@ use Rattle.exb_machine.specs.Telling.{all_told}
 use Rattle.exb_boxes.specs.declared.log.Left.{Left}
 use Rattle.exb_boxes.specs.declared.log.Log.{Log}
 use Rattle.exb_boxes.specs.Rows.{ports_in}
-use Rattle.exb_boxes.specs.Directions.{words_of}
-use Rattle.exb_boxes.specs.Devices.{Devices, far_of, has_extender}
-use Rattle.exb_boxes.specs.Ends.{near_of}
-use Rattle.exb_boxes.specs.Indices.{next_of}
+use Rattle.exb_link.specs.Links.{words_of}
+use Rattle.exb_extender.specs.Extenders.{Devices, far_of, has_extender}
+use Rattle.exb_ecp.specs.Ends.{near_of}
+use Rattle.exb_network.specs.Indices.{next_of}
 use Rattle.exb_boxes.specs.Logs.{if_tracing}
 use Rattle.exb_bridge.specs.declared.bridge.Bridge.{Bridge}
 use Rattle.exb_bridge.specs.Sites.{Site, limits_in}

@@ -12,14 +12,14 @@ ghost use Rattle.exb_machine.specs.Hearing.{asks, bridge_acknowledgement, bridge
 ghost use Rattle.exb_machine.specs.Worlds.{World, with_control};
 ghost use Rattle.exb_machine.specs.Runs.Asks.{CanGo};
 ghost use Rattle.exb_machine.specs.Runs.Sessions.{AreLow, Each};
-ghost use Rattle.exb_boxes.specs.Numbers.{IsNumber};
+ghost use Rattle.exb_model.specs.DeviceSets.{IsNumber};
 ghost use Rattle.exb_bridge.specs.Worlds.{Rest, whole, world_in, IsAt, Does};
 
 use crate::bridge::Bridge;
 use crate::room::{Buffers, Room};
 use crate::site::{Site, hung_on};
 use exb_boxes::Post;
-use exb_boxes::forms::channel_tag;
+use exb_extender::forms::channel_tag;
 use exb_boxes::log::{add_events, note_out};
 use exb_changing::Asked;
 use exb_ecp::Pdu;

@@ -6,12 +6,13 @@ ghost use Rattle.exb_ecp.specs.Machine.{new_state};
 ghost use Rattle.exb_learn.specs.Calls.{empty_table};
 ghost use Rattle.exb_learn.specs.Entries.{table_of};
 ghost use Rattle.exb_control.specs.Controls.{first_of, state_of};
-ghost use Rattle.exb_boxes.specs.Directions.{words_of};
-ghost use Rattle.exb_boxes.specs.Ends.{near_of};
+ghost use Rattle.exb_link.specs.Links.{words_of};
+ghost use Rattle.exb_ecp.specs.Ends.{near_of};
 
-use exb_boxes::{Direction, Ends};
 use exb_control::Control;
+use exb_ecp::Ends;
 use exb_learn::Learned;
+use exb_link::Direction;
 use exb_model::memory::NoMemory;
 use exb_model::setup::Setup;
 use std::alloc::Global;

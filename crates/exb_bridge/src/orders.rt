@@ -5,7 +5,7 @@ ghost use Rattle.exb_model.specs.Tree.{by_depth, hangs_at_depth, path};
 ghost use Rattle.exb_machine.specs.Settling.{deepest_first};
 ghost use Rattle.exb_bridge.specs.Sites.{AreExtenders, ArePlaces, StandsOnce};
 
-use exb_boxes::numbers::with_bit;
+use exb_model::device_set::with_bit;
 use exb_model::memory::NoMemory;
 use exb_model::port::{DEVICES, PortId};
 use exb_model::tree::Tree;

@@ -4,7 +4,7 @@ ghost use Rattle.exb_model.specs.Setup.{IsPlace, IsValid, port_at, shape_of, lim
 ghost use Rattle.exb_model.specs.Tree.{by_depth, is_extender, on};
 ghost use Rattle.exb_machine.specs.Extending.{hung_on};
 ghost use Rattle.exb_machine.specs.Settling.{deepest_first};
-ghost use Rattle.exb_boxes.specs.Numbers.{IsNumber};
+ghost use Rattle.exb_model.specs.DeviceSets.{IsNumber};
 ghost use Rattle.exb_bridge.specs.Sites.{limits_in, AreExtenders, ArePlaces};
 
 use crate::orders::{all_extenders, deepest_first, downward_places, upward_places};

@@ -3,3 +3,4 @@ pub mod Sequences
 pub mod Sound
 pub mod LineLaws
 pub mod CallLaws
+pub mod Ends

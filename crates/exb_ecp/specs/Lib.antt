@@ -3,3 +3,4 @@ pub mod Machine
 pub mod Ecp
 pub mod Calls
 pub mod Line
+pub mod Ends

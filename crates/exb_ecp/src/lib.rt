@@ -4,9 +4,11 @@
 //! is handed up is what was submitted, in order and each at most once. It stands on exb_model.
 #![tactic(auto)]
 
+pub mod ends;
 pub mod laws;
 mod pdu;
 mod stop_and_wait;
 
+pub use ends::Ends;
 pub use pdu::{EcpFault, Pdu, read, write};
 pub use stop_and_wait::{Beat, Ecp};

@@ -8,3 +8,6 @@ pub mod CodeLemmas
 pub mod KeepsLemmas
 pub mod OwnFrames
 pub mod RestingLemmas
+pub mod SidesSent
+pub mod DataFrames
+pub mod ExtendersByNumber

@@ -11,3 +11,5 @@ pub mod ControlState
 pub mod Control
 pub mod Resting
 pub mod Laws
+pub mod Forms
+pub mod Extenders

@@ -9,6 +9,8 @@
 
 mod control;
 mod extender;
+pub mod extenders;
+pub mod forms;
 mod forwarding;
 pub mod laws;
 pub mod members;
@@ -16,5 +18,6 @@ mod sends;
 mod tables;
 
 pub use extender::Extender;
+pub use extenders::Extenders;
 pub use members::MemberSets;
 pub use sends::{Entry, Form, Out, Sends, Side};

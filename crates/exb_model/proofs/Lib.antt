@@ -14,3 +14,5 @@ pub mod TreeCovered
 pub mod Validity
 pub mod FrameKinds
 pub mod LegalPlays
+pub mod NumberedTables
+pub mod DeviceSets

@@ -25,3 +25,4 @@ pub mod Traces
 pub mod ExtenderForwarding
 pub mod Carriage
 pub mod Rounds
+pub mod DeviceSets

@@ -8,6 +8,7 @@ pub mod arrival;
 pub mod buffers;
 pub mod bytes;
 pub mod command;
+pub mod device_set;
 pub mod event;
 pub mod frame_kind;
 mod layout;

@@ -15,10 +15,10 @@ use Rattle.exb_machine.specs.Hearing.{beats_control, beats_near}
 use Rattle.exb_machine.specs.Stepping.{all_extenders, beats_all, if_there}
 use Rattle.exb_machine.specs.Worlds.{World, next_beat}
 use Rattle.exb_machine.specs.Runs.Asks.{AsksWell}
-use Rattle.exb_boxes.specs.Numbers.{number_in}
+use Rattle.exb_model.specs.DeviceSets.{number_in}
 use Rattle.exb_boxes.specs.declared.log.Log.{Log}
 use Rattle.exb_bridge.specs.Worlds.{Whole}
-use Rattle.exb_boxes.specs.Devices.{Devices, state_at, far_of, has_extender, if_rests, is_there}
+use Rattle.exb_extender.specs.Extenders.{Devices, state_at, far_of, has_extender, if_rests, is_there}
 use Rattle.exb_bridge.specs.Leading.{Leads}
 use Rattle.exb_bridge.specs.Sites.{Site}
 use Rattle.exb_bridge.specs.Worlds.{world_in, IsAt, Does}

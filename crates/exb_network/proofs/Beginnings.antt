@@ -14,13 +14,13 @@ use Rattle.exb_changing.specs.Machine.{State}
 use Rattle.exb_control.specs.Controls.{state_of, first_of}
 use Rattle.exb_machine.specs.Worlds.{World, first_world}
 use Rattle.exb_bridge.specs.Worlds.{Whole}
-use Rattle.exb_boxes.specs.Devices.{far_of, first_far, has_extender}
-use Rattle.exb_boxes.specs.Directions.{words_of}
-use Rattle.exb_boxes.specs.Ends.{near_of}
-use Rattle.exb_boxes.specs.Indices.{next_of}
+use Rattle.exb_extender.specs.Extenders.{far_of, first_far, has_extender}
+use Rattle.exb_link.specs.Links.{words_of}
+use Rattle.exb_ecp.specs.Ends.{near_of}
+use Rattle.exb_network.specs.Indices.{next_of}
 use Rattle.exb_bridge.specs.Sites.{Site, limits_in}
 use Rattle.exb_bridge.specs.Worlds.{world_in, IsAt}
-use Rattle.exb_boxes.proofs.Places.{alike}
+use Rattle.exb_model.proofs.NumberedTables.{alike}
 
 abbrev world_from : State → Table → (ℕ → Ecp) → (ℕ → ExtenderState) → (ℕ → List Word) → (ℕ → List Word) → (ℕ → ℕ) → World
 world_from s u near far down up next = record { control = s; table = u; near = near; far = far; down = down; up = up; next = next; beats = 0 }

@@ -2,7 +2,7 @@
 use Rattle.std.proofs.Common.{◌≡◌, ℕ, Bool, true, false, refl, sym, ◌∙◌, arith}
 use Rattle.std.specs.Prelude.{if◌then◌else◌}
 use Rattle.exb_model.specs.Tree.{Shape, is_extender}
-use Rattle.exb_boxes.specs.Numbers.{number_in}
+use Rattle.exb_model.specs.DeviceSets.{number_in}
 use Rattle.exb_bridge.specs.Sites.{AreExtenders}
 
 abbrev pub mark : Bool → ℕ

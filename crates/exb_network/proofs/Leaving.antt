@@ -22,7 +22,7 @@ use Rattle.exb_model.proofs.TreeHung.{hung_cascade}
 use Rattle.exb_boxes.specs.declared.log.Left.{Left}
 use Rattle.exb_boxes.specs.declared.log.Log.{Log}
 use Rattle.exb_bridge.specs.Worlds.{Whole}
-use Rattle.exb_boxes.specs.Forms.{CanGo}
+use Rattle.exb_extender.specs.Forms.{CanGo}
 use Rattle.exb_bridge.specs.Leading.{Leads}
 use Rattle.exb_network.specs.Leaving.{row_sent, AreOuter, GoesBehind, IsOuter, Joins}
 use Rattle.exb_boxes.specs.Rows.{Row, ports_in, HasSome}

@@ -25,8 +25,8 @@ use Rattle.exb_machine.specs.Extending.{does, sends, reacts, takes_from_below, a
 use Rattle.exb_boxes.specs.declared.log.Log.{Log}
 use Rattle.exb_bridge.specs.Worlds.{Whole}
 use Rattle.exb_network.specs.Arrivals.{IsPortAt}
-use Rattle.exb_boxes.specs.Devices.{Devices, far_of}
-use Rattle.exb_boxes.specs.Forms.{CanGo}
+use Rattle.exb_extender.specs.Extenders.{Devices, far_of}
+use Rattle.exb_extender.specs.Forms.{CanGo}
 use Rattle.exb_bridge.specs.Sites.{Site}
 use Rattle.exb_bridge.specs.Worlds.{world_in, all_left, IsAt, Does, KeepsTrace}
 use Rattle.exb_bridge.proofs.Cores.{far_in, does_nothing}

@@ -19,7 +19,7 @@ use Rattle.exb_machine.specs.Extending.{hung_on, reacts, sends, sent_at, sent_to
 use Rattle.exb_machine.specs.Stepping.{all_extenders, if_there}
 use Rattle.exb_machine.specs.Worlds.{World, with_far}
 use Rattle.exb_model.specs.Tables.{at}
-use Rattle.exb_boxes.specs.Devices.{if_rests}
+use Rattle.exb_extender.specs.Extenders.{if_rests}
 
 -- a beat at an extender, where there is one of that number
 abbrev pub beats_at : Shape → ℕ → World → Effect

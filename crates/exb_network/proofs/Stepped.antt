@@ -21,8 +21,8 @@ use Rattle.exb_machine.proofs.Trees.{above_there}
 use Rattle.exb_boxes.specs.declared.log.Log.{Log}
 use Rattle.exb_bridge.specs.Worlds.{Whole}
 use Rattle.exb_network.specs.Arrivals.{IsPortAt}
-use Rattle.exb_boxes.specs.Directions.{words_of}
-use Rattle.exb_boxes.specs.Indices.{next_of}
+use Rattle.exb_link.specs.Links.{words_of}
+use Rattle.exb_network.specs.Indices.{next_of}
 use Rattle.exb_bridge.specs.Sites.{Site}
 use Rattle.exb_bridge.specs.Worlds.{world_in, all_left, IsAt, Does, KeepsTrace}
 use Rattle.exb_bridge.proofs.Cores.{tells_nothing}

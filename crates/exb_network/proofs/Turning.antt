@@ -9,7 +9,7 @@ use Rattle.exb_machine.specs.Worlds.{World}
 use Rattle.exb_machine.specs.Worlds.{Way as Direction}
 use Rattle.exb_link.specs.declared.word.Word.{Word}
 use Rattle.exb_network.specs.declared.busy.Turn.{Turn}
-use Rattle.exb_boxes.specs.Directions.{words_of, IsNextBusy}
+use Rattle.exb_link.specs.Links.{words_of, IsNextBusy}
 use Rattle.exb_bridge.specs.Sites.{ArePlaces}
 use Rattle.exb_network.specs.Turns.{order_of, IsEarlier, IsFirst, IsTurn}
 

@@ -8,3 +8,4 @@ pub mod Leaving
 pub mod Idle
 pub mod Lines
 pub mod Live
+pub mod Indices

@@ -8,7 +8,7 @@ use Rattle.exb_machine.specs.Worlds.{World}
 use Rattle.exb_machine.specs.Worlds.{Way as Direction}
 use Rattle.exb_machine.specs.Worlds.{Up as Upwards, Down as Downwards}
 use Rattle.exb_network.specs.declared.busy.Turn.{Turn}
-use Rattle.exb_boxes.specs.Directions.{words_of}
+use Rattle.exb_link.specs.Links.{words_of}
 
 -- up from the deepest extender, down from the bridge
 abbrev pub order_of : Shape → Direction → List ℕ

@@ -11,7 +11,7 @@ ghost use Rattle.exb_network.specs.Worlds.{world_in, IsAt, Does};
 use crate::bridging::{beat_control, beat_ends};
 use crate::site::Core;
 use crate::taking;
-use exb_boxes::numbers::first_in;
+use exb_model::device_set::first_in;
 use exb_bridge::{Room, Site};
 use exb_model::memory::NoMemory;
 

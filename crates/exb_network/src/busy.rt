@@ -2,8 +2,8 @@
 ghost use Rattle.std.specs.Prelude.{◌≡◌, ℕ, ◌≤◌, [], IfNone, IfSome, Some, length, slice_get};
 ghost use Rattle.std.specs.List.{All};
 ghost use Rattle.exb_machine.specs.Stepping.{words_on};
-ghost use Rattle.exb_boxes.specs.Directions.{words_of};
-ghost use Rattle.exb_boxes.specs.Numbers.{IsNumber};
+ghost use Rattle.exb_link.specs.Links.{words_of};
+ghost use Rattle.exb_model.specs.DeviceSets.{IsNumber};
 ghost use Rattle.exb_network.specs.Steps.{way_of};
 ghost use Rattle.exb_bridge.specs.Sites.{ArePlaces};
 ghost use Rattle.exb_network.specs.Turns.{order_of, IsEarlier, IsFirst, IsTurn};
@@ -11,7 +11,7 @@ ghost use Rattle.exb_network.specs.Worlds.{world_in};
 
 use crate::site::Core;
 use crate::step::Way;
-use exb_boxes::Direction;
+use exb_link::Direction;
 use exb_bridge::Site;
 use exb_model::port::DEVICES;
 

@@ -11,6 +11,7 @@ mod bridging;
 pub mod busy;
 pub mod counting;
 mod facts;
+mod indices;
 mod live;
 mod passing;
 mod sending;

@@ -3,8 +3,8 @@ ghost use Rattle.std.specs.Prelude.{◌≤◌, length, OnOk};
 ghost use Rattle.exb_model.specs.ETags.{stripped};
 ghost use Rattle.exb_extender.specs.Sending.{out_sent};
 ghost use Rattle.exb_machine.specs.Extending.{sends, sent_to};
-ghost use Rattle.exb_boxes.specs.Forms.{CanGo, IsSide};
-ghost use Rattle.exb_boxes.specs.Numbers.{IsNumber};
+ghost use Rattle.exb_extender.specs.Forms.{CanGo, IsSide};
+ghost use Rattle.exb_model.specs.DeviceSets.{IsNumber};
 ghost use Rattle.exb_network.specs.Worlds.{world_in, IsAt, Does};
 
 use crate::arrivals::Came;

@@ -6,15 +6,15 @@ ghost use Rattle.exb_extender.specs.Sending.{out_sent, own_sent, sent_by};
 ghost use Rattle.exb_machine.specs.Effects.{each};
 ghost use Rattle.exb_machine.specs.Extending.{hung_on, sent_at, sent_to, sends};
 ghost use Rattle.exb_machine.specs.Worlds.{moment_of};
-ghost use Rattle.exb_boxes.specs.Forms.{IsSide, CanGo};
+ghost use Rattle.exb_extender.specs.Forms.{IsSide, CanGo};
 ghost use Rattle.exb_network.specs.Leaving.{row_sent, AreOuter, GoesBehind, Joins, JoinsAt};
-ghost use Rattle.exb_boxes.specs.Numbers.{IsNumber};
+ghost use Rattle.exb_model.specs.DeviceSets.{IsNumber};
 ghost use Rattle.exb_boxes.specs.Rows.{ports_in};
 ghost use Rattle.exb_network.specs.Worlds.{whole_of, world_in, IsAt, Does};
 
 use crate::arrivals::Came;
 use crate::site::Core;
-use exb_boxes::forms::put_form;
+use exb_extender::forms::put_form;
 use exb_boxes::log::{note_out, note_row};
 use exb_boxes::{Left, Post, Row};
 use exb_bridge::{Site, hung_on};

@@ -5,8 +5,10 @@ ghost use Rattle.exb_machine.specs.Worlds.{first_world};
 ghost use Rattle.exb_bridge.specs.Sites.{Site, limits_in};
 ghost use Rattle.exb_network.specs.Worlds.{world_in, IsAt};
 
-use exb_boxes::{Direction, Extenders, Indices};
+use crate::indices::Indices;
 use exb_bridge::Bridge;
+use exb_extender::Extenders;
+use exb_link::Direction;
 use exb_model::memory::NoMemory;
 use exb_model::setup::Setup;
 use std::alloc::Global;

@@ -4,7 +4,7 @@ ghost use Rattle.exb_model.specs.Tree.{device, is_extender, port_number};
 ghost use Rattle.exb_extender.specs.Machine.{Arrives, Beats, CanTake};
 ghost use Rattle.exb_machine.specs.Extending.{arrives_at, reacts, takes_from_above, takes_from_below};
 ghost use Rattle.exb_network.specs.Arrivals.{IsPortAt};
-ghost use Rattle.exb_boxes.specs.Devices.{far_of};
+ghost use Rattle.exb_extender.specs.Extenders.{far_of};
 ghost use Rattle.exb_network.specs.Worlds.{world_in, IsAt, Does};
 
 use crate::arrivals::Came;

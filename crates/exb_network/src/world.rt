@@ -12,7 +12,7 @@ ghost use Rattle.exb_network.specs.Idle.{IsIdle};
 ghost use Rattle.exb_motion.specs.Kept.{HasVid};
 ghost use Rattle.exb_motion.specs.Runs.Settles.{MayTake};
 ghost use Rattle.exb_network.specs.Taken.{IsReached};
-ghost use Rattle.exb_boxes.specs.Numbers.{IsNumber};
+ghost use Rattle.exb_model.specs.DeviceSets.{IsNumber};
 ghost use Rattle.exb_network.specs.Steps.{way_of};
 ghost use Rattle.exb_network.specs.Turns.{order_of, IsTurn};
 ghost use Rattle.exb_network.specs.Worlds.{world_in, IsAt};

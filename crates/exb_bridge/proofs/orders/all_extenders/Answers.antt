@@ -1,6 +1,6 @@
 use Rattle.std.proofs.Common.{◌≡◌, arith, inl, inr}
 use Rattle.std.proofs.lemmas.Bool.{cases_lt}
-use Rattle.exb_boxes.proofs.Bits.{none_in_0}
+use Rattle.exb_model.proofs.DeviceSets.{none_in_0}
 use Rattle.exb_bridge.proofs.Deepest.{extender_past}
 use Rattle.exb_bridge.proofs.orders.all_extenders.Goals as goal
 

@@ -2,7 +2,7 @@ use Rattle.std.proofs.Common.{◌≡◌, ℕ, ◌<◌, ◌≤◌}
 use Rattle.std.specs.Prelude.{if◌then◌else◌}
 use Rattle.exb_model.specs.Tree.{is_extender}
 use Rattle.exb_bridge.proofs.orders.all_extenders.Given as goal
-use Rattle.exb_boxes.specs.Numbers.{number_in}
+use Rattle.exb_model.specs.DeviceSets.{number_in}
 
 -- those so far are in the set, and no others
 abbrev pub invariant-loop-number : goal.invariant-loop-number

@@ -1,8 +1,8 @@
 use Rattle.std.proofs.lemmas.Result.{on_ok_weaker}
-use Rattle.exb_boxes.specs.Devices.{far_of}
+use Rattle.exb_extender.specs.Extenders.{far_of}
 use Rattle.exb_network.specs.Worlds.{whole_of}
 use Rattle.exb_network.proofs.Reacting.{reacted_only}
-use Rattle.exb_boxes.proofs.Sides.{only_goes}
+use Rattle.exb_extender.proofs.SidesSent.{only_goes}
 use Rattle.exb_network.proofs.taking.take.Goals as goal
 
 pub pass_on-requires-clause-can : goal.pass_on-requires-clause-can

@@ -1,7 +1,0 @@
-use Rattle.exb_boxes.proofs.Fars.{waiting_is}
-use Rattle.exb_boxes.proofs.extenders.Extenders.waiting.Goals as goal
-
-pub returns : goal.returns
-returns c =
-    let d = c.self.inside in
-    rw (← c.self.view_is) (λ n. waiting_is d.ports d.extenders.items d.sending d.waiting d.passed c.self.invariant n)
