@@ -19,10 +19,11 @@ use crate::bridge::Bridge;
 use crate::room::{Buffers, Room};
 use crate::site::{Site, hung_on};
 use exb_boxes::Post;
-use exb_extender::forms::channel_tag;
 use exb_boxes::log::{add_events, note_out};
 use exb_changing::Asked;
-use exb_ecp::Pdu;
+use exb_csp::ECP_SUBTYPE;
+use exb_ecp::{PAYLOAD_AT, Pdu};
+use exb_extender::forms::channel_tag;
 use exb_frame::etag::tag_into;
 use exb_learn::Learned;
 use exb_model::address::Mac;
@@ -40,9 +41,9 @@ fn header(acknowledgement: bool, sequence: u16) -> Pdu
 {
     Pdu {
         acknowledgement,
-        subtype: 2,
+        subtype: ECP_SUBTYPE,
         sequence,
-        payload_at: 18,
+        payload_at: PAYLOAD_AT as u32,
     }
 }
 

@@ -16,9 +16,9 @@ use crate::asking::{follow, send_to_extender, spell_acknowledgement};
 use crate::bridge::Bridge;
 use crate::room::Room;
 use crate::site::Site;
-use exb_ecp::Ends;
 use exb_control::Taken;
-use exb_csp::Message;
+use exb_csp::{ECP_SUBTYPE, Message};
+use exb_ecp::{Ends, PAYLOAD_AT};
 use exb_lldp::Announce;
 use exb_model::address::Mac;
 use exb_model::memory::NoMemory;
@@ -142,14 +142,21 @@ fn hear_pdu(
     let Ok(pdu) = exb_ecp::read(frame) else {
         return Ok(());
     };
-    if pdu.subtype != 2 {
+    if pdu.subtype != ECP_SUBTYPE {
         return Ok(());
     }
     if pdu.acknowledgement {
         bridge.near.acked(number, pdu.sequence);
         return Ok(());
     }
-    hear_request(site, number, pdu.sequence, &frame[18..], room, bridge)
+    hear_request(
+        site,
+        number,
+        pdu.sequence,
+        &frame[PAYLOAD_AT..],
+        room,
+        bridge,
+    )
 }
 
 /// A control frame of an extender, without an E-TAG.

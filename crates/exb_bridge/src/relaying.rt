@@ -24,7 +24,7 @@ use crate::site::{Site, hung_on};
 use exb_boxes::log::note_out;
 use exb_boxes::{Left, Log, Post, Row};
 use exb_frame::egress::{VlanTag, egress_into, tagged_egress_into};
-use exb_frame::etag::{E_TAG_TYPE, ETag, strip_in_place, strip_into};
+use exb_frame::etag::{E_TAG_AT, E_TAG_TYPE, ETag, strip_in_place, strip_into};
 use exb_link::{BoxedWord, Stamp};
 use exb_model::arrival::Arrival;
 use exb_model::bytes::{Bytes, are_bytes, number_at};
@@ -311,7 +311,7 @@ fn has_etag_type(frame: &[u8]) -> bool
     if frame.len() < 14 {
         return false;
     }
-    number_at(frame, 12) == E_TAG_TYPE
+    number_at(frame, E_TAG_AT) == E_TAG_TYPE
 }
 
 /// A control word comes to a cascade port of the bridge, from the extender that hangs there or one below it.

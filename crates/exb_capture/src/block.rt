@@ -6,6 +6,7 @@ ghost use Rattle.exb_capture.specs.Within.{HasDigits, HasResolution, IsIn, IsHea
 use crate::fault::{Fault, Flaw, refuse};
 use crate::format::Seen;
 use crate::order::{ByteOrder, half_word_at, word_at};
+use exb_model::bytes::LONGEST_FRAME;
 
 // The numbers of the blocks that are looked into.
 const SECTION_HEADER: u32 = 0x0A0D_0D0A;
@@ -19,8 +20,6 @@ const SIMPLE_PACKET: u32 = 3;
 const SECTION_MAGIC: u32 = 0x1A2B_3C4D;
 
 const MOST_SIZE: u32 = 327_680;
-
-const MOST_BYTES: u32 = 262_144;
 
 const SECONDS: u64 = 4_294_967_296;
 
@@ -109,7 +108,7 @@ fn is_no_frame(size: u32, head: u32, n: u32) -> bool
     requires { head ≤ 32 }
     ensures { result ≡ is_no_frame size head n }
 {
-    n > MOST_BYTES || size < head + (n + 3) / 4 * 4
+    n > LONGEST_FRAME || size < head + (n + 3) / 4 * 4
 }
 
 // How many units of this resolution make a second.

@@ -7,6 +7,8 @@ ghost use Rattle.exb_capture.specs.Within.{told, IsWithin, Shows};
 use crate::fault::{Fault, Flaw};
 use crate::format::{Format, Front, Seen};
 use crate::order::{ByteOrder, half_word_at, word_at};
+use exb_model::bytes::LONGEST_FRAME;
+use exb_model::moment::SECOND;
 
 /// What a record's fraction of a second counts.
 #[derive(Clone, Copy, Drop)]
@@ -99,14 +101,14 @@ fn record_of(order: ByteOrder, resolution: Resolution, held: &[u8]) -> Front
         return Front::Bad(Fault::new(Flaw::Time, 4));
     }
     let bytes = word_at(order, head, 8);
-    if bytes > 262_144 {
+    if bytes > LONGEST_FRAME {
         return Front::Bad(Fault::new(Flaw::Length, 8));
     }
     let size = 16 + bytes;
     if held.len() < size as usize {
         return Front::Short(Fault::new(Flaw::Cut, 0));
     }
-    let moment = (word_at(order, head, 0) as u64) * 1_000_000_000 + (fraction as u64) * unit;
+    let moment = (word_at(order, head, 0) as u64) * SECOND + (fraction as u64) * unit;
     let from = 16;
     let seen = Seen {
         moment,

@@ -2,7 +2,7 @@
 ghost use Rattle.std.specs.Prelude.{◌≡◌, ◌<◌, ◌*◌, ◌^◌, ◌/◌, ◌%◌, ◌++◌, ℕ, List, length as length_of};
 ghost use Rattle.exb_model.specs.Texts.{capture_header, record_text as record_of};
 
-const SECOND: u64 = 1_000_000_000;
+use exb_model::moment::SECOND;
 
 const MICROSECOND: u64 = 1_000;
 

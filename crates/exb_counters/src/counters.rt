@@ -6,13 +6,10 @@ ghost use Rattle.exb_counters.specs.Counting.{counts_at, nothing, rest_after, pl
 
 use exb_model::event::Event;
 use exb_model::memory::NoMemory;
-use exb_model::port::PortId;
+use exb_model::port::{PORTS, PortId};
 use exb_model::setup::Setup;
 use exb_model::tree::Tree;
 use std::alloc::Global;
-
-/// How many ports bridge and extenders have at most.
-const PORTS: u16 = 4160;
 
 /// What is counted at one port.
 #[derive(Clone, Copy)]

@@ -34,3 +34,6 @@ pub use ranges::{is_channel, is_ecid};
 pub use reading::read;
 pub use session::{Answerer, Asker, Due, Taken};
 pub use writing::write;
+
+/// The subtype of ECP by which control messages travel.
+pub const ECP_SUBTYPE: u16 = 2;

@@ -10,5 +10,5 @@ mod pdu;
 mod stop_and_wait;
 
 pub use ends::Ends;
-pub use pdu::{EcpFault, Pdu, read, write};
+pub use pdu::{EcpFault, PAYLOAD_AT, Pdu, read, write};
 pub use stop_and_wait::{Beat, Ecp};

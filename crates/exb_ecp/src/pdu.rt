@@ -12,8 +12,8 @@ use exb_model::bytes::number_at;
 const ECP_TYPE: u16 = 0x8940;
 /// Where the header begins.
 const HEADER: usize = 14;
-/// Where the payload begins.
-const PAYLOAD: usize = 18;
+/// Where the payload begins in a frame.
+pub const PAYLOAD_AT: usize = 18;
 
 /// What the header of an ECP frame says.
 #[derive(Clone, Copy, Debug)]
@@ -58,7 +58,7 @@ pub fn read(frame: &[u8]) -> Result<Pdu, EcpFault>
     if !is_ecp_frame(frame) {
         return Err(EcpFault::NotEcp);
     }
-    if frame.len() < PAYLOAD {
+    if frame.len() < PAYLOAD_AT {
         return Err(EcpFault::Cut);
     }
     let header = number_at(frame, HEADER);
@@ -74,7 +74,7 @@ pub fn read(frame: &[u8]) -> Result<Pdu, EcpFault>
         acknowledgement: operation == 1,
         subtype: header % 1024,
         sequence,
-        payload_at: PAYLOAD as u32,
+        payload_at: PAYLOAD_AT as u32,
     })
 }
 

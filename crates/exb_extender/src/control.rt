@@ -13,18 +13,12 @@ ghost use Rattle.exb_extender.specs.Sending.{IsNothing, own_sent};
 
 use crate::sends::Sends;
 use crate::tables::Tables;
-use exb_csp::{Answerer, Body, Due, Message, Request};
-use exb_ecp::{Beat, Ecp, Pdu};
+use exb_csp::{Answerer, Body, Due, ECP_SUBTYPE, Message, Request};
+use exb_ecp::{Beat, Ecp, PAYLOAD_AT, Pdu};
 use exb_lldp::Announce;
 use exb_model::address::Mac;
 use exb_model::buffers::ControlBuf;
 use std::marker::Model;
-
-/// The ECP subtype of control messages.
-const SUBTYPE: u16 = 2;
-
-/// Where the payload of an ECP frame begins.
-const PAYLOAD: usize = 18;
 
 /// What an extender keeps beside its tables.
 #[derive(Drop)]
@@ -62,9 +56,9 @@ fn write_acknowledgement(number: u8, sequence: u16, out: &mut ControlBuf)
 {
     let pdu = Pdu {
         acknowledgement: true,
-        subtype: SUBTYPE,
+        subtype: ECP_SUBTYPE,
         sequence,
-        payload_at: PAYLOAD as u32,
+        payload_at: PAYLOAD_AT as u32,
     };
     exb_ecp::write(address_of(number), &pdu, &[], out);
 }
@@ -76,9 +70,9 @@ fn write_request(number: u8, sequence: u16, payload: &[u8], out: &mut ControlBuf
 {
     let pdu = Pdu {
         acknowledgement: false,
-        subtype: SUBTYPE,
+        subtype: ECP_SUBTYPE,
         sequence,
-        payload_at: PAYLOAD as u32,
+        payload_at: PAYLOAD_AT as u32,
     };
     exb_ecp::write(address_of(number), &pdu, payload, out);
 }
@@ -281,14 +275,14 @@ impl Control {
         ensures sends { own_sent sends.new.first.items ++ own_sent sends.new.second.items
             ≡ (hears_pdu (Ok pdu.now) frame.now (state_in tables.old self.old)).1 }
     {
-        if pdu.subtype != SUBTYPE {
+        if pdu.subtype != ECP_SUBTYPE {
             return;
         }
         if pdu.acknowledgement {
             self.ecp.acked(pdu.sequence);
             return;
         }
-        let (_, payload) = frame.split_at(PAYLOAD);
+        let (_, payload) = frame.split_at(PAYLOAD_AT);
         self.hear_request(tables, pdu.sequence, payload, sends);
     }
 

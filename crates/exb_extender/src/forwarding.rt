@@ -12,7 +12,7 @@ use crate::sends::{Form, Out, Side};
 use crate::tables::Tables;
 use arrayvec::ArrayVec;
 use exb_frame::classify::classify;
-use exb_frame::etag::{E_TAG_TYPE, ETag};
+use exb_frame::etag::{E_TAG_AT, E_TAG_TYPE, ETag};
 use exb_model::address::is_control_frame;
 use exb_model::bytes::number_at;
 use exb_model::frame_kind::Seen;
@@ -29,7 +29,7 @@ pub(crate) fn is_bare_control(frame: &[u8]) -> bool
     if frame.len() < 14 {
         return false;
     }
-    if number_at(frame, 12) == E_TAG_TYPE {
+    if number_at(frame, E_TAG_AT) == E_TAG_TYPE {
         return false;
     }
     is_control_frame(frame)

@@ -12,6 +12,12 @@ use exb_model::memory::NoMemory;
 /// The EtherType of an E-TAG.
 pub const E_TAG_TYPE: u16 = 0x893F;
 
+/// Where an E-TAG stands in a frame: after both addresses.
+pub const E_TAG_AT: usize = 12;
+
+/// The length of an E-TAG in bytes.
+pub const E_TAG_LENGTH: usize = 8;
+
 /// The fields of an E-TAG (after IEEE 802.1BR): the priority of the frame (PCP below 8, DEI), the E-CID of
 /// the port by which it came (below 4,096; 0 for none), and the E-CID to which it goes (below 16,384: one
 /// port's E-channel below 4,096, a group from there on).
@@ -92,5 +98,5 @@ pub fn strip_in_place(bytes: &mut Bytes)
     requires { 20 ≤ length bytes.old }
     ensures { bytes.new ≡ stripped bytes.old }
 {
-    bytes.take_out(12, 8);
+    bytes.take_out(E_TAG_AT, E_TAG_LENGTH);
 }

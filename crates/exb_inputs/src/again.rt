@@ -15,12 +15,10 @@ ghost use Rattle.exb_shelf.specs.Shelf.{Opens};
 use crate::checked::{Checked, name_of};
 use crate::fault::Fault;
 use exb_merge::Replays;
+use exb_model::moment::SECOND;
 use exb_shelf::Shelf;
 use exb_tables::Named;
 use std::alloc::Global;
-
-/// A second in nanoseconds.
-const NANOSECONDS: u64 = 1_000_000_000;
 
 /// The second of the first record of a capture, and the least of those before it.
 fn earlier(least: Option<u64>, told: Option<u64>) -> Option<u64>
@@ -29,8 +27,8 @@ fn earlier(least: Option<u64>, told: Option<u64>) -> Option<u64>
     match (least, told) {
         (None, None) => None,
         (Some(least), None) => Some(least),
-        (None, Some(first)) => Some(first / NANOSECONDS),
-        (Some(least), Some(first)) => Some(least.min(first / NANOSECONDS)),
+        (None, Some(first)) => Some(first / SECOND),
+        (Some(least), Some(first)) => Some(least.min(first / SECOND)),
     }
 }
 

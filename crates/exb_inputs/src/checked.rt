@@ -10,7 +10,7 @@ ghost use Rattle.exb_inputs.specs.Reading.{IsOfCapture};
 
 use crate::fault::{Fault, Flaw};
 use exb_capture::{ScanFault, Scanned, scan};
-use exb_model::port::PortId;
+use exb_model::port::{PORTS, PortId};
 use exb_model::text::Text;
 use exb_shelf::Shelf;
 use exb_tables::Named;
@@ -18,9 +18,6 @@ use std::alloc::Global;
 
 /// The most bytes of one capture.
 const LIMIT: u64 = 1_099_511_627_776;
-
-/// How many ports there can be.
-const PORTS: u16 = 4160;
 
 /// The capture of a port that was checked, and what was told of it.
 #[derive(Clone, Copy)]

@@ -304,10 +304,10 @@ module _ (t : Shape) (l : Limits) (T : Takes) (w0 : World) (step : Step) (R : Wo
       elim (cases_Bool (nat_lt (on t n) 64)) [
         | inl low ↦ rw low (bridge_acts n x v taken low same)
         | inr high ↦ rw high (
-          elim (cases_Bool ((v.far (device (on t n))).tables.cascade (port_number (on t n)))) [
-            | inl c ↦ rw c (k.acts (Below n x) v (taken, high, c))
-            | inr c ↦ rw c (k.nothing v)
-          ])
+            elim (cases_Bool ((v.far (device (on t n))).tables.cascade (port_number (on t n)))) [
+              | inl c ↦ rw c (k.acts (Below n x) v (taken, high, c))
+              | inr c ↦ rw c (k.nothing v)
+            ])
       ]
 
   control_kept : (n : ℕ) (way : Way) (ws : List Word) (v : World) → (with_words n way ws v).control ≡ v.control

@@ -8,6 +8,7 @@ ghost use Rattle.exb_made.specs.Pieces.{frame_of};
 use crate::draws::draw;
 use crate::orders::port_at;
 use exb_model::memory::NoMemory;
+use exb_model::moment::SECOND;
 use exb_model::port::PortId;
 use rand_pcg::Lcg64Xsh32;
 use std::alloc::Global;
@@ -17,9 +18,6 @@ const FRAMES: u32 = 1000;
 
 /// The second of the first frame.
 const FIRST_SECOND: u64 = 1000;
-
-/// A second in nanoseconds.
-const SECOND: u64 = 1_000_000_000;
 
 /// From one frame to the next within a second, in nanoseconds.
 const STEP: u64 = 1_000_000;

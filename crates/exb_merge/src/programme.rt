@@ -10,11 +10,9 @@ ghost use Rattle.exb_merge.specs.Calls.{TakesCommand, TakesNext, TakesWithin};
 
 use crate::replays::{CaptureFault, Replays};
 use exb_model::arrival::Arrival;
+use exb_model::moment::SECOND;
 use exb_model::setup::Timed;
 use exb_shelf::Shelf;
-
-/// A second in nanoseconds.
-const NANOSECONDS: u64 = 1_000_000_000;
 
 /// Whether a command comes before a record, by their moments.
 #[inline(always)]
@@ -35,7 +33,7 @@ fn is_of(moment: Option<u64>, second: u64) -> bool
 {
     match moment {
         None => false,
-        Some(moment) => moment / NANOSECONDS == second,
+        Some(moment) => moment / SECOND == second,
     }
 }
 
@@ -46,7 +44,7 @@ fn moment_after(start: u64, at: u32) -> u64
     ensures value { result ≡ (start + at) * 1000000000 }
     ensures before { result < (start + 2 ^ 32) * 1000000000 }
 {
-    (start + at as u64) * NANOSECONDS
+    (start + at as u64) * SECOND
 }
 
 /// The turn among several bridges of what has these moments, in halves of a nanosecond: that of a record is half a one

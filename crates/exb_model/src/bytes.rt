@@ -6,6 +6,9 @@ use crate::memory::NoMemory;
 use std::alloc::Global;
 use std::marker::Model;
 
+/// The most bytes that a frame has.
+pub const LONGEST_FRAME: u32 = 262_144;
+
 /// That the members of a slice are bytes, as a fact for whoever calls it. It does nothing.
 pub fn are_bytes(bytes: &[u8])
     ensures { IsBytes bytes.now }

@@ -14,6 +14,7 @@ pub mod frame_kind;
 mod layout;
 pub mod list;
 pub mod memory;
+pub mod moment;
 pub mod port;
 pub mod port_set;
 pub mod role;

@@ -25,6 +25,7 @@ use exb_inputs::Fault;
 use exb_machine::laws::steps_tell_passed;
 use exb_merge::laws::agendas_stay;
 use exb_merge::{Agenda, NetNext, Next};
+use exb_model::moment::SECOND;
 use exb_net_file::NetRest;
 use exb_net_inputs::of_member;
 use exb_schedule::WorldFault;
@@ -36,9 +37,6 @@ use exb_wiring::laws::{
 };
 use std::alloc::Global;
 use std::mem;
-
-/// A second in nanoseconds.
-const NANOSECONDS: u64 = 1_000_000_000;
 
 /// A net, and the desk of each of its bridges.
 #[derive(Drop)]
@@ -267,7 +265,7 @@ impl NetGame {
         let mut last: Option<u64> = None;
         let mut buffer = Vec::new(alloc);
         'events: while let Some(due) = next_due(alloc, shelf, rests, agenda, &mut buffer)? {
-            let second = due.next.moment() / NANOSECONDS;
+            let second = due.next.moment() / SECOND;
             let seconds = seconds_since(last, second);
             self.turn(shelf, rests, seconds, due, &mut buffer)?;
             last = Some(second);

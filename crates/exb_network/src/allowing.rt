@@ -12,11 +12,9 @@ use crate::step::{Step, Way};
 use crate::world::{is_settled, link_of};
 use exb_bridge::Site;
 use exb_model::arrival::Arrival;
+use exb_model::bytes::LONGEST_FRAME;
 use exb_model::command::Command;
 use exb_model::tree::Tree;
-
-/// How many bytes a frame has at most.
-const LONGEST: usize = 262_144;
 
 /// How many commands there are at most.
 const COMMANDS: u32 = 65_536;
@@ -36,7 +34,7 @@ fn may_arrive(site: &Site, core: &Core, arrival: &Arrival) -> bool
     site.tree().is_external(arrival.port)
         && arrival.index == core.next.next(arrival.port)
         && arrival.index < 1 << 63
-        && arrival.bytes.as_slice().len() <= LONGEST
+        && arrival.bytes.as_slice().len() <= LONGEST_FRAME as usize
 }
 
 /// Whether a data word may be taken.

@@ -11,8 +11,8 @@ ghost use Rattle.exb_network.specs.Worlds.{world_in, IsAt, Does};
 use crate::bridging::{beat_control, beat_ends};
 use crate::site::Core;
 use crate::taking;
-use exb_model::device_set::first_in;
 use exb_bridge::{Room, Site};
+use exb_model::device_set::first_in;
 use exb_model::memory::NoMemory;
 
 /// The beat passes at all extenders: first at those that rest, which send nothing, then at the others by number.

@@ -11,8 +11,8 @@ ghost use Rattle.exb_network.specs.Worlds.{world_in};
 
 use crate::site::Core;
 use crate::step::Way;
-use exb_link::Direction;
 use exb_bridge::Site;
+use exb_link::Direction;
 use exb_model::port::DEVICES;
 
 /// A direction that has a word: its place in the order in which a round goes through the directions of one way, and its

@@ -182,4 +182,3 @@ pub(crate) fn mark(site: &Site, room: &mut Room, core: &mut Core) -> Result<(), 
     core.bridge.control.has_low_serials();
     tell_rest(from, &mut room.post)
 }
-

@@ -13,6 +13,7 @@ use crate::site::Core;
 use exb_boxes::Post;
 use exb_bridge::Site;
 use exb_extender::{Form, Out, Side};
+use exb_frame::etag::{E_TAG_AT, E_TAG_LENGTH};
 use exb_link::BoxedWord;
 use exb_model::memory::NoMemory;
 
@@ -56,7 +57,7 @@ fn strip(
     requires long { 20 ≤ length word.bytes }
     ensures { OnOk result (Does (sent_to site.now.tree number word.stamp to (stripped word.bytes) (world_in core.old)) site.now core.new post.old.log post.new.log) }
 {
-    word.take_out(12, 8);
+    word.take_out(E_TAG_AT, E_TAG_LENGTH);
     send_to(site, number, to, word, core, post)
 }
 

@@ -14,10 +14,10 @@ ghost use Rattle.exb_network.specs.Worlds.{whole_of, world_in, IsAt, Does};
 
 use crate::arrivals::Came;
 use crate::site::Core;
-use exb_extender::forms::put_form;
 use exb_boxes::log::{note_out, note_row};
 use exb_boxes::{Left, Post, Row};
 use exb_bridge::{Site, hung_on};
+use exb_extender::forms::put_form;
 use exb_extender::{Form, Out, Sends, Side};
 use exb_frame::etag::strip_into;
 use exb_link::{BoxedWord, Stamp};

@@ -6,7 +6,7 @@ ghost use Rattle.exb_words.specs.Kinds.{place_behind};
 ghost use Rattle.exb_outputs.specs.Manifests.{ArePlaced, kind_at, output_count, place_in, port_at, port_count};
 
 use exb_model::memory::NoMemory;
-use exb_model::port::PortId;
+use exb_model::port::{PORTS, PortId};
 use exb_model::setup::Setup;
 use exb_model::text::Text;
 use exb_model::tree::Tree;
@@ -14,9 +14,6 @@ use exb_text::Output;
 use exb_words::{Kinds, Options};
 use std::alloc::Global;
 use std::marker::Model;
-
-/// How many ports bridge and extenders have at most.
-const PORTS: u16 = 4160;
 
 /// The external ports of a tree, and the place of each among them.
 #[derive(Drop)]

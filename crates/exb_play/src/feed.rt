@@ -7,12 +7,10 @@ ghost use Rattle.exb_play.specs.UnderWay.{CanFeed, HasTakenSecond, IsGathered, I
 use crate::script::Schedule;
 use exb_merge::{CaptureFault, Next, Programme};
 use exb_model::arrival::Arrival;
+use exb_model::moment::SECOND;
 use exb_shelf::Shelf;
 use std::alloc::Global;
 use std::mem;
-
-/// A second in nanoseconds.
-const NANOSECONDS: u64 = 1_000_000_000;
 
 /// What is still to come, what came of it for one segment, and what came for the one before, of which the buffers are used again.
 #[derive(Drop)]
@@ -85,11 +83,11 @@ impl Feed<'_> {
     {
         match self.programme.next(shelf, buffer)? {
             Some(Next::Record(came)) => {
-                let second = came.moment / NANOSECONDS;
+                let second = came.moment / SECOND;
                 put(&mut self.gathered, came)?;
                 Ok(Some(second))
             }
-            Some(Next::Command { moment, .. }) => Ok(Some(moment / NANOSECONDS)),
+            Some(Next::Command { moment, .. }) => Ok(Some(moment / SECOND)),
             None => Ok(None),
         }
     }

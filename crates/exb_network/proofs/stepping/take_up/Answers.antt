@@ -17,8 +17,7 @@ take-requires g c =
     let tree : IsTree t = subst IsTree c.tree.ensures c.is_tree.ensures in
     let is : c.place-bridge_port.result + 1 - 1 ≡ on t n = let a = c.on-port.ensures in let b = c.device.ensures.value in let z = c.if-device-eq0.true in let p = c.place-bridge_port.ensures.value in omega (arith, a, b, z, p) in
     let first : 1 ≤ c.place-bridge_port.result + 1 = search rules in
-    let last : c.place-bridge_port.result + 1 ≤ 64 = search rules in
-    (
+    let last : c.place-bridge_port.result + 1 ≤ 64 = search rules in (
       subst (λ (r : Rest). IsAt c.args.site.now (whole r c.args.core.now.bridge)) (sym c.requires.0) c.requires.1.0,
       (first, (last, (subst (HangsOn t n) (sym is) (hung t tree n c.requires.1.1.0), subst (λ (r : Rest). AsksWell t (limits_in c.args.site.now) (world_in (whole r c.args.core.now.bridge)).control) (sym c.requires.0) c.requires.1.1.1))),
     )
