@@ -3,10 +3,10 @@
 //! port, followed by what is owed to it, is what the one bridge sends there, and the links are clean. No code stands here
 //! but laws.
 //!
-//! `specs`: `Tokens` (words as items), `Showing` (the relation), `Flying` (the simulation, by kind of step), `Promises`.
-//! `proofs`: `Items`, `Keys` (tokens), `Pushing`, `Sending`, `Owning`, `Passing` (control words that are sent), `Telling`,
-//! `Movings` (steps of the machine of changes), `Flying`, `Beating`, `Executing`, `Hearing`, `Controlling`, `Relaying`,
-//! `Arriving`, `Carrying`, `Descending`, `Falling` (the kinds of steps), `Standing`, `Promising` (the promises over runs).
+//! `specs`: `Tokens` (words as items), `SimulationRelation` (the relation), `Simulation` (the simulation, by kind of step), `Promises`.
+//! `proofs`: `Items`, `TokenKeys` (tokens), `PushedTokens`, `SimulatedRequests`, `OwnControlFrames`, `ForwardedControlFrames` (control words that are sent), `DownEvents`,
+//! `SimulatedControl` (steps of the machine of changes), `SimulatedTicks`, `SimulatedBeats`, `SimulatedExecution`, `SimulatedAnswers`, `SimulatedDeliveries`, `SimulatedRelay`,
+//! `SimulatedArrivals`, `SimulatedAscents`, `DownwardCopies`, `SimulatedDescents` (the kinds of steps), `KeptPromises`, `WorldPromises` (the promises over runs).
 #![tactic(auto)]
 
 pub mod laws;

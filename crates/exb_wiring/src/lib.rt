@@ -3,8 +3,8 @@
 //! stands here but laws. Upwards it promises just that, for every run in which each event settles by moves, whatever words are
 //! lost, repeated and overtaken; it stands on the nets of `exb_nets` and on worlds in motion (`exb_motion`).
 //!
-//! `specs`: `Playing` (runs of several worlds), `Laws`. `proofs`: `Bridges` (one world after any steps), `Handling` (it is given
-//! something), `Opening`, `Nets` (queues and events).
+//! `specs`: `NetRuns` (runs of several worlds), `NetRunLaws`. `proofs`: `BridgeRuns` (one world after any steps), `Handling` (it is given
+//! something), `Opening`, `NetRunLaws` (queues and events).
 #![tactic(auto)]
 
 pub mod laws;
