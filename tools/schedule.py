@@ -34,7 +34,7 @@ BEHIND, WEIGHT = 10, 110 / 1024
 # in an order for which the plan had 24.9 by the seconds that it measured; one of 16.0 had 16.3 by those that tools/seconds.txt is made of.
 FASTER = {1: 1, 2: 1.25, 3: 1.45, 4: 1.6}
 DEARER = {1: 1, 2: 1.2, 3: 1.35, 4: 1.5}
-# What a proof takes of the memory that rt plans for it, at most (1.0 GB of 3.8 for exb_topology, 2.9 of 7.4 for exb_network), and for each further process.
+# What a proof takes of the memory that rt plans for it, at most (1.0 GB of 3.8 for exb_topology, 2.9 of 7.4 for exb_world), and for each further process.
 OF_PLAN, MORE = 0.5, 0.6
 NO_SCHEDULER = 3
 

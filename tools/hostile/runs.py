@@ -1,5 +1,5 @@
 """Four whole runs, by their files: a bridge alone, a tree with commands, and a lossy tree in a drawn order with a trace, which are
-those of which the tests of `exb_trials` disturb each call; and a net of two bridges with commands and lossy links."""
+those of which the tests of `exb_run_tests` disturb each call; and a net of two bridges with commands and lossy links."""
 import struct
 
 BROADCAST, FIRST, SECOND = (bytes.fromhex(digits) for digits in ("ff" * 6, "020000000001", "020000000002"))

@@ -6,13 +6,13 @@ use Rattle.exb_model.specs.FlatBridge.{Sent, flat}
 use Rattle.exb_model.specs.Input.{Record, basis_of, tree_of}
 use Rattle.exb_model.specs.Texts.{capture_text}
 use Rattle.exb_capture.specs.Classic.{pcap_records}
-use Rattle.exb_capture.specs.Written.{CanBeWritten, in_microseconds}
-use Rattle.exb_legal.specs.Decided.{AllAreJudged}
-use Rattle.exb_legal.specs.Reading.{Each}
-use Rattle.exb_legal.specs.Spelled.{HasBytes, LegalLinesAreSpelled}
-use Rattle.exb_legal.specs.TextLaws.{IsOfNumbers, JournalsAreLines, TracesReadBack}
+use Rattle.exb_capture.specs.OutputCaptures.{CanBeWritten, in_microseconds}
+use Rattle.exb_trace_spec.specs.CheckerLaws.{AllAreJudged}
+use Rattle.exb_trace_spec.specs.Traversals.{Each}
+use Rattle.exb_trace_spec.specs.WritableLines.{HasBytes, LegalLinesAreSpelled}
+use Rattle.exb_trace_spec.specs.RoundTrips.{IsOfNumbers, JournalsAreLines, TracesReadBack}
 use Rattle.exb_audit.specs.Audits.{files_of, RunsAreAudited}
-use Rattle.exb_audit.specs.Written.{FlatCanBeWritten}
+use Rattle.exb_audit.specs.FlatCaptures.{FlatCanBeWritten}
 
 each_of : {A : Type 0} (P : A → Type 0) (xs : List A) → All P xs → Each P xs
 each_of P [] k = tt

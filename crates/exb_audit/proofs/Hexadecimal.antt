@@ -3,8 +3,8 @@ use Rattle.std.proofs.Common.{◌≡◌, ℕ, ◌+◌, ◌*◌, ◌<◌, ◌%◌
 use Rattle.std.specs.Prelude.{option_map, option_and_then}
 use Rattle.std.proofs.lemmas.Bool.{cases_eq, eq-eqb, ne_eqb}
 use Rattle.std.proofs.lemmas.List.{drop_more, drop_all}
-use Rattle.exb_legal.specs.LineTexts.{byte_in, bytes_in}
-use Rattle.exb_audit.specs.Words.{HasRead}
+use Rattle.exb_trace_spec.specs.TraceTexts.{byte_in, bytes_in}
+use Rattle.exb_audit.specs.LineWords.{HasRead}
 
 -- the rest of two digits
 pub more : (hex : List ℕ) (i : ℕ) → i < length hex / 2 →

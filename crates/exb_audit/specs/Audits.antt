@@ -8,16 +8,16 @@ use Rattle.exb_model.specs.Texts.{capture_text, journal_text}
 use Rattle.exb_model.specs.Traces.{TraceLine, trace_text}
 use Rattle.exb_model.specs.Tree.{Shape, is_external}
 use Rattle.exb_capture.specs.Classic.{pcap_records}
-use Rattle.exb_legal.specs.Decided.{AreFiles}
-use Rattle.exb_legal.specs.Deciding.{judged}
-use Rattle.exb_legal.specs.Entries.{entry_in, journal_of}
-use Rattle.exb_legal.specs.Inputs.{frames_in, frames_out, RelayFits}
-use Rattle.exb_legal.specs.LineTexts.{read_trace}
-use Rattle.exb_legal.specs.Reading.{Each}
-use Rattle.exb_legal.specs.Rules.{Files, IsLegal}
-use Rattle.exb_legal.specs.Spelled.{HasBytes, IsSmall}
-use Rattle.exb_legal.specs.TextLaws.{IsOfNumbers}
-use Rattle.exb_legal.specs.TextReading.{lines_in}
+use Rattle.exb_trace_spec.specs.CheckerLaws.{AreFiles}
+use Rattle.exb_trace_spec.specs.TraceChecker.{judged}
+use Rattle.exb_trace_spec.specs.JournalLines.{entry_in, journal_of}
+use Rattle.exb_trace_spec.specs.InputFrames.{frames_in, frames_out, RelayFits}
+use Rattle.exb_trace_spec.specs.TraceTexts.{read_trace}
+use Rattle.exb_trace_spec.specs.Traversals.{Each}
+use Rattle.exb_trace_spec.specs.Rules.{Files, IsLegal}
+use Rattle.exb_trace_spec.specs.WritableLines.{HasBytes, IsSmall}
+use Rattle.exb_trace_spec.specs.RoundTrips.{IsOfNumbers}
+use Rattle.exb_trace_spec.specs.TextFields.{lines_in}
 
 -- the frames that a file of records gives, if it is one
 pub record HoldsFrames (file : List ℕ) (frames : List (List ℕ)) : Type 0 where

@@ -1,8 +1,8 @@
 //! Facts of the types of what a run writes.
 ghost use Rattle.std.specs.Prelude.{All};
-ghost use Rattle.exb_legal.specs.Entries.{IsCounted};
-ghost use Rattle.exb_legal.specs.Spelled.{HasBytes};
-ghost use Rattle.exb_legal.specs.TextLaws.{IsOfNumbers};
+ghost use Rattle.exb_trace_spec.specs.JournalLines.{IsCounted};
+ghost use Rattle.exb_trace_spec.specs.WritableLines.{HasBytes};
+ghost use Rattle.exb_trace_spec.specs.RoundTrips.{IsOfNumbers};
 
 use exb_model::bytes::are_bytes;
 use exb_model::event::{Cause, Event};

@@ -4,20 +4,20 @@
 //! switch they use no code but the extender's machine, which rule 2 names, and what tells an E-TAG.
 #![tactic(auto)]
 
-mod capturing;
-mod entering;
-mod entries;
 pub mod facts;
 mod frames;
-mod judging;
+mod journal_lines;
+mod judgement;
 pub mod laws;
-mod lines;
-mod linking;
-mod places;
-mod watching;
-mod words;
+mod line_words;
+mod rule1_places;
+mod rule2_extenders;
+mod rule3_links;
+mod rule4_captures;
+mod rule5_relays;
+mod trace_lines;
 
-pub use entries::is_entry;
 pub use frames::PortFrames;
-pub use judging::{Judged, judge};
-pub use lines::read_line;
+pub use journal_lines::is_entry;
+pub use judgement::{Judged, judge};
+pub use trace_lines::read_line;

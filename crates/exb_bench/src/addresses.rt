@@ -12,21 +12,21 @@ use std::time::{Clock, Instant};
 
 /// How an address is made of its number: what that is multiplied by, and the last byte.
 #[derive(Clone, Copy)]
-struct Form {
+struct AddressForm {
     factor: u32,
     last: u8,
 }
 
 /// The number stands at the end, but for one byte.
-const SPREAD: Form = Form { factor: 1, last: 1 };
+const SPREAD: AddressForm = AddressForm { factor: 1, last: 1 };
 
 /// It stands before two bytes that are 0.
-const ALIKE: Form = Form {
+const ALIKE: AddressForm = AddressForm {
     factor: 256,
     last: 0,
 };
 
-fn address(form: Form, number: u32) -> Mac
+fn address(form: AddressForm, number: u32) -> Mac
     ensures { is_group result.0 ≡ false }
 {
     let [first, second, third, fourth] = number.wrapping_mul(form.factor).to_be_bytes();
@@ -34,19 +34,24 @@ fn address(form: Form, number: u32) -> Mac
 }
 
 // The address with a number is seen at a port.
-fn see(learned: &mut Learned, form: Form, number: u32, port: PortId) -> Result<(), NoMemory> {
+fn see(
+    learned: &mut Learned,
+    form: AddressForm,
+    number: u32,
+    port: PortId,
+) -> Result<(), NoMemory> {
     learned.reserve()?;
     learned.see(Vid::default(), address(form, number), port);
     Ok(())
 }
 
 // The same at one of 64 ports.
-fn see_there(learned: &mut Learned, form: Form, number: u32) -> Result<(), NoMemory> {
+fn see_there(learned: &mut Learned, form: AddressForm, number: u32) -> Result<(), NoMemory> {
     see(learned, form, number, PortId::at(1, (number % 64) as u8))
 }
 
 // So many addresses are seen.
-fn fill(learned: &mut Learned, form: Form, count: u32) -> Result<(), NoMemory> {
+fn fill(learned: &mut Learned, form: AddressForm, count: u32) -> Result<(), NoMemory> {
     for number in 0..count {
         see_there(learned, form, number)?;
     }
@@ -59,7 +64,12 @@ fn next(chance: u32) -> u32 {
 }
 
 // How many look-ups found a port, and how many entries are held.
-fn turns(learned: &mut Learned, form: Form, count: u32, times: u32) -> Result<u64, NoMemory> {
+fn turns(
+    learned: &mut Learned,
+    form: AddressForm,
+    count: u32,
+    times: u32,
+) -> Result<u64, NoMemory> {
     fill(learned, form, count)?;
     let count = count.max(1);
     let (mut chance, mut found) = (1u32, 0u64);

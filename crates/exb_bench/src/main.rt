@@ -15,9 +15,9 @@
 #![tactic(auto)]
 
 mod addresses;
+mod link_frames;
 mod setups;
 mod vlans;
-mod words;
 
 use exb_model::memory::NoMemory;
 use std::alloc::Global;
@@ -38,7 +38,7 @@ fn counted(alloc: Global, what: &str, count: u32, times: u32) -> Result<u64, NoM
 fn does(rt: &HostRuntime, what: &str, count: u32, times: u32) -> bool {
     let alloc = rt.alloc();
     match what {
-        "take" => words::take(alloc, count.min(64) as u8, times).unwrap_or(0) > 0,
+        "take" => link_frames::take(alloc, count.min(64) as u8, times).unwrap_or(0) > 0,
         "spread" | "alike" => addresses::measured(rt, alloc, what, count, times).is_some(),
         "tick" | "forget" => match addresses::measured(rt, alloc, what, count, times) {
             Some(taken) => println!(rt; "{taken}").is_ok(),

@@ -1,11 +1,11 @@
 //! Changes of a port where there are many VLANs, each with a set of its own.
 ghost use Rattle.std.specs.Prelude.{◌≡◌, ◌<◌, true, IsSome};
-ghost use Rattle.exb_changing.specs.Fitting.{Fits};
+ghost use Rattle.exb_control_spec.specs.JobsOfTree.{Fits};
 ghost use Rattle.exb_control.specs.ActiveConfigs.{IsPrepared, IsInForce};
 
 use crate::setups::hang;
-use exb_changing::Job;
 use exb_control::{ActiveConfig, Stage};
+use exb_control_spec::Job;
 use exb_model::command::Command;
 use exb_model::memory::NoMemory;
 use exb_model::port::PortId;
@@ -21,7 +21,7 @@ const SPARE: u8 = 13;
 
 /// What a command does with a port.
 #[derive(Clone, Copy)]
-enum Doing {
+enum PortChange {
     /// It becomes a tagged member of VLAN 1.
     Join,
     /// It is none any more.
@@ -115,17 +115,17 @@ fn play(active: &mut ActiveConfig, job: &Job) -> Result<u64, NoMemory>
 }
 
 // Carries out a command on a port, if it is an external one.
-fn order(active: &mut ActiveConfig, port: PortId, doing: Doing) -> Result<u64, NoMemory> {
+fn order(active: &mut ActiveConfig, port: PortId, doing: PortChange) -> Result<u64, NoMemory> {
     if !active.tree().is_external(port) {
         return Ok(0);
     }
     let vid = Vid::default();
     let kind = Kind::Tagged;
     let command = match doing {
-        Doing::Join => Command::Member { vid, port, kind },
-        Doing::Leave => Command::Unmember { vid, port },
-        Doing::Rise => Command::Up { port },
-        Doing::Fall => Command::Down { port },
+        PortChange::Join => Command::Member { vid, port, kind },
+        PortChange::Leave => Command::Unmember { vid, port },
+        PortChange::Rise => Command::Up { port },
+        PortChange::Fall => Command::Down { port },
     };
     play(active, &Job::Ordered { number: 1, command })
 }
@@ -133,7 +133,7 @@ fn order(active: &mut ActiveConfig, port: PortId, doing: Doing) -> Result<u64, N
 // The ports go up.
 fn raise(active: &mut ActiveConfig) -> Result<(), NoMemory> {
     for place in 0..SPARE + 1 {
-        order(active, port(place), Doing::Rise)?;
+        order(active, port(place), PortChange::Rise)?;
     }
     Ok(())
 }
@@ -142,8 +142,8 @@ fn raise(active: &mut ActiveConfig) -> Result<(), NoMemory> {
 fn turns(
     active: &mut ActiveConfig,
     of: PortId,
-    first: Doing,
-    second: Doing,
+    first: PortChange,
+    second: PortChange,
     times: u32,
 ) -> Result<u64, NoMemory> {
     let mut asks = 1u64;
@@ -158,9 +158,21 @@ fn turns(
 fn changes(active: &mut ActiveConfig, what: &str, times: u32) -> Result<u64, NoMemory> {
     raise(active)?;
     if what == "member" {
-        turns(active, port(SPARE), Doing::Join, Doing::Leave, times)
+        turns(
+            active,
+            port(SPARE),
+            PortChange::Join,
+            PortChange::Leave,
+            times,
+        )
     } else {
-        turns(active, port(IN_ALL), Doing::Fall, Doing::Rise, times)
+        turns(
+            active,
+            port(IN_ALL),
+            PortChange::Fall,
+            PortChange::Rise,
+            times,
+        )
     }
 }
 

@@ -3,22 +3,22 @@ use Rattle.std.proofs.Common.{◌≡◌, ℕ, ◌+◌, ◌-◌, ◌<◌, ◌≤�
 use Rattle.std.specs.Prelude.{if◌then◌else◌, is_none, Option, Some}
 use Rattle.std.proofs.lemmas.Bool.{and_parts, false≢true}
 use Rattle.exb_model.specs.Tree.{Shape, is_extender}
-use Rattle.exb_changing.specs.Machine.{Moved, State, Work, beats_in, still}
+use Rattle.exb_control_spec.specs.Machine.{Moved, State, Work, beats_in, still}
 use Rattle.exb_control.specs.Controls.{is_settled}
 use Rattle.exb_control.specs.Queues.{is_empty}
-use Rattle.exb_machine.specs.Effects.{only, each}
-use Rattle.exb_machine.specs.Hearing.{beats_control, beats_near, moves}
-use Rattle.exb_machine.specs.Stepping.{all_extenders, if_there}
-use Rattle.exb_machine.specs.Worlds.{World}
-use Rattle.exb_boxes.specs.declared.log.Log.{Log}
+use Rattle.exb_world_spec.specs.Effects.{only, each}
+use Rattle.exb_world_spec.specs.ControlFrames.{beats_control, beats_near, moves}
+use Rattle.exb_world_spec.specs.Steps.{all_extenders, if_there}
+use Rattle.exb_world_spec.specs.Worlds.{World}
+use Rattle.exb_outbox.specs.declared.log.Log.{Log}
 use Rattle.exb_ecp.specs.Ends.{near_of}
-use Rattle.exb_bridge.specs.Leading.{Leads}
-use Rattle.exb_bridge.specs.Sites.{Site}
-use Rattle.exb_bridge.specs.Worlds.{Whole, world_in, IsAt, Does}
-use Rattle.exb_bridge.proofs.Cores.{tells_nothing}
-use Rattle.exb_bridge.proofs.Doing.{leads_first}
-use Rattle.exb_bridge.proofs.Loops.{numbers_lead, numbers_told, numbers_skip}
-use Rattle.exb_bridge.proofs.Again.{idle_near}
+use Rattle.exb_bridge.specs.RemainingEffects.{Leads}
+use Rattle.exb_bridge.specs.TreeIndexes.{Site}
+use Rattle.exb_bridge.specs.BridgeWorlds.{Whole, world_in, IsAt, Does}
+use Rattle.exb_bridge.proofs.PartChanges.{tells_nothing}
+use Rattle.exb_bridge.proofs.RemainingEffects.{leads_first}
+use Rattle.exb_bridge.proofs.EffectLoops.{numbers_lead, numbers_told, numbers_skip}
+use Rattle.exb_bridge.proofs.Resends.{idle_near}
 
 -- ---- the ends that are left, from a number on
 pub record NearLeft (t : Shape) (s : Site) (w : World) (old : Log) (n : ℕ) (c : Whole) (log : Log) : Type 0 where

@@ -14,21 +14,21 @@ use Rattle.exb_model.specs.Configuration.{Bridge}
 use Rattle.exb_model.specs.Learning.{Look, passes}
 use Rattle.exb_model.specs.Targets.{target}
 use Rattle.exb_model.specs.Refusals.{Source, part, without_isolated, is_empty_set, bridge_ports}
-use Rattle.exb_relay.specs.declared.choice.Choice.{Choice}
-use Rattle.exb_relay.specs.declared.choice.Choice.TheVariants as chosen
+use Rattle.exb_relay.specs.declared.choice.EgressChoice.{EgressChoice}
+use Rattle.exb_relay.specs.declared.choice.EgressChoice.TheVariants as chosen
 use Rattle.exb_relay.specs.declared.send.SendTo.{SendTo}
 use Rattle.exb_relay.specs.Choices.{choice}
 use Rattle.exb_model.specs.Numbers.{Numbers, IsNumbering}
 use Rattle.exb_relay.specs.Spaces.{numbers_of}
 use Rattle.exb_relay.specs.Sends.{or_zero, ingress_at, etag_to, word_to, words_to, set_for, group_word, group_words, channel_word, words_down, local_send, sends_at, sends_in, sends_of}
-use Rattle.exb_relay.proofs.Under.{under_extended, under_trunk, home_low, under_cascade}
-use Rattle.exb_relay.proofs.Words.{tag_fits}
+use Rattle.exb_relay.proofs.PortsBelow.{under_extended, under_trunk, home_low, under_cascade}
+use Rattle.exb_relay.proofs.TaggedFrames.{tag_fits}
 use Rattle.exb_numbers.specs.Channels.{channel_of}
 use Rattle.exb_numbers.specs.Groups.{group_of}
 use Rattle.exb_numbers.specs.Spaces.{Spaces}
-use Rattle.exb_model.specs.Numbering.{is_port}
-use Rattle.exb_changing.specs.Plans.Held.{Held, channel_in, group_in, in_spaces, is_place, numbers_in}
-use Rattle.exb_plan.specs.Spaces.{held_by}
+use Rattle.exb_model.specs.LowestFree.{is_port}
+use Rattle.exb_control_spec.specs.Plans.HeldNumbers.{Held, channel_in, group_in, in_spaces, is_place, numbers_in}
+use Rattle.exb_plan.specs.SpaceContents.{held_by}
 use Rattle.exb_bridge.specs.Sends.{CanSend}
 
 -- ---- it can be sent
@@ -55,7 +55,7 @@ module _ (t : Shape) (b : Bridge) (look : Look) (m : Numbers) (numb : IsNumberin
   can_channel k r None low = All-nil CanSend
   can_channel k r (Some kind) low = can_words k kind (m.channel k r) low (λ n is. let s = numb.small k r n is in omega (arith, s))
 
-  can_down : (v k : ℕ) (c : Choice) → k < 64 → All CanSend (words_down t b look m p f v c k)
+  can_down : (v k : ℕ) (c : EgressChoice) → k < 64 → All CanSend (words_down t b look m p f v c k)
   can_down v k chosen.All low = can_groups v k (λ q. true) low
   can_down v k (chosen.Listed ports) low = can_groups v k (port_in ports) low
   can_down v k (chosen.Learned r) low = by_under (is_under t k r) (channel_word t m p f k r (target b look p f r)) (can_channel k r (target b look p f r) low)
@@ -114,7 +114,7 @@ module _ (t : Shape) (b : Bridge) (look : Look) (p : ℕ) (f : List ℕ) (m n : 
   channel_same r None = refl
   channel_same r (Some kind) = words_same kind (m.channel k r) ∙ ap (λ (c : ℕ → Option ℕ). words_to t n p f k kind (c r)) channels
 
-  down_same : (c : Choice) → words_down t b look m p f v c k ≡ words_down t b look n p f v c k
+  down_same : (c : EgressChoice) → words_down t b look m p f v c k ≡ words_down t b look n p f v c k
   down_same chosen.All = groups_same (λ q. true)
   down_same (chosen.Listed ports) = groups_same (port_in ports)
   down_same (chosen.Learned r) = ap (λ (ws : List SendTo). if is_under t k r then ws else []) (channel_same r (target b look p f r))
@@ -147,7 +147,7 @@ module _ (t : Shape) (b : Bridge) (look : Look) (p : ℕ) (f : List ℕ) (m : Nu
   groups_none : (among : ℕ → Bool) → group_words t b m p f v among k ≡ []
   groups_none among = rw (group_none among Tagged, group_none among Untagged) refl
 
-  down_none : (c : Choice) → words_down t b look m p f v c k ≡ []
+  down_none : (c : EgressChoice) → words_down t b look m p f v c k ≡ []
   down_none chosen.All = groups_none (λ q. true)
   down_none (chosen.Listed ports) = groups_none (port_in ports)
   down_none (chosen.Learned r) = ap (λ (e : Bool). if e then channel_word t m p f k r (target b look p f r) else []) (bare r)
@@ -186,7 +186,7 @@ module _ (t : Shape) (tree : IsTree t) (s : Spaces) where
       (fun_ext (λ g. by_place (is_place t k) ((held_by s).set k g) [] place)))
 
   module _ (b : Bridge) (look : Look) (p : ℕ) (f : List ℕ) where
-    down_as : (v k : ℕ) (c : Choice) → words_down t b look (numbers_in held) p f v c k ≡ words_down t b look (numbers_of s) p f v c k
+    down_as : (v k : ℕ) (c : EgressChoice) → words_down t b look (numbers_in held) p f v c k ≡ words_down t b look (numbers_of s) p f v c k
     down_as v k c =
         elim (cases_Bool (is_place t k)) [
           | inl place ↦ down_same t b look p f (numbers_in held) (numbers_of s) v k (held_channels k place) (held_groups k place) c

@@ -1,4 +1,4 @@
-pub mod Sites
-pub mod Worlds
-pub mod Leading
+pub mod TreeIndexes
+pub mod BridgeWorlds
+pub mod RemainingEffects
 pub mod Sends

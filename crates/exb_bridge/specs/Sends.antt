@@ -17,12 +17,12 @@ use Rattle.exb_frame.specs.TagValues.{tag_of}
 use Rattle.exb_relay.specs.declared.send.Ingress.{Ingress}
 use Rattle.exb_relay.specs.declared.send.Ingress.TheVariants as ingress
 use Rattle.exb_relay.specs.declared.send.SendTo.{SendTo}
-use Rattle.exb_machine.specs.Controls.{taught}
-use Rattle.exb_machine.specs.Effects.{Effect, only, then_do}
-use Rattle.exb_machine.specs.Relaying.{passed_by, sends_all, sends_for}
-use Rattle.exb_machine.specs.Worlds.{World, with_table}
-use Rattle.exb_boxes.specs.declared.log.Log.{Log}
-use Rattle.exb_bridge.specs.Worlds.{KeepsTrace}
+use Rattle.exb_world_spec.specs.BridgeLearning.{taught}
+use Rattle.exb_world_spec.specs.Effects.{Effect, only, then_do}
+use Rattle.exb_world_spec.specs.DataFrames.{passed_by, sends_all, sends_for}
+use Rattle.exb_world_spec.specs.Worlds.{World, with_table}
+use Rattle.exb_outbox.specs.declared.log.Log.{Log}
+use Rattle.exb_bridge.specs.BridgeWorlds.{KeepsTrace}
 
 -- it is at a port of the bridge, and its E-TAG, if it has one, can be written
 pub record CanSend (x : SendTo) : Type 0 where

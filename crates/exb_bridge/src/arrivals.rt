@@ -1,13 +1,13 @@
 //! Frames that arrive.
 ghost use Rattle.std.specs.Prelude.{◌≡◌, ◌++◌, ◌∷◌, [], OnOk};
-ghost use Rattle.exb_machine.specs.Extending.{stamp_of};
-ghost use Rattle.exb_bridge.specs.Worlds.{KeepsTrace};
+ghost use Rattle.exb_world_spec.specs.ExtenderSteps.{stamp_of};
+ghost use Rattle.exb_bridge.specs.BridgeWorlds.{KeepsTrace};
 
-use exb_boxes::Log;
 use exb_link::Stamp;
 use exb_model::arrival::Arrival;
 use exb_model::event::Event;
 use exb_model::memory::NoMemory;
+use exb_outbox::Log;
 
 /// The stamp of the words of an arrival.
 #[inline(always)]

@@ -2,7 +2,7 @@
 //! from it.
 ghost use Rattle.std.specs.Prelude.{◌≡◌, [], false, IfOk};
 ghost use Rattle.exb_model.specs.Setup.{IsValid, limits_of, shape_of};
-ghost use Rattle.exb_ecp.specs.Machine.{new_state};
+ghost use Rattle.exb_ecp.specs.StopAndWait.{new_state};
 ghost use Rattle.exb_learn.specs.Calls.{empty_table};
 ghost use Rattle.exb_learn.specs.Entries.{table_of};
 ghost use Rattle.exb_control.specs.Controls.{first_of, state_of};
@@ -12,7 +12,7 @@ ghost use Rattle.exb_ecp.specs.Ends.{near_of};
 use exb_control::Control;
 use exb_ecp::Ends;
 use exb_learn::Learned;
-use exb_link::Direction;
+use exb_link::Links;
 use exb_model::memory::NoMemory;
 use exb_model::setup::Setup;
 use std::alloc::Global;
@@ -26,7 +26,7 @@ pub struct Bridge {
     /// The bridge's end of the transport with each extender.
     pub near: Ends,
     /// The words on their way down to each extender.
-    pub down: Direction,
+    pub down: Links,
 }
 
 impl Drop for Bridge {
@@ -53,7 +53,7 @@ impl Bridge {
         ensures down { IfOk result (λ made. words_of made.down ≡ λ n. []) }
     {
         let near = Ends::new(alloc)?;
-        let down = Direction::new(alloc)?;
+        let down = Links::new(alloc)?;
         let control = Control::new(alloc, setup)?;
         Ok(Bridge {
             control,

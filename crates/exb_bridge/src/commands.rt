@@ -1,16 +1,16 @@
 //! What the bridge is given: commands, and seconds that pass.
 ghost use Rattle.std.specs.Prelude.{◌<◌, ◌+◌, ◌^◌, OnOk};
 ghost use Rattle.exb_model.specs.Setup.{NamesExternal};
-ghost use Rattle.exb_machine.specs.Stepping.{done_by};
-ghost use Rattle.exb_machine.specs.Worlds.{Order, Tick};
-ghost use Rattle.exb_machine.specs.Runs.Asks.{AsksWell};
-ghost use Rattle.exb_bridge.specs.Sites.{limits_in};
-ghost use Rattle.exb_bridge.specs.Worlds.{Rest, whole, world_in, IsAt, Does};
+ghost use Rattle.exb_world_spec.specs.Steps.{done_by};
+ghost use Rattle.exb_world_spec.specs.Worlds.{Order, Tick};
+ghost use Rattle.exb_world_spec.specs.Runs.Requests.{AsksWell};
+ghost use Rattle.exb_bridge.specs.TreeIndexes.{limits_in};
+ghost use Rattle.exb_bridge.specs.BridgeWorlds.{Rest, whole, world_in, IsAt, Does};
 
-use crate::asking::follow;
 use crate::bridge::Bridge;
-use crate::room::Room;
-use crate::site::Site;
+use crate::requests::follow;
+use crate::scratch::StepScratch;
+use crate::tree_index::TreeIndex;
 use exb_model::command::Command;
 use exb_model::event::Event;
 use exb_model::memory::NoMemory;
@@ -19,7 +19,12 @@ use exb_model::memory::NoMemory;
 #[cold]
 #[inline(never)]
 #[tactic(auto, unfolding(exb_learn::specs::Entries::table_of))]
-pub fn tick(site: &Site, seconds: u32, room: &mut Room, bridge: &mut Bridge) -> Result<(), NoMemory>
+pub fn tick(
+    site: &TreeIndex,
+    seconds: u32,
+    room: &mut StepScratch,
+    bridge: &mut Bridge,
+) -> Result<(), NoMemory>
     ghost rest: { Rest }
     requires at { IsAt site.now (whole rest bridge.old) }
     requires clock { (world_in (whole rest bridge.old)).table.clock + seconds < 2 ^ 63 }
@@ -35,9 +40,9 @@ pub fn tick(site: &Site, seconds: u32, room: &mut Room, bridge: &mut Bridge) -> 
 #[cold]
 #[inline(never)]
 pub fn order(
-    site: &Site,
+    site: &TreeIndex,
     command: &Command,
-    room: &mut Room,
+    room: &mut StepScratch,
     bridge: &mut Bridge,
 ) -> Result<(), NoMemory>
     ghost rest: { Rest }

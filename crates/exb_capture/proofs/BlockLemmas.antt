@@ -3,28 +3,28 @@ use Rattle.std.proofs.Common.{◌≡◌, ◌<◌, ◌≤◌, ◌+◌, ◌-◌, �
 use Rattle.std.specs.Prelude.{nat_lt, nat_eq}
 use Rattle.std.proofs.lemmas.Bool.{ltb-false, ltb-true, le-ltb, eqb-true}
 use Rattle.std.proofs.lemmas.List.{take-append-le, take-take, drop-take}
-use Rattle.exb_capture.specs.declared.fault.Fault.{Fault}
+use Rattle.exb_capture.specs.declared.fault.FormatFault.{FormatFault}
 use Rattle.exb_capture.specs.declared.fault.Flaw.TheVariants.{Cut}
-use Rattle.exb_capture.specs.declared.order.ByteOrder.{ByteOrder}
+use Rattle.exb_capture.specs.declared.byte_order.ByteOrder.{ByteOrder}
 use Rattle.exb_capture.specs.declared.block.Interface.{Interface}
-use Rattle.exb_capture.specs.Within.{section_of}
-use Rattle.exb_capture.specs.declared.block.Head.{Head}
-use Rattle.exb_capture.specs.declared.block.Content.{Content}
-use Rattle.exb_capture.specs.declared.block.Content.TheVariants.{Skipped, NewSection, NewInterface, Packet}
-use Rattle.exb_capture.specs.declared.format.Seen.{Seen}
+use Rattle.exb_capture.specs.FieldRanges.{section_of}
+use Rattle.exb_capture.specs.declared.block.BlockHeader.{BlockHeader}
+use Rattle.exb_capture.specs.declared.block.BlockContent.{BlockContent}
+use Rattle.exb_capture.specs.declared.block.BlockContent.TheVariants.{Skipped, NewSection, NewInterface, Packet}
+use Rattle.exb_capture.specs.declared.format.RecordSpan.{RecordSpan}
 use Rattle.exb_capture.specs.Formats.{Front, Nothing, Short, Over, Holds, fault}
-use Rattle.exb_capture.specs.Pieces.{IsFormat}
+use Rattle.exb_capture.specs.ReaderMachine.{IsFormat}
 use Rattle.exb_capture.proofs.FormatLemmas.{IsDecided, longer, IsMeasured, LiesWithin, format_by, not_empty}
 use Rattle.exb_capture.proofs.BlockSizes.{head_sized, IsSized, IsLong, block_long}
-use Rattle.exb_capture.proofs.BlockOpen.{block_undecided, block_blank}
-use Rattle.exb_capture.proofs.BlockPlaces.{block_within, head_within}
+use Rattle.exb_capture.proofs.BlockPrefixes.{block_undecided, block_blank}
+use Rattle.exb_capture.proofs.BlockFaults.{block_within, head_within}
 use Rattle.exb_capture.specs.Blocks.{Sections, order_of, interfaces_of, is_read, head_at, block_at, shown, whole_front, headed_front, block_front, most_held, kind_of}
 
 -- a block that is there
-abbrev pub block : Sections → Head → List ℕ → Front Sections
+abbrev pub block : Sections → BlockHeader → List ℕ → Front Sections
 block s head left = shown s head (take head.size left) (block_at head (interfaces_of s.section) s.last (take head.size left))
 
-whole_stands : (s : Sections) (head : Head) (h more : List ℕ) → IsDecided (whole_front s head h) → whole_front s head (h ++ more) ≡ whole_front s head h
+whole_stands : (s : Sections) (head : BlockHeader) (h more : List ℕ) → IsDecided (whole_front s head h) → whole_front s head (h ++ more) ≡ whole_front s head h
 whole_stands s head h more = by_size (nat_lt (length h) head.size) refl
   where
     by_size : (b : Bool) → nat_lt (length h) head.size ≡ b → IsDecided (cond b (Short (fault Cut 0)) (block s head h))
@@ -35,7 +35,7 @@ whole_stands s head h more = by_size (nat_lt (length h) head.size) refl
         ap (λ b. cond b (Short (fault Cut 0)) (block s head (h ++ more))) (longer h more head.size fits)
         ∙ ap (λ b. shown s head b (block_at head (interfaces_of s.section) s.last b)) (take-append-le head.size h more fits)
 
-headed_stands : (s : Sections) (x : Result Head Fault) (h more : List ℕ) → IsDecided (headed_front s x h) → headed_front s x (h ++ more) ≡ headed_front s x h
+headed_stands : (s : Sections) (x : Result BlockHeader FormatFault) (h more : List ℕ) → IsDecided (headed_front s x h) → headed_front s x (h ++ more) ≡ headed_front s x h
 headed_stands s (Err f) h more = λ is. refl
 headed_stands s (Ok head) h more = by_kind (is_read (kind_of head.kind))
   where
@@ -65,14 +65,14 @@ block_stands s h more = by_none (nat_eq (length h) 0)
     by_none false is = by_head (nat_lt (length h) 12) refl is
 
 -- ---- sizes
-shown_measured : (s : Sections) (head : Head) (b : List ℕ) (x : Result Content Fault) (h : List ℕ) → IsLong head.size x → LiesWithin head.size x → 0 < head.size → head.size ≤ length h → IsMeasured most_held h (shown s head b x)
+shown_measured : (s : Sections) (head : BlockHeader) (b : List ℕ) (x : Result BlockContent FormatFault) (h : List ℕ) → IsLong head.size x → LiesWithin head.size x → 0 < head.size → head.size ≤ length h → IsMeasured most_held h (shown s head b x)
 shown_measured s head b (Ok Skipped) h long lies some fits = some
 shown_measured s head b (Ok NewSection) h long lies some fits = some
 shown_measured s head b (Ok (NewInterface i)) h long lies some fits = some
 shown_measured s head b (Ok (Packet x)) h long lies some fits = (long, fits)
 shown_measured s head b (Err f) h long lies some fits = omega (arith, lies, fits)
 
-headed_measured : (s : Sections) (x : Result Head Fault) (h : List ℕ) → ((head : Head) → x ≡ Ok head → IsSized head) → 12 ≤ length h → LiesWithin 12 x → IsMeasured most_held h (headed_front s x h)
+headed_measured : (s : Sections) (x : Result BlockHeader FormatFault) (h : List ℕ) → ((head : BlockHeader) → x ≡ Ok head → IsSized head) → 12 ≤ length h → LiesWithin 12 x → IsMeasured most_held h (headed_front s x h)
 headed_measured s (Err f) h sized twelve lies = omega (arith, twelve, lies)
 headed_measured s (Ok head) h sized twelve lies = by_kind (is_read (kind_of head.kind)) refl
   where
@@ -112,7 +112,7 @@ part_of held from n size fits =
     sym (take-take n (size - from) (drop from held) (omega arith))
     ∙ ap (take n) (sym (drop-take from (size - from) held) ∙ ap (λ k. drop from (take k held)) whole)
 
-pub packet_front : (order : Option ByteOrder) (interfaces : List Interface) (last : ℕ) (head : Head) (held : List ℕ) (x : Seen) → (order ≡ None → interfaces ≡ [])
+pub packet_front : (order : Option ByteOrder) (interfaces : List Interface) (last : ℕ) (head : BlockHeader) (held : List ℕ) (x : RecordSpan) → (order ≡ None → interfaces ≡ [])
     → head.size ≤ length held → x.from + x.bytes ≤ head.size
     → Ok (Packet x) ≡ block_at head interfaces last (take head.size held)
     → Holds (record { time = x.moment; bytes = take x.bytes (drop x.from held) }) head.size (record { section = section_of order interfaces; last = x.moment })

@@ -2,19 +2,19 @@
 use Rattle.std.proofs.Common.{◌≡◌, ◌≤◌, ◌-◌, ℕ, Bool, true, false, List, Option, Result, Ok, Err, refl, subst, arith}
 use Rattle.std.specs.Prelude.{nat_lt, ◌||◌, ◌&&◌, not, ◌==◌, ◌%◌}
 use Rattle.std.proofs.lemmas.Bool.{ltb-false}
-use Rattle.exb_capture.specs.declared.fault.Fault.{Fault}
+use Rattle.exb_capture.specs.declared.fault.FormatFault.{FormatFault}
 use Rattle.exb_capture.specs.declared.fault.Flaw.TheVariants.{Length}
-use Rattle.exb_capture.specs.declared.order.ByteOrder.{ByteOrder}
-use Rattle.exb_capture.specs.declared.block.Head.{Head}
+use Rattle.exb_capture.specs.declared.byte_order.ByteOrder.{ByteOrder}
+use Rattle.exb_capture.specs.declared.block.BlockHeader.{BlockHeader}
 use Rattle.exb_capture.specs.Formats.{fault}
 use Rattle.exb_capture.specs.Fields.{◌>>=◌, refuse, word}
 use Rattle.exb_capture.specs.declared.block.Interface.{Interface}
-use Rattle.exb_capture.specs.declared.block.Content.{Content}
-use Rattle.exb_capture.specs.declared.block.Content.TheVariants.{Skipped, NewSection, NewInterface, Packet}
+use Rattle.exb_capture.specs.declared.block.BlockContent.{BlockContent}
+use Rattle.exb_capture.specs.declared.block.BlockContent.TheVariants.{Skipped, NewSection, NewInterface, Packet}
 use Rattle.exb_capture.specs.Blocks.{kind_of, is_read, is_no_size, order_at, head_at, content_at, block_at, Kind, SectionHeader, InterfaceBlock, EnhancedPacket, SimplePacket, Other}
 
 -- what a head that is read tells of the size
-pub record IsSized (head : Head) : Type 0 where
+pub record IsSized (head : BlockHeader) : Type 0 where
   pub some : 12 ≤ head.size
   pub most : is_read (kind_of head.kind) ≡ true → head.size ≤ 327_680
 
@@ -33,7 +33,7 @@ sized_by kind size e =
       λ read. ltb-false 327_680 size (no_and (is_read kind) (nat_lt 327_680 size) parts.1 read),
     )
 
-pub head_sized : (old : Option ByteOrder) (twelve : List ℕ) (head : Head) → head_at old twelve ≡ Ok head → IsSized head
+pub head_sized : (old : Option ByteOrder) (twelve : List ℕ) (head : BlockHeader) → head_at old twelve ≡ Ok head → IsSized head
 head_sized old twelve head = by_order (order_at old twelve)
   where
     by_test : (order : ByteOrder) (b : Bool) → is_no_size (kind_of (word order twelve 0)) (word order twelve 4) ≡ b
@@ -44,7 +44,7 @@ head_sized old twelve head = by_order (order_at old twelve)
         let sized = sized_by (kind_of (word order twelve 0)) (word order twelve 4) t in
         subst IsSized same (record { some = sized.0; most = sized.1 })
 
-    by_order : (x : Result ByteOrder Fault)
+    by_order : (x : Result ByteOrder FormatFault)
         → (x >>= (λ order. refuse (is_no_size (kind_of (word order twelve 0)) (word order twelve 4)) (fault Length 4) >>= (λ sized. Ok (record { order = order; kind = word order twelve 0; size = word order twelve 4 }))))
         ≡ Ok head → IsSized head
     by_order (Ok order) e = by_test order (is_no_size (kind_of (word order twelve 0)) (word order twelve 4)) refl e
@@ -52,14 +52,14 @@ head_sized old twelve head = by_order (order_at old twelve)
 
 -- ---- packets
 -- where it is a packet, it takes at least 16 bytes
-abbrev pub IsLong : ℕ → Result Content Fault → Type 0
+abbrev pub IsLong : ℕ → Result BlockContent FormatFault → Type 0
 IsLong size (Ok Skipped) = Unit {0}
 IsLong size (Ok NewSection) = Unit {0}
 IsLong size (Ok (NewInterface i)) = Unit {0}
 IsLong size (Ok (Packet x)) = 16 ≤ size
 IsLong size (Err f) = Unit {0}
 
-long_enough : (size : ℕ) (x : Result Content Fault) → 16 ≤ size → IsLong size x
+long_enough : (size : ℕ) (x : Result BlockContent FormatFault) → 16 ≤ size → IsLong size x
 long_enough size (Ok Skipped) h = tt
 long_enough size (Ok NewSection) h = tt
 long_enough size (Ok (NewInterface i)) h = tt
@@ -67,23 +67,23 @@ long_enough size (Ok (Packet x)) h = h
 long_enough size (Err f) h = tt
 
 -- what is refused below a size of at least 16
-refused_long : (size least : ℕ) (b : Bool) (f : Fault) (k : Unit {0} → Result Content Fault) → nat_lt size least ≡ b → 16 ≤ least → IsLong size (refuse b f >>= k)
+refused_long : (size least : ℕ) (b : Bool) (f : FormatFault) (k : Unit {0} → Result BlockContent FormatFault) → nat_lt size least ≡ b → 16 ≤ least → IsLong size (refuse b f >>= k)
 refused_long size least true f k t h = tt
 refused_long size least false f k t h = let long = ltb-false size least t in long_enough size (k tt) (omega (arith, long, h))
 
 -- what isn't refused
-passed_long : (size : ℕ) (b : Bool) (f : Fault) (k : Unit {0} → Result Content Fault) → IsLong size (k tt) → IsLong size (refuse b f >>= k)
+passed_long : (size : ℕ) (b : Bool) (f : FormatFault) (k : Unit {0} → Result BlockContent FormatFault) → IsLong size (k tt) → IsLong size (refuse b f >>= k)
 passed_long size true f k h = tt
 passed_long size false f k h = h
 
-content_long : (kind : Kind) (head : Head) (interfaces : List Interface) (last : ℕ) (block : List ℕ) → IsLong head.size (content_at kind head interfaces last block)
+content_long : (kind : Kind) (head : BlockHeader) (interfaces : List Interface) (last : ℕ) (block : List ℕ) → IsLong head.size (content_at kind head interfaces last block)
 content_long SectionHeader head interfaces last block = refused_long head.size 28 (nat_lt head.size 28) (fault Length 4) _ refl (omega arith)
 content_long InterfaceBlock head interfaces last block = refused_long head.size 20 (nat_lt head.size 20) (fault Length 4) _ refl (omega arith)
 content_long EnhancedPacket head interfaces last block = refused_long head.size 32 (nat_lt head.size 32) (fault Length 4) _ refl (omega arith)
 content_long SimplePacket head interfaces last block = refused_long head.size 16 (nat_lt head.size 16) (fault Length 4) _ refl (omega arith)
 content_long Other head interfaces last block = tt
 
-pub block_long : (head : Head) (interfaces : List Interface) (last : ℕ) (block : List ℕ) → IsLong head.size (block_at head interfaces last block)
+pub block_long : (head : BlockHeader) (interfaces : List Interface) (last : ℕ) (block : List ℕ) → IsLong head.size (block_at head interfaces last block)
 unfolding block_at
 block_long head interfaces last block =
     passed_long head.size (not (word head.order block (head.size - 4) == head.size)) (fault Length (head.size - 4)) (λ closed. content_at (kind_of head.kind) head interfaces last block)

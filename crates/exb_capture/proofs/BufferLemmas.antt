@@ -4,7 +4,7 @@ use Rattle.std.specs.Prelude.{min, Result, Ok, Err, OnErr}
 use Rattle.std.proofs.lemmas.Bool.{cases_lt}
 use Rattle.std.proofs.lemmas.List.{append-nil, take-append-drop, drop-take, drop-drop, take-take, take_at, drop-append-le, drop_all, length-take-le}
 use Rattle.exb_capture.specs.Blocks.{most_held}
-use Rattle.exb_capture.specs.Pieces.{Stage, Reading, fed, gone}
+use Rattle.exb_capture.specs.ReaderMachine.{Stage, Reading, fed, gone}
 use Rattle.exb_capture.proofs.TurnLemmas.{reading}
 
 pub same_reading : {S : Type 0} (s : Stage S) (p : ℕ) (h k : List ℕ) (o u b m n : ℕ) → h ≡ k → o ≡ u → m ≡ n → reading s p h o b m ≡ reading s p k u b n

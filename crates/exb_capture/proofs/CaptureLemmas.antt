@@ -3,19 +3,19 @@ use Rattle.std.proofs.Common.{◌≡◌, ◌<◌, ◌≤◌, ℕ, zero, suc, Boo
 use Rattle.std.specs.Prelude.{nat_lt}
 use Rattle.std.proofs.lemmas.Bool.{ltb-false, ltb-true, le-ltb, lt-ltb}
 use Rattle.exb_capture.specs.declared.fault.Flaw.TheVariants.{NotPcap, Cut}
-use Rattle.exb_capture.specs.declared.classic.Form.{Form}
-use Rattle.exb_capture.specs.declared.classic.Reached.{Reached}
-use Rattle.exb_capture.specs.declared.classic.Reached.TheVariants.{Start}
-use Rattle.exb_capture.specs.declared.format.Capture.{Capture as State}
-use Rattle.exb_capture.specs.declared.format.Capture.TheVariants.{Unknown, Classic, Blocks}
+use Rattle.exb_capture.specs.declared.classic.ClassicEncoding.{ClassicEncoding}
+use Rattle.exb_capture.specs.declared.classic.ClassicFormat.{ClassicFormat}
+use Rattle.exb_capture.specs.declared.classic.ClassicFormat.TheVariants.{Start}
+use Rattle.exb_capture.specs.declared.format.AnyFormat.{AnyFormat as State}
+use Rattle.exb_capture.specs.declared.format.AnyFormat.TheVariants.{Unknown, Classic, Blocks}
 use Rattle.exb_capture.specs.Fields.{agrees}
 use Rattle.exb_capture.specs.Formats.{Front, Nothing, Short, Bad, Over, Holds, Capture, at_fault, before, fault, behind, at_place, continued, reading_within, reading_from, whole}
-use Rattle.exb_capture.specs.Pieces.{IsFormat}
+use Rattle.exb_capture.specs.ReaderMachine.{IsFormat}
 use Rattle.exb_capture.specs.Blocks.{Sections, no_section, block_front, most_held, ng_records}
 use Rattle.exb_capture.specs.Classic.{form_of, header_at, shown_header, magic_front, classic_front, pcap_records}
 use Rattle.exb_capture.specs.Captures.{mapped, first_bytes, unknown_front, capture_front, capture_records}
 use Rattle.exb_capture.proofs.FormatLemmas.{IsDecided, longer, IsMeasured, format_by, differs_on, agrees_whole, mapped_stands, mapped_measured}
-use Rattle.exb_capture.proofs.CaptureOpen.{chosen_front, capture_undecided, capture_blank}
+use Rattle.exb_capture.proofs.CapturePrefixes.{chosen_front, capture_undecided, capture_blank}
 use Rattle.exb_capture.proofs.ClassicLemmas.{classic_stands, classic_measured}
 use Rattle.exb_capture.proofs.BlockLemmas.{block_stands, block_measured}
 
@@ -73,7 +73,7 @@ mapped_within m front own same (suc n) s p left =
     ap (λ x. continued x p left (reading_within front n)) (same s left)
     ∙ mapped_continued m (own s left) p left (reading_within front n) (reading_within own n) (mapped_within m front own same n)
 
-classic_same : (s : Reached) (left : List ℕ) → capture_front (Classic s) left ≡ mapped Classic (classic_front s left)
+classic_same : (s : ClassicFormat) (left : List ℕ) → capture_front (Classic s) left ≡ mapped Classic (classic_front s left)
 unfolding capture_front
 classic_same s left = refl
 
@@ -103,7 +103,7 @@ read_as_blocks file e fits =
     longer_none h k = le-ltb (length h) 4 k
 
 -- a file of fewer than four bytes is no capture in either way
-few_magic : (o : Option Form) (file : List ℕ) (rest : Reached → ℕ → List ℕ → Capture) → length file < 4 → continued (magic_front o file) 0 file rest ≡ at_fault (at_place 0 (fault NotPcap 0))
+few_magic : (o : Option ClassicEncoding) (file : List ℕ) (rest : ClassicFormat → ℕ → List ℕ → Capture) → length file < 4 → continued (magic_front o file) 0 file rest ≡ at_fault (at_place 0 (fault NotPcap 0))
 few_magic None file rest few = refl
 few_magic (Some f) file rest few =
     ap (λ b. continued (cond b (Short (fault NotPcap 0)) (cond (nat_lt (length file) 24) (Short (fault Cut 0)) (shown_header f (header_at f (take 24 file))))) 0 file rest) (lt-ltb (length file) 4 few)

@@ -3,22 +3,22 @@ use Rattle.std.proofs.Common.{◌≡◌, ◌<◌, ◌≤◌, ◌+◌, ◌-◌, �
 use Rattle.std.specs.Prelude.{nat_lt, nat_le, nat_eq, not, ◌&&◌, ◌==◌, ◌^◌}
 use Rattle.std.proofs.lemmas.Bool.{ltb-false, ltb-true, le-ltb, lt-leb, ne_eqb, eqb-true}
 use Rattle.std.proofs.lemmas.List.{take-append-le}
-use Rattle.exb_capture.specs.declared.fault.Fault.{Fault}
+use Rattle.exb_capture.specs.declared.fault.FormatFault.{FormatFault}
 use Rattle.exb_capture.specs.declared.fault.Flaw.TheVariants.{NotPcap, Version, LinkType, Cut, Length, Time}
 use Rattle.exb_capture.specs.declared.format.Front.{Front as Found}
 use Rattle.exb_capture.specs.declared.format.Front.TheVariants as found
-use Rattle.exb_capture.specs.declared.order.ByteOrder.{ByteOrder}
-use Rattle.exb_capture.specs.declared.classic.Form.{Form}
-use Rattle.exb_capture.specs.declared.classic.Reached.{Reached}
-use Rattle.exb_capture.specs.declared.classic.Reached.TheVariants.{Start, Behind}
+use Rattle.exb_capture.specs.declared.byte_order.ByteOrder.{ByteOrder}
+use Rattle.exb_capture.specs.declared.classic.ClassicEncoding.{ClassicEncoding}
+use Rattle.exb_capture.specs.declared.classic.ClassicFormat.{ClassicFormat}
+use Rattle.exb_capture.specs.declared.classic.ClassicFormat.TheVariants.{Start, Behind}
 use Rattle.exb_capture.specs.Fields.{◌>>=◌, refuse, word, half_word, agrees}
 use Rattle.exb_capture.specs.Formats.{Front, Nothing, Short, Holds, fault}
-use Rattle.exb_capture.specs.Pieces.{IsFormat}
+use Rattle.exb_capture.specs.ReaderMachine.{IsFormat}
 use Rattle.exb_capture.specs.Blocks.{most_held}
 use Rattle.exb_capture.specs.Classic.{digits, form, form_of, header_at, shown_header, magic_front, head_at, time_at, stored_front, record_front, classic_front}
-use Rattle.exb_capture.specs.Within.{IsWithin, Keeps, Shows, told}
+use Rattle.exb_capture.specs.FieldRanges.{IsWithin, Keeps, Shows, told}
 use Rattle.exb_capture.proofs.BlockLemmas.{part_of}
-use Rattle.exb_capture.proofs.ClassicOpen.{form_by, same_by, form_more, record_in, classic_undecided, classic_blank}
+use Rattle.exb_capture.proofs.ClassicPrefixes.{form_by, same_by, form_more, record_in, classic_undecided, classic_blank}
 use Rattle.exb_capture.proofs.FormatLemmas.{IsDecided, longer, not_empty, IsMeasured, LiesWithin, then_within, refused_within, format_by, differs_on}
 
 -- ---- the magic number
@@ -34,11 +34,11 @@ form_none h more e =
     let none = none_by (agrees _ h) (agrees _ h) (agrees _ h) (agrees _ h) e in
     same_by _ _ _ _ false false false false (differs_on _ h more none.0) (differs_on _ h more none.1) (differs_on _ h more none.2) (differs_on _ h more none.3)
 
-magic_stands : (h more : List ℕ) (o : Option Form) → form_of h ≡ o → IsDecided (magic_front o h) → magic_front (form_of (h ++ more)) (h ++ more) ≡ magic_front o h
+magic_stands : (h more : List ℕ) (o : Option ClassicEncoding) → form_of h ≡ o → IsDecided (magic_front o h) → magic_front (form_of (h ++ more)) (h ++ more) ≡ magic_front o h
 magic_stands h more None e = λ is. ap (λ x. magic_front x (h ++ more)) (form_none h more e)
 magic_stands h more (Some f) e = by_four (nat_lt (length h) 4) refl
   where
-    header : List ℕ → Front Reached
+    header : List ℕ → Front ClassicFormat
     header left = shown_header f (header_at f (take 24 left))
 
     by_head : (b : Bool) → nat_lt (length h) 24 ≡ b → IsDecided (cond b (Short (fault Cut 0)) (header h))
@@ -57,7 +57,7 @@ magic_stands h more (Some f) e = by_four (nat_lt (length h) 4) refl
     by_four false t is = by_head (nat_lt (length h) 24) refl is
 
 -- ---- a record
-stored_stands : (f : Form) (x : Result ℕ Fault) (h more : List ℕ) → 16 ≤ length h → IsDecided (stored_front f x h) → stored_front f x (h ++ more) ≡ stored_front f x h
+stored_stands : (f : ClassicEncoding) (x : Result ℕ FormatFault) (h more : List ℕ) → 16 ≤ length h → IsDecided (stored_front f x h) → stored_front f x (h ++ more) ≡ stored_front f x h
 stored_stands f (Err x) h more long = λ is. refl
 stored_stands f (Ok n) h more long = by_size (nat_lt (length h) (16 + n)) refl
   where
@@ -69,10 +69,10 @@ stored_stands f (Ok n) h more long = by_size (nat_lt (length h) (16 + n)) refl
         ∙ ap (λ bytes. Holds (record { time = time_at f bytes; bytes = take n (drop 16 (take (16 + n) (h ++ more))) }) (16 + n) (Behind f)) (take-append-le 16 h more long)
         ∙ ap (λ bytes. Holds (record { time = time_at f (take 16 h); bytes = take n (drop 16 bytes) }) (16 + n) (Behind f)) (take-append-le (16 + n) h more fits)
 
-record_stands : (f : Form) (h more : List ℕ) → IsDecided (record_front f h) → record_front f (h ++ more) ≡ record_front f h
+record_stands : (f : ClassicEncoding) (h more : List ℕ) → IsDecided (record_front f h) → record_front f (h ++ more) ≡ record_front f h
 record_stands f h more = by_none (nat_eq (length h) 0)
   where
-    rest : List ℕ → Front Reached
+    rest : List ℕ → Front ClassicFormat
     rest left = cond (nat_lt (length left) 16) (Short (fault Cut 0)) (stored_front f (head_at f (take 16 left)) left)
 
     by_head : (b : Bool) → nat_lt (length h) 16 ≡ b → IsDecided (cond b (Short (fault Cut 0)) (stored_front f (head_at f (take 16 h)) h))
@@ -89,13 +89,13 @@ record_stands f h more = by_none (nat_eq (length h) 0)
     by_none true never = absurd never
     by_none false is = by_head (nat_lt (length h) 16) refl is
 
-pub classic_stands : (s : Reached) (h more : List ℕ) → IsDecided (classic_front s h) → classic_front s (h ++ more) ≡ classic_front s h
+pub classic_stands : (s : ClassicFormat) (h more : List ℕ) → IsDecided (classic_front s h) → classic_front s (h ++ more) ≡ classic_front s h
 unfolding classic_front
 classic_stands Start h more = magic_stands h more (form_of h) refl
 classic_stands (Behind f) h more = record_stands f h more
 
 -- ---- sizes
-stored_few : (f : Form) (head : List ℕ) (n : ℕ) → head_at f head ≡ Ok n → n ≤ 262_144
+stored_few : (f : ClassicEncoding) (head : List ℕ) (n : ℕ) → head_at f head ≡ Ok n → n ≤ 262_144
 stored_few f head n = by_time (nat_le (10 ^ digits f.resolution) (word f.order head 4))
   where
     by_size : (b : Bool) → nat_lt 262_144 (word f.order head 8) ≡ b → (refuse b (fault Length 8) >>= (λ short. Ok (word f.order head 8))) ≡ Ok n → n ≤ 262_144
@@ -106,24 +106,24 @@ stored_few f head n = by_time (nat_le (10 ^ digits f.resolution) (word f.order h
     by_time true e = absurd (cc)
     by_time false e = by_size (nat_lt 262_144 (word f.order head 8)) refl e
 
-header_within : (f : Form) (header : List ℕ) → LiesWithin 24 (header_at f header)
+header_within : (f : ClassicEncoding) (header : List ℕ) → LiesWithin 24 (header_at f header)
 header_within f header =
     then_within 24 (refuse (not (half_word f.order header 4 == 2 && half_word f.order header 6 == 4)) (fault Version 4)) (λ known. refuse (not (word f.order header 20 == 1)) (fault LinkType 20))
     (refused_within 24 (not (half_word f.order header 4 == 2 && half_word f.order header 6 == 4)) (fault Version 4) (omega arith))
     (λ known. refused_within 24 (not (word f.order header 20 == 1)) (fault LinkType 20) (omega arith))
 
-head_within : (f : Form) (head : List ℕ) → LiesWithin 16 (head_at f head)
+head_within : (f : ClassicEncoding) (head : List ℕ) → LiesWithin 16 (head_at f head)
 head_within f head =
     then_within 16 (refuse (nat_le (10 ^ digits f.resolution) (word f.order head 4)) (fault Time 4)) (λ early. refuse (nat_lt 262_144 (word f.order head 8)) (fault Length 8) >>= (λ short. Ok (word f.order head 8)))
     (refused_within 16 (nat_le (10 ^ digits f.resolution) (word f.order head 4)) (fault Time 4) (omega arith))
     (λ early. then_within 16 (refuse (nat_lt 262_144 (word f.order head 8)) (fault Length 8)) (λ short. Ok (word f.order head 8))
     (refused_within 16 (nat_lt 262_144 (word f.order head 8)) (fault Length 8) (omega arith)) (λ short. tt))
 
-header_measured : (f : Form) (x : Result (Unit {0}) Fault) (h : List ℕ) → 24 ≤ length h → LiesWithin 24 x → IsMeasured most_held h (shown_header f x)
+header_measured : (f : ClassicEncoding) (x : Result (Unit {0}) FormatFault) (h : List ℕ) → 24 ≤ length h → LiesWithin 24 x → IsMeasured most_held h (shown_header f x)
 header_measured f (Ok u) h long lies = omega arith
 header_measured f (Err x) h long lies = omega (arith, long, lies)
 
-magic_measured : (o : Option Form) (h : List ℕ) → IsMeasured most_held h (magic_front o h)
+magic_measured : (o : Option ClassicEncoding) (h : List ℕ) → IsMeasured most_held h (magic_front o h)
 magic_measured None h = omega arith
 magic_measured (Some f) h = by_four (nat_lt (length h) 4) refl
   where
@@ -136,7 +136,7 @@ magic_measured (Some f) h = by_four (nat_lt (length h) 4) refl
     by_four true t = let few = ltb-true (length h) 4 t in (omega (arith, few), omega arith)
     by_four false t = by_head (nat_lt (length h) 24) refl
 
-stored_measured : (f : Form) (x : Result ℕ Fault) (h : List ℕ) → ((n : ℕ) → x ≡ Ok n → n ≤ 262_144) → 16 ≤ length h → LiesWithin 16 x → IsMeasured most_held h (stored_front f x h)
+stored_measured : (f : ClassicEncoding) (x : Result ℕ FormatFault) (h : List ℕ) → ((n : ℕ) → x ≡ Ok n → n ≤ 262_144) → 16 ≤ length h → LiesWithin 16 x → IsMeasured most_held h (stored_front f x h)
 stored_measured f (Err x) h few long lies = omega (arith, long, lies)
 stored_measured f (Ok n) h few long lies = by_size (nat_lt (length h) (16 + n)) refl
   where
@@ -144,7 +144,7 @@ stored_measured f (Ok n) h few long lies = by_size (nat_lt (length h) (16 + n)) 
     by_size true t = let short = ltb-true (length h) (16 + n) t in let most = few n refl in (omega (arith, short, most), omega arith)
     by_size false t = let fits = ltb-false (length h) (16 + n) t in (omega arith, omega (arith, fits))
 
-record_measured : (f : Form) (h : List ℕ) → IsMeasured most_held h (record_front f h)
+record_measured : (f : ClassicEncoding) (h : List ℕ) → IsMeasured most_held h (record_front f h)
 record_measured f h = by_none (nat_eq (length h) 0) refl
   where
     by_head : (b : Bool) → nat_lt (length h) 16 ≡ b → IsMeasured most_held h (cond b (Short (fault Cut 0)) (stored_front f (head_at f (take 16 h)) h))
@@ -155,7 +155,7 @@ record_measured f h = by_none (nat_eq (length h) 0) refl
     by_none true t = let none = eqb-true (length h) 0 t in omega (arith, none)
     by_none false t = by_head (nat_lt (length h) 16) refl
 
-pub classic_measured : (s : Reached) (h : List ℕ) → IsMeasured most_held h (classic_front s h)
+pub classic_measured : (s : ClassicFormat) (h : List ℕ) → IsMeasured most_held h (classic_front s h)
 unfolding classic_front
 classic_measured Start h = magic_measured (form_of h) h
 classic_measured (Behind f) h = record_measured f h
@@ -164,7 +164,7 @@ pub classic_is_a_format : IsFormat most_held classic_front
 classic_is_a_format = format_by most_held classic_front classic_stands classic_measured classic_undecided classic_blank
 
 -- ---- a record, as the code finds it
-pub head_is : (f : Form) (head : List ℕ) (fraction n units : ℕ) → fraction ≡ word f.order head 4 → n ≡ word f.order head 8 → units ≡ 10 ^ digits f.resolution → fraction < units → n ≤ 262_144
+pub head_is : (f : ClassicEncoding) (head : List ℕ) (fraction n units : ℕ) → fraction ≡ word f.order head 4 → n ≡ word f.order head 8 → units ≡ 10 ^ digits f.resolution → fraction < units → n ≤ 262_144
     → Ok n ≡ head_at f head
 head_is f head fraction n units first size is early short =
     let low : word f.order head 4 < 10 ^ digits f.resolution = subst (λ u. word f.order head 4 < u) is (subst (λ x. x < units) first early) in
@@ -173,11 +173,11 @@ head_is f head fraction n units first size is early short =
     ∙ sym (ap (λ b. refuse b (fault Time 4) >>= (λ early. refuse (nat_lt 262_144 (word f.order head 8)) (fault Length 8) >>= (λ short. Ok (word f.order head 8)))) (lt-leb (10 ^ digits f.resolution) (word f.order head 4) low)
     ∙ ap (λ b. refuse b (fault Length 8) >>= (λ short. Ok (word f.order head 8))) (le-ltb 262_144 (word f.order head 8) few))
 
-pub time_is : (f : Form) (head : List ℕ) (seconds fraction unit : ℕ) → seconds ≡ word f.order head 0 → fraction ≡ word f.order head 4 → unit ≡ 10 ^ (9 - digits f.resolution)
+pub time_is : (f : ClassicEncoding) (head : List ℕ) (seconds fraction unit : ℕ) → seconds ≡ word f.order head 0 → fraction ≡ word f.order head 4 → unit ≡ 10 ^ (9 - digits f.resolution)
     → seconds * 1_000_000_000 + fraction * unit ≡ time_at f head
 time_is f head seconds fraction unit a b c = (λ i. a i * 1_000_000_000 + b i * c i)
 
-pub record_is : (f : Form) (held : List ℕ) (n time : ℕ) → 16 + n ≤ length held → Ok n ≡ head_at f (take 16 held) → time ≡ time_at f (take 16 held)
+pub record_is : (f : ClassicEncoding) (held : List ℕ) (n time : ℕ) → 16 + n ≤ length held → Ok n ≡ head_at f (take 16 held) → time ≡ time_at f (take 16 held)
     → Holds (record { time = time; bytes = take n (drop 16 held) }) (16 + n) (Behind f) ≡ record_front f held
 record_is f held n time fits head is =
     (λ i. Holds (record { time = is i; bytes = part_of held 16 n (16 + n) (omega arith) i }) (16 + n) (Behind f))
@@ -187,18 +187,18 @@ record_is f held n time fits head is =
     ∙ ap (λ b. cond b Nothing (cond (nat_lt (length held) 16) (Short (fault Cut 0)) (stored_front f (head_at f (take 16 held)) held))) (sym (ne_eqb (length held) 0 (λ none. omega (arith, none, fits))))
 
 -- ---- what the code finds at a front, by how far the file was read
-pub shows_start : (x : Found) (s new : Reached) (held : List ℕ) → s ≡ Start → Shows (magic_front (form_of held) held) held x s new → Shows (classic_front s held) held x s new
+pub shows_start : (x : Found) (s new : ClassicFormat) (held : List ℕ) → s ≡ Start → Shows (magic_front (form_of held) held) held x s new → Shows (classic_front s held) held x s new
 unfolding classic_front
 shows_start x s new held is shows = subst (λ stood. Shows stood held x s new) (ap (λ r. classic_front r held) (sym is)) shows
 
-keeps : (x : Found) (s : Reached) → Keeps x (s ≡ s)
+keeps : (x : Found) (s : ClassicFormat) → Keeps x (s ≡ s)
 keeps found.Nothing s = refl
 keeps (found.Short f) s = refl
 keeps (found.Bad f) s = refl
 keeps (found.Over n) s = tt
 keeps (found.Holds seen n) s = tt
 
-pub shows_behind : (x : Found) (s : Reached) (f : Form) (order : ByteOrder) (held : List ℕ) → s ≡ Behind f → f.order ≡ order
+pub shows_behind : (x : Found) (s : ClassicFormat) (f : ClassicEncoding) (order : ByteOrder) (held : List ℕ) → s ≡ Behind f → f.order ≡ order
     → told x (Behind (form order f.resolution)) held ≡ record_front (form order f.resolution) held → IsWithin held x → Shows (classic_front s held) held x s s
 unfolding classic_front
 shows_behind x s f order held is same value within =

@@ -5,8 +5,8 @@ use Rattle.std.proofs.lemmas.Bool.{ltb-false, le-ltb, ne_eqb, false≢true, fals
 use Rattle.exb_capture.specs.Fields.{◌>>=◌, refuse, agrees}
 use Rattle.exb_capture.specs.Formats.{Front, Nothing, Short, Bad, Over, Holds}
 use Rattle.exb_capture.specs.Captures.{mapped}
-use Rattle.exb_capture.specs.declared.fault.Fault.{Fault}
-use Rattle.exb_capture.specs.Pieces.{IsFormat, IsUndecided, IsNotCut}
+use Rattle.exb_capture.specs.declared.fault.FormatFault.{FormatFault}
+use Rattle.exb_capture.specs.ReaderMachine.{IsFormat, IsUndecided, IsNotCut}
 
 -- it is decided: more bytes don't change it
 abbrev pub IsDecided : {S : Type 0} → Front S → Type 0
@@ -33,28 +33,28 @@ IsMeasured most h (Holds x n t) = (16 ≤ n) × (n ≤ length h)
 
 -- ---- where a fault lies
 -- its fault, if it has one, lies within so many bytes
-abbrev pub LiesWithin : {X : Type 0} → ℕ → Result X Fault → Type 0
+abbrev pub LiesWithin : {X : Type 0} → ℕ → Result X FormatFault → Type 0
 LiesWithin n (Ok x) = Unit {0}
 LiesWithin n (Err f) = f.at ≤ n
 
-pub then_within : {X Y : Type 0} (n : ℕ) (r : Result X Fault) (k : X → Result Y Fault) → LiesWithin n r → ((x : X) → LiesWithin n (k x)) → LiesWithin n (r >>= k)
+pub then_within : {X Y : Type 0} (n : ℕ) (r : Result X FormatFault) (k : X → Result Y FormatFault) → LiesWithin n r → ((x : X) → LiesWithin n (k x)) → LiesWithin n (r >>= k)
 then_within n (Ok x) k h j = j x
 then_within n (Err f) k h j = h
 
-pub refused_within : (n : ℕ) (b : Bool) (f : Fault) → f.at ≤ n → LiesWithin n (refuse b f)
+pub refused_within : (n : ℕ) (b : Bool) (f : FormatFault) → f.at ≤ n → LiesWithin n (refuse b f)
 refused_within n true f h = h
 refused_within n false f h = tt
 
 -- what isn't refused has at least this size
-pub sized_within : {X : Type 0} (n least : ℕ) (b : Bool) (f : Fault) (k : Unit {0} → Result X Fault) → nat_lt n least ≡ b → f.at ≤ n → (least ≤ n → LiesWithin n (k tt)) → LiesWithin n (refuse b f >>= k)
+pub sized_within : {X : Type 0} (n least : ℕ) (b : Bool) (f : FormatFault) (k : Unit {0} → Result X FormatFault) → nat_lt n least ≡ b → f.at ≤ n → (least ≤ n → LiesWithin n (k tt)) → LiesWithin n (refuse b f >>= k)
 sized_within n least true f k e h j = h
 sized_within n least false f k e h j = j (ltb-false n least e)
 
-pub chosen_within : {X : Type 0} (n : ℕ) (b : Bool) (x y : Result X Fault) → LiesWithin n x → LiesWithin n y → LiesWithin n (cond b x y)
+pub chosen_within : {X : Type 0} (n : ℕ) (b : Bool) (x y : Result X FormatFault) → LiesWithin n x → LiesWithin n y → LiesWithin n (cond b x y)
 chosen_within n true x y h k = h
 chosen_within n false x y h k = k
 
-pub further_within : {X : Type 0} (n m : ℕ) (r : Result X Fault) → n ≤ m → LiesWithin n r → LiesWithin m r
+pub further_within : {X : Type 0} (n m : ℕ) (r : Result X FormatFault) → n ≤ m → LiesWithin n r → LiesWithin m r
 further_within n m (Ok x) less h = tt
 further_within n m (Err f) less h = omega (arith, less, h)
 
@@ -62,7 +62,7 @@ further_within n m (Err f) less h = omega (arith, less, h)
 pub format_by : {S : Type 0} (most : ℕ) (front : S → List ℕ → Front S)
     → ((s : S) (h more : List ℕ) → IsDecided (front s h) → front s (h ++ more) ≡ front s h)
     → ((s : S) (h : List ℕ) → IsMeasured most h (front s h))
-    → ((s : S) (h : List ℕ) (f : Fault) → front s h ≡ Short f → IsUndecided front s h f.flaw) → ((s : S) → IsNotCut (front s [])) → IsFormat most front
+    → ((s : S) (h : List ℕ) (f : FormatFault) → front s h ≡ Short f → IsUndecided front s h f.flaw) → ((s : S) → IsNotCut (front s [])) → IsFormat most front
 format_by most front stands measured undecided blank = record {
   bad = λ s h more f e. stands s h more (subst IsDecided (sym e) tt) ∙ e;
   over = λ s h more n t e. stands s h more (subst IsDecided (sym e) tt) ∙ e;

@@ -3,10 +3,10 @@ use Rattle.std.proofs.Common.{◌≡◌, ◌<◌, ◌≤◌, ℕ, zero, suc, Boo
 use Rattle.std.specs.Prelude.{nat_lt}
 use Rattle.std.proofs.lemmas.Bool.{ltb-false, le-ltb}
 use Rattle.exb_model.specs.Input.{Record}
-use Rattle.exb_capture.specs.declared.fault.Fault.{Fault}
+use Rattle.exb_capture.specs.declared.fault.FormatFault.{FormatFault}
 use Rattle.exb_capture.specs.declared.fault.Flaw.TheVariants.{Cut}
 use Rattle.exb_capture.specs.Formats.{Front, Nothing, Short, Bad, Over, Holds, Capture, at_end, at_fault, before, continued, fault, behind, at_place, reading_within, reading_from}
-use Rattle.exb_capture.specs.Pieces.{IsFormat, reading_over}
+use Rattle.exb_capture.specs.ReaderMachine.{IsFormat, reading_over}
 
 continued_same : {S : Type 0} (o : Front S) (p : ℕ) (left : List ℕ) (f g : S → ℕ → List ℕ → Capture)
     → ((n : ℕ) (t : S) → o ≡ Over n t → n ≤ length left → f t (behind p n) (drop n left) ≡ g t (behind p n) (drop n left))
@@ -40,11 +40,11 @@ module _ {S : Type 0} (most : ℕ) (front : S → List ℕ → Front S) (ok : Is
   unfolding reading_from reading_within
   from_nothing s p left e = ap (λ o. continued o p left (reading_within front (length left))) e
 
-  pub from_short : (s : S) (p : ℕ) (left : List ℕ) (f : Fault) → front s left ≡ Short f → reading_from front s p left ≡ at_fault (at_place p f)
+  pub from_short : (s : S) (p : ℕ) (left : List ℕ) (f : FormatFault) → front s left ≡ Short f → reading_from front s p left ≡ at_fault (at_place p f)
   unfolding reading_from reading_within
   from_short s p left f e = ap (λ o. continued o p left (reading_within front (length left))) e
 
-  pub from_bad : (s : S) (p : ℕ) (left : List ℕ) (f : Fault) → front s left ≡ Bad f → reading_from front s p left ≡ at_fault (at_place p f)
+  pub from_bad : (s : S) (p : ℕ) (left : List ℕ) (f : FormatFault) → front s left ≡ Bad f → reading_from front s p left ≡ at_fault (at_place p f)
   unfolding reading_from reading_within
   from_bad s p left f e = ap (λ o. continued o p left (reading_within front (length left))) e
 

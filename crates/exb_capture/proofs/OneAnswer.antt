@@ -1,9 +1,9 @@
 -- What is answered of a file is one.
 use Rattle.std.proofs.Common.{◌≡◌, ℕ, List, Option, Some, None, Result, Ok, Err, ap, sym, subst, inl, inr, ◌∙◌, arith}
 use Rattle.std.specs.Prelude.{◌⊎◌}
-use Rattle.exb_capture.specs.declared.checking.Scanned.{Scanned}
-use Rattle.exb_capture.specs.declared.checking.ScanFault.{ScanFault}
-use Rattle.exb_capture.specs.declared.checking.ScanFault.TheVariants.{Memory, Missing, Read, Fault, Large}
+use Rattle.exb_capture.specs.declared.scans.Scanned.{Scanned}
+use Rattle.exb_capture.specs.declared.scans.ScanFault.{ScanFault}
+use Rattle.exb_capture.specs.declared.scans.ScanFault.TheVariants.{Memory, Missing, Read, Fault, Large}
 use Rattle.exb_capture.specs.Scans.{IsScanOf, IsScan, IsOfFile, scanned_of}
 
 one_of : (limit : ℕ) (bytes : List ℕ) (a b : Result Scanned ScanFault) → IsScanOf limit bytes a → IsScanOf limit bytes b → IsOfFile a → IsOfFile b → a ≡ b

@@ -4,11 +4,11 @@ use Rattle.std.specs.Prelude.{nat_lt, ◌⊎◌}
 use Rattle.std.proofs.lemmas.Bool.{ltb-true, ltb-false, cases_lt}
 use Rattle.std.proofs.lemmas.List.{append-nil, take-append-drop, take-take}
 use Rattle.exb_model.specs.Input.{Record}
-use Rattle.exb_capture.specs.declared.fault.Fault.{Fault}
+use Rattle.exb_capture.specs.declared.fault.FormatFault.{FormatFault}
 use Rattle.exb_capture.specs.declared.fault.Flaw.TheVariants.{Cut}
 use Rattle.exb_capture.specs.Formats.{Front, Nothing, Short, Bad, Over, Holds, Capture, before, fault, reading_from, whole}
-use Rattle.exb_capture.specs.Pieces.{IsFormat, Stage, At, Failed, Reading, Answer, Found, More, End, Faulty, Step, Turn, Answers, GoesOn, unread, fitting, gone, over, at_last, turn_at, turn, settled, asked_within, asked, to_come, IsFirst}
-use Rattle.exb_capture.specs.Cutting.{Call, Feed, Ask, Feeding, begun, after_call, after_calls, but_more, answered, answers, MayBeCalled, in_turn, first_answers}
+use Rattle.exb_capture.specs.ReaderMachine.{IsFormat, Stage, At, Failed, Reading, Answer, Found, More, End, Faulty, Step, Turn, Answers, GoesOn, unread, fitting, gone, over, at_last, turn_at, turn, settled, asked_within, asked, to_come, IsFirst}
+use Rattle.exb_capture.specs.PieceFeeds.{Call, Feed, Ask, Feeding, begun, after_call, after_calls, but_more, answered, answers, MayBeCalled, in_turn, first_answers}
 use Rattle.exb_capture.proofs.FrontLemmas.{over_there}
 use Rattle.exb_capture.proofs.TurnLemmas.{reading, asked_reads}
 
@@ -30,11 +30,11 @@ end_turn : (n : ℕ) → in_turn (suc n) [] None ≡ End ∷ in_turn n [] None
 unfolding in_turn
 end_turn n = refl
 
-fault_turn : (n : ℕ) (f : Fault) → in_turn (suc n) [] (Some f) ≡ Faulty f ∷ in_turn n [] (Some f)
+fault_turn : (n : ℕ) (f : FormatFault) → in_turn (suc n) [] (Some f) ≡ Faulty f ∷ in_turn n [] (Some f)
 unfolding in_turn
 fault_turn n f = refl
 
-zero_turn : (records : List Record) (f : Option Fault) → in_turn 0 records f ≡ []
+zero_turn : (records : List Record) (f : Option FormatFault) → in_turn 0 records f ≡ []
 unfolding in_turn
 zero_turn records f = refl
 
@@ -60,7 +60,7 @@ both_read given later left middle whole p q n =
     at_turn _ _ whole count ∙ p (length later + n) ∙ ap (λ xs. given ++ xs) (q n) ∙ sym (append_assoc given later (in_turn n left.records left.fault))
 
 -- answers that end with End, or with a fault, are all of the records and that
-turned_end : (n : ℕ) (rs : List Record) (f : Option Fault) (xs : List Record) (again : List Answer) → in_turn n rs f ≡ map Found xs ++ End ∷ again → (rs ≡ xs) × (f ≡ None)
+turned_end : (n : ℕ) (rs : List Record) (f : Option FormatFault) (xs : List Record) (again : List Answer) → in_turn n rs f ≡ map Found xs ++ End ∷ again → (rs ≡ xs) × (f ≡ None)
 unfolding in_turn
 turned_end zero rs f [] again e = absurd (cc)
 turned_end zero rs f (x ∷ xs) again e = absurd (cc)
@@ -75,7 +75,7 @@ turned_end (suc n) [] None (x ∷ xs) again e = absurd (cc)
 turned_end (suc n) [] (Some f) [] again e = absurd (cc)
 turned_end (suc n) [] (Some f) (x ∷ xs) again e = absurd (cc)
 
-turned_fault : (n : ℕ) (rs : List Record) (f : Option Fault) (xs : List Record) (last : Fault) (again : List Answer) → in_turn n rs f ≡ map Found xs ++ Faulty last ∷ again → f ≡ Some last
+turned_fault : (n : ℕ) (rs : List Record) (f : Option FormatFault) (xs : List Record) (last : FormatFault) (again : List Answer) → in_turn n rs f ≡ map Found xs ++ Faulty last ∷ again → f ≡ Some last
 unfolding in_turn
 turned_fault zero rs f [] last again e = absurd (cc)
 turned_fault zero rs f (x ∷ xs) last again e = absurd (cc)
@@ -88,11 +88,11 @@ turned_fault (suc n) [] None (x ∷ xs) last again e = absurd (cc)
 turned_fault (suc n) [] (Some f) [] last again e = let same : f ≡ last = cc in ap Some same
 turned_fault (suc n) [] (Some f) (x ∷ xs) last again e = absurd (cc)
 
-read_whole : (rs : List Record) (ps : List ℕ) (f : Option Fault) (xs : List Record) → rs ≡ xs → f ≡ None → whole (record { records = rs; places = ps; fault = f }) ≡ Ok xs
+read_whole : (rs : List Record) (ps : List ℕ) (f : Option FormatFault) (xs : List Record) → rs ≡ xs → f ≡ None → whole (record { records = rs; places = ps; fault = f }) ≡ Ok xs
 read_whole rs ps None xs p q = ap Ok p
 read_whole rs ps (Some f) xs p q = absurd (cc)
 
-read_fault : (rs : List Record) (ps : List ℕ) (f : Option Fault) (last : Fault) → f ≡ Some last → whole (record { records = rs; places = ps; fault = f }) ≡ Err last
+read_fault : (rs : List Record) (ps : List ℕ) (f : Option FormatFault) (last : FormatFault) → f ≡ Some last → whole (record { records = rs; places = ps; fault = f }) ≡ Err last
 read_fault rs ps None last q = absurd (cc)
 read_fault rs ps (Some f) last q = let same : f ≡ last = cc in ap Err same
 
@@ -163,7 +163,7 @@ module _ {S : Type 0} (most : ℕ) (front : S → List ℕ → Front S) (ok : Is
   pub records_read : (s : S) (file : List ℕ) (calls : List Call) → MayBeCalled most front calls (begun most s file)
       → (records : List Record) (again : List Answer)
       → (answers most front calls (begun most s file) ≡ map Found records ++ End ∷ again → whole (reading_from front s 0 file) ≡ Ok records)
-      × ((f : Fault) → answers most front calls (begun most s file) ≡ map Found records ++ Faulty f ∷ again → whole (reading_from front s 0 file) ≡ Err f)
+      × ((f : FormatFault) → answers most front calls (begun most s file) ≡ map Found records ++ Faulty f ∷ again → whole (reading_from front s 0 file) ≡ Err f)
   records_read s file calls may records again =
       let read : Capture = reading_from front s 0 file in
       let n : ℕ = length (answers most front calls (begun most s file)) in
@@ -186,7 +186,7 @@ module _ {S : Type 0} (most : ℕ) (front : S → List ℕ → Front S) (ok : Is
   front_roomy ended s p h o b m (Over n t) e = tt
   front_roomy ended s p h o b m (Holds x n t) e = λ is. absurd (cc)
 
-  owing_roomy : (ended : Bool) (f : Fault) (r : Reading S) → length r.held < most → Roomy ended (at_last most ended f r)
+  owing_roomy : (ended : Bool) (f : FormatFault) (r : Reading S) → length r.held < most → Roomy ended (at_last most ended f r)
   owing_roomy true f r few = λ is. absurd (cc)
   owing_roomy false f r few = λ is. (refl, omega arith)
 
@@ -201,7 +201,7 @@ module _ {S : Type 0} (most : ℕ) (front : S → List ℕ → Front S) (ok : Is
       g : Reading S
       g = gone (reading (At s) p h o b m)
 
-      last_stops : (k : Bool) (f : Fault) (x : Reading S) → at_last most k f x ≡ GoesOn r → Enough n r.owing r.held
+      last_stops : (k : Bool) (f : FormatFault) (x : Reading S) → at_last most k f x ≡ GoesOn r → Enough n r.owing r.held
       last_stops true f x is = absurd (cc)
       last_stops false f x is = absurd (cc)
 

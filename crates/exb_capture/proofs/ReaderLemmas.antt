@@ -1,18 +1,18 @@
 -- The parts of a turn make the turn.
 use Rattle.std.proofs.Common.{◌≡◌, ◌≤◌, ℕ, Bool, List, length, take, drop, Option, Some, None, refl, ap, sym, ◌∙◌, cond, arith}
 use Rattle.std.proofs.lemmas.Bool.{le-ltb}
-use Rattle.exb_capture.specs.declared.format.Seen.{Seen}
-use Rattle.exb_capture.specs.declared.fault.Fault.{Fault}
+use Rattle.exb_capture.specs.declared.format.RecordSpan.{RecordSpan}
+use Rattle.exb_capture.specs.declared.fault.FormatFault.{FormatFault}
 use Rattle.exb_capture.specs.declared.fault.Flaw.TheVariants.{Cut}
 use Rattle.exb_capture.specs.declared.format.Front.{Front}
 use Rattle.exb_capture.specs.Formats.{fault}
 use Rattle.exb_capture.specs.Formats.{Front as Stood}
 use Rattle.exb_capture.specs.Blocks.{most_held}
-use Rattle.exb_capture.specs.Pieces.{At, Reading, Step, Answers, Found, gone, over, at_last, turn_at, turn_of, turn}
-use Rattle.exb_capture.specs.Within.{told}
-use Rattle.exb_capture.specs.Asked.{stage_of, Looks}
+use Rattle.exb_capture.specs.ReaderMachine.{At, Reading, Step, Answers, Found, gone, over, at_last, turn_at, turn_of, turn}
+use Rattle.exb_capture.specs.FieldRanges.{told}
+use Rattle.exb_capture.specs.ReaderAnswers.{stage_of, Looks}
 
-pub none_stage : {S : Type 0} (failed : Option Fault) (s : S) → ((f : Fault) → failed ≡ Some f → ⊥) → stage_of failed s ≡ At s
+pub none_stage : {S : Type 0} (failed : Option FormatFault) (s : S) → ((f : FormatFault) → failed ≡ Some f → ⊥) → stage_of failed s ≡ At s
 none_stage None s never = refl
 none_stage (Some f) s never = absurd (never f refl)
 
@@ -51,7 +51,7 @@ place_is {S = S} r x e = ap (λ (y : Reading S). y.place) e
 pub held_is : {S : Type 0} (r x : Reading S) → r ≡ x → length r.held ≡ length x.held
 held_is {S = S} r x e = ap (λ (y : Reading S). length y.held) e
 
-pub found_is : {S : Type 0} (s : Seen) (r x : Reading S) → r ≡ x
+pub found_is : {S : Type 0} (s : RecordSpan) (r x : Reading S) → r ≡ x
     → Answers (Found (record { time = s.moment; bytes = take s.bytes (drop s.from r.held) })) r ≡ Answers (Found (record { time = s.moment; bytes = take s.bytes (drop s.from x.held) })) x
 found_is {S = S} s r x e = ap (λ (y : Reading S). Answers (Found (record { time = s.moment; bytes = take s.bytes (drop s.from y.held) })) y) e
 

@@ -6,7 +6,7 @@ use Rattle.std.proofs.lemmas.List.{drop-append-le, drop_all, append-nil}
 use Rattle.std.proofs.Math.Seq.{drop-append-add}
 use Rattle.exb_capture.specs.declared.fault.Flaw.TheVariants.{Cut}
 use Rattle.exb_capture.specs.Formats.{Front, Nothing, Short, Bad, Over, Holds, Capture, at_fault, fault, reading_from}
-use Rattle.exb_capture.specs.Pieces.{IsFormat, Stage, At, Failed, Reading, Step, Turn, Answers, GoesOn, at_last, turn_at, turn_in, turn, settled, asked_within, asked, reading_over, to_come, IsFirst}
+use Rattle.exb_capture.specs.ReaderMachine.{IsFormat, Stage, At, Failed, Reading, Step, Turn, Answers, GoesOn, at_last, turn_at, turn_in, turn, settled, asked_within, asked, reading_over, to_come, IsFirst}
 use Rattle.exb_capture.proofs.FrontLemmas.{from_nothing, from_short, from_bad, from_over, from_holds, over_there}
 
 -- ---- a reader by its parts

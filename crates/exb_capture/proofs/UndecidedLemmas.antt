@@ -4,27 +4,27 @@ use Rattle.std.specs.Prelude.{◌⊎◌, replicate, get_or, ◌==◌, ◌&&◌}
 use Rattle.std.proofs.lemmas.Bool.{cases_lt, eq-eqb}
 use Rattle.std.proofs.lemmas.List.{length-replicate, get_or-replicate, get_or_past, get_or_append_left, get_or-append_right}
 use Rattle.exb_model.specs.Frames.{IsBytes}
-use Rattle.exb_capture.specs.declared.fault.Fault.{Fault}
+use Rattle.exb_capture.specs.declared.fault.FormatFault.{FormatFault}
 use Rattle.exb_capture.specs.declared.fault.Flaw.TheVariants.{Cut}
 use Rattle.exb_capture.specs.Fields.{◌>>=◌, refuse, agrees}
 use Rattle.exb_capture.specs.Formats.{Front, Nothing, Short, Bad, Over, Holds}
 use Rattle.exb_capture.specs.Captures.{mapped}
-use Rattle.exb_capture.specs.Pieces.{IsOther, IsNotCut}
+use Rattle.exb_capture.specs.ReaderMachine.{IsOther, IsNotCut}
 
 -- its fault, if it has one, is none of being cut off
-abbrev pub IsWhole : {X : Type 0} → Result X Fault → Type 0
+abbrev pub IsWhole : {X : Type 0} → Result X FormatFault → Type 0
 IsWhole (Ok x) = Unit {0}
 IsWhole (Err f) = f.flaw ≡ Cut → ⊥
 
-pub then_whole : {X Y : Type 0} (r : Result X Fault) (k : X → Result Y Fault) → IsWhole r → ((x : X) → IsWhole (k x)) → IsWhole (r >>= k)
+pub then_whole : {X Y : Type 0} (r : Result X FormatFault) (k : X → Result Y FormatFault) → IsWhole r → ((x : X) → IsWhole (k x)) → IsWhole (r >>= k)
 then_whole (Ok x) k h j = j x
 then_whole (Err f) k h j = h
 
-pub refused_whole : (b : Bool) (f : Fault) → (f.flaw ≡ Cut → ⊥) → IsWhole (refuse b f)
+pub refused_whole : (b : Bool) (f : FormatFault) → (f.flaw ≡ Cut → ⊥) → IsWhole (refuse b f)
 refused_whole true f h = h
 refused_whole false f h = tt
 
-pub chosen_whole : {X : Type 0} (b : Bool) (x y : Result X Fault) → IsWhole x → IsWhole y → IsWhole (cond b x y)
+pub chosen_whole : {X : Type 0} (b : Bool) (x y : Result X FormatFault) → IsWhole x → IsWhole y → IsWhole (cond b x y)
 chosen_whole true x y h k = h
 chosen_whole false x y h k = k
 
@@ -75,7 +75,7 @@ mapped_other m flaw n (Bad f) h = h
 mapped_other m flaw n (Over k s) h = h
 mapped_other m flaw n (Holds x k s) h = h
 
-pub mapped_short : {S T : Type 0} (m : S → T) (x : Front S) (f : Fault) → mapped m x ≡ Short f → x ≡ Short f
+pub mapped_short : {S T : Type 0} (m : S → T) (x : Front S) (f : FormatFault) → mapped m x ≡ Short f → x ≡ Short f
 mapped_short m Nothing f e = absurd (cc)
 mapped_short m (Short g) f e = let same : g ≡ f = cc in λ i. Short (same i)
 mapped_short m (Bad g) f e = absurd (cc)

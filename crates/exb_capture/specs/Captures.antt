@@ -1,13 +1,13 @@
 -- A capture of either format: the first four bytes of a file say which.
 use Rattle.std.specs.Prelude.{◌≡◌, ◌<◌, ◌≤◌, ℕ, nat_lt, if◌then◌else◌, true, false, List, [], ◌∷◌, length, Result, Ok, Err}
 use Rattle.exb_model.specs.Input.{Record}
-use Rattle.exb_capture.specs.declared.fault.Fault.{Fault}
+use Rattle.exb_capture.specs.declared.fault.FormatFault.{FormatFault}
 use Rattle.exb_capture.specs.declared.fault.Flaw.TheVariants.{NotPcap}
-use Rattle.exb_capture.specs.declared.classic.Reached.TheVariants.{Start}
+use Rattle.exb_capture.specs.declared.classic.ClassicFormat.TheVariants.{Start}
 use Rattle.exb_capture.specs.Blocks.{no_section, block_front, ng_records}
 use Rattle.exb_capture.specs.Classic.{classic_front, pcap_records}
-use Rattle.exb_capture.specs.declared.format.Capture.{Capture as State}
-use Rattle.exb_capture.specs.declared.format.Capture.TheVariants.{Unknown, Classic, Blocks}
+use Rattle.exb_capture.specs.declared.format.AnyFormat.{AnyFormat as State}
+use Rattle.exb_capture.specs.declared.format.AnyFormat.TheVariants.{Unknown, Classic, Blocks}
 use Rattle.exb_capture.specs.Fields.{agrees}
 use Rattle.exb_capture.specs.Formats.{Front, Nothing, Short, Bad, Over, Holds, Capture, fault, reading_from, whole}
 
@@ -39,11 +39,11 @@ abbrev pub capture_of : List ℕ → Capture
 capture_of file = reading_from capture_front Unknown 0 file
 
 -- a capture as the list of its times and frames, or its first fault
-unfoldable pub capture_records : List ℕ → Result (List Record) Fault
+unfoldable pub capture_records : List ℕ → Result (List Record) FormatFault
 capture_records file = whole (capture_of file)
 
 -- the records of a capture, where it has no fault
-abbrev pub records_or_none : Result (List Record) Fault → List Record
+abbrev pub records_or_none : Result (List Record) FormatFault → List Record
 records_or_none (Ok records) = records
 records_or_none (Err fault) = []
 

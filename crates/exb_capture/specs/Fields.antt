@@ -1,17 +1,17 @@
 -- The fields of a capture, and a table of faults in its order.
 use Rattle.std.specs.Prelude.{ℕ, ◌-◌, ◌*◌, ◌^◌, ◌==◌, ◌&&◌, ◌||◌, nat_le, length, slice_index, Bool, true, false, List, [], ◌∷◌, drop, Result, Ok, Err}
 use Rattle.std.specs.Int.{w16, w32, from_be_bytes, from_le_bytes}
-use Rattle.exb_capture.specs.declared.fault.Fault.{Fault}
-use Rattle.exb_capture.specs.declared.order.ByteOrder.{ByteOrder}
-use Rattle.exb_capture.specs.declared.order.ByteOrder.TheVariants.{Big, Little}
+use Rattle.exb_capture.specs.declared.fault.FormatFault.{FormatFault}
+use Rattle.exb_capture.specs.declared.byte_order.ByteOrder.{ByteOrder}
+use Rattle.exb_capture.specs.declared.byte_order.ByteOrder.TheVariants.{Big, Little}
 
 infixl 10 ◌>>=◌
-abbrev pub ◌>>=◌ : {A B : Type 0} → Result A Fault → (A → Result B Fault) → Result B Fault
+abbrev pub ◌>>=◌ : {A B : Type 0} → Result A FormatFault → (A → Result B FormatFault) → Result B FormatFault
 (Ok x) >>= f = f x
 (Err fault) >>= f = Err fault
 
 -- the fault, where the test holds
-abbrev pub refuse : Bool → Fault → Result (Unit {0}) Fault
+abbrev pub refuse : Bool → FormatFault → Result (Unit {0}) FormatFault
 refuse true fault = Err fault
 refuse false fault = Ok tt
 

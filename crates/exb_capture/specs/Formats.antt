@@ -2,12 +2,12 @@
 -- the records of a file follow from that alone.
 use Rattle.std.specs.Prelude.{ℕ, zero, suc, ◌+◌, ◌-◌, ◌^◌, nat_lt, min, if◌then◌else◌, List, [], ◌∷◌, length, drop, Option, Some, None, Result, Ok, Err}
 use Rattle.exb_model.specs.Input.{Record}
-use Rattle.exb_capture.specs.declared.fault.Fault.{Fault}
+use Rattle.exb_capture.specs.declared.fault.FormatFault.{FormatFault}
 use Rattle.exb_capture.specs.declared.fault.Flaw.{Flaw}
 use Rattle.exb_capture.specs.declared.fault.Flaw.TheVariants.{Cut}
 
 -- a flaw so many bytes behind the place where what is read begins
-abbrev pub fault : Flaw → ℕ → Fault
+abbrev pub fault : Flaw → ℕ → FormatFault
 fault flaw n = record { flaw = flaw; at = n }
 
 -- a place so many bytes behind another one, as 64 bits tell it: their sum in every file of fewer than 2^64 bytes
@@ -15,7 +15,7 @@ abbrev pub behind : ℕ → ℕ → ℕ
 behind place n = min (place + n) (2 ^ 64 - 1)
 
 -- the same fault, in what begins at this place of the file
-abbrev pub at_place : ℕ → Fault → Fault
+abbrev pub at_place : ℕ → FormatFault → FormatFault
 at_place place f = record f { at = behind place f.at }
 
 -- What stands at the front of what is left, for a format whose reading is in a state of S.
@@ -23,9 +23,9 @@ pub data Front (S : Type 0) : Type 0 where
   -- nothing is there: where the file ends, it has ended well
   Nothing : Front S
   -- what more bytes decide; where the file ends, it has this fault
-  Short : Fault → Front S
+  Short : FormatFault → Front S
   -- a fault, whatever follows
-  Bad : Fault → Front S
+  Bad : FormatFault → Front S
   -- so many bytes that are no record, and the state behind them; they need not all be there yet
   Over : ℕ → S → Front S
   -- a record, how many bytes it takes, all of which are there, and the state behind it
@@ -35,14 +35,14 @@ pub data Front (S : Type 0) : Type 0 where
 pub record Capture : Type 0 where
   pub records : List Record
   pub places : List ℕ
-  pub fault : Option Fault
+  pub fault : Option FormatFault
 
 -- nothing is left
 abbrev pub at_end : Capture
 at_end = record { records = []; places = []; fault = None }
 
 -- what is left has this fault at its front
-abbrev pub at_fault : Fault → Capture
+abbrev pub at_fault : FormatFault → Capture
 at_fault f = record { records = []; places = []; fault = Some f }
 
 -- a record that begins at this place, and what follows it
@@ -68,9 +68,9 @@ unfoldable pub reading_from : {S : Type 0} → (S → List ℕ → Front S) → 
 reading_from front s place left = reading_within front (suc (length left)) s place left
 
 -- all records, where there is no fault
-abbrev pub whole : Capture → Result (List Record) Fault
+abbrev pub whole : Capture → Result (List Record) FormatFault
 whole c = whole_of c.fault c.records
   where
-    whole_of : Option Fault → List Record → Result (List Record) Fault
+    whole_of : Option FormatFault → List Record → Result (List Record) FormatFault
     whole_of None records = Ok records
     whole_of (Some f) records = Err f

@@ -2,15 +2,15 @@
 use Rattle.std.specs.Prelude.{◌≡◌, List, Ok, All, map}
 use Rattle.exb_model.specs.FlatBridge.{Sent}
 use Rattle.exb_model.specs.Texts.{capture_text}
-use Rattle.exb_capture.specs.declared.classic.Reached.TheVariants.{Start}
-use Rattle.exb_capture.specs.declared.format.Capture.TheVariants.{Unknown}
+use Rattle.exb_capture.specs.declared.classic.ClassicFormat.TheVariants.{Start}
+use Rattle.exb_capture.specs.declared.format.AnyFormat.TheVariants.{Unknown}
 use Rattle.exb_capture.specs.Blocks.{block_front, no_section, most_held}
 use Rattle.exb_capture.specs.Captures.{capture_front, capture_records}
 use Rattle.exb_capture.specs.Classic.{classic_front, pcap_records}
-use Rattle.exb_capture.specs.Cutting.{PiecesAreRead, PiecesGiveTheRecords, MoreIsOpen, AnswersAreFirst, MoreHasRoom}
-use Rattle.exb_capture.specs.Pieces.{IsFormat}
-use Rattle.exb_capture.specs.Rows.{TheRowIsRead, AnotherInterface, TheLastByteCut, NothingIsEmpty, TheTable}
-use Rattle.exb_capture.specs.Written.{CanBeWritten, in_microseconds}
+use Rattle.exb_capture.specs.PieceFeeds.{PiecesAreRead, PiecesGiveTheRecords, MoreIsOpen, AnswersAreFirst, MoreHasRoom}
+use Rattle.exb_capture.specs.ReaderMachine.{IsFormat}
+use Rattle.exb_capture.specs.WorkedCases.{TheRowIsRead, AnotherInterface, TheLastByteCut, NothingIsEmpty, TheTable}
+use Rattle.exb_capture.specs.OutputCaptures.{CanBeWritten, in_microseconds}
 
 -- the worked cases come out as they must
 pub record RowsAreRead : Type 0 where

@@ -2,14 +2,14 @@
 use Rattle.std.specs.Prelude.{⊤, ◌≡◌, ◌≤◌, ◌<◌, ◌⊎◌, ℕ, List, [], ◌∷◌, length, take, Option, Some, None, Result, Ok, Err}
 use Rattle.exb_model.specs.Input.{Record}
 use Rattle.exb_capture.specs.Captures.{capture_records}
-use Rattle.exb_capture.specs.declared.fault.Fault.{Fault as Broke}
-use Rattle.exb_capture.specs.declared.checking.Scanned.{Scanned}
-use Rattle.exb_capture.specs.declared.checking.ScanFault.{ScanFault}
-use Rattle.exb_capture.specs.declared.checking.ScanFault.TheVariants.{Memory, Missing, Read, Fault, Large}
-use Rattle.exb_capture.specs.declared.file.CaptureFile.{CaptureFile}
-use Rattle.exb_capture.specs.declared.file.Halt.{Halt}
-use Rattle.exb_capture.specs.declared.file.Halt.TheVariants as halt
-use Rattle.exb_capture.specs.Reading.{HasRead, Stands}
+use Rattle.exb_capture.specs.declared.fault.FormatFault.{FormatFault as Broke}
+use Rattle.exb_capture.specs.declared.scans.Scanned.{Scanned}
+use Rattle.exb_capture.specs.declared.scans.ScanFault.{ScanFault}
+use Rattle.exb_capture.specs.declared.scans.ScanFault.TheVariants.{Memory, Missing, Read, Fault, Large}
+use Rattle.exb_capture.specs.declared.capture_file.CaptureFile.{CaptureFile}
+use Rattle.exb_capture.specs.declared.capture_file.Halt.{Halt}
+use Rattle.exb_capture.specs.declared.capture_file.Halt.TheVariants as halt
+use Rattle.exb_capture.specs.CaptureFiles.{HasRead, Stands}
 
 abbrev pub refused : ℕ → Halt → ScanFault
 refused limit halt.Memory = Memory

@@ -1,11 +1,11 @@
 //! The blocks of a pcapng file, each looked at once.
 ghost use Rattle.std.specs.Prelude.{◌≡◌, ◌≤◌, ◌<◌, ◌*◌, ◌^◌, ◌+◌, ◌-◌, ◌%◌, All, None, length, IfOk};
 ghost use Rattle.exb_capture.specs.Blocks.{new_order, old_order, kind_of, is_read, head_at, is_no_frame, or_option, resolution_from, interface_at, enhanced_at, simple_at, block_at};
-ghost use Rattle.exb_capture.specs.Within.{HasDigits, HasResolution, IsIn, IsHead, IsReadable};
+ghost use Rattle.exb_capture.specs.FieldRanges.{HasDigits, HasResolution, IsIn, IsHead, IsReadable};
 
-use crate::fault::{Fault, Flaw, refuse};
-use crate::format::Seen;
-use crate::order::{ByteOrder, half_word_at, word_at};
+use crate::byte_order::{ByteOrder, half_word_at, word_at};
+use crate::fault::{Flaw, FormatFault, refuse};
+use crate::format::RecordSpan;
 use exb_model::bytes::LONGEST_FRAME;
 
 // The numbers of the blocks that are looked into.
@@ -36,7 +36,7 @@ pub struct Interface {
 
 /// What the first twelve bytes of a block say.
 #[derive(Clone, Copy)]
-pub struct Head {
+pub struct BlockHeader {
     pub order: ByteOrder,
     /// The number of its kind.
     pub kind: u32,
@@ -45,11 +45,11 @@ pub struct Head {
 
 /// What a block says: nothing that is read; that a section begins; an interface; or a frame of the block.
 #[derive(Clone, Copy)]
-pub enum Content {
+pub enum BlockContent {
     Skipped,
     NewSection,
     NewInterface(Interface),
-    Packet(Seen),
+    Packet(RecordSpan),
 }
 
 // Whether a block of this kind is looked into.
@@ -81,7 +81,7 @@ fn new_order(twelve: &[u8]) -> Option<ByteOrder>
 
 /// What the first twelve bytes of a block say, in a section of this order.
 #[inline(always)]
-pub(crate) fn head_of(old: Option<ByteOrder>, twelve: &[u8]) -> Result<Head, Fault>
+pub(crate) fn head_of(old: Option<ByteOrder>, twelve: &[u8]) -> Result<BlockHeader, FormatFault>
     requires { 12 ≤ length twelve.now }
     ensures value { result ≡ head_at old twelve.now }
     ensures sized { IfOk result IsHead }
@@ -92,14 +92,14 @@ pub(crate) fn head_of(old: Option<ByteOrder>, twelve: &[u8]) -> Result<Head, Fau
         old
     };
     let Some(order) = known else {
-        return Err(Fault::new(Flaw::Magic, 8));
+        return Err(FormatFault::new(Flaw::Magic, 8));
     };
     let kind = word_at(order, twelve, 0);
     let size = word_at(order, twelve, 4);
     if size < 12 || size % 4 != 0 || is_read(kind) && size > MOST_SIZE {
-        return Err(Fault::new(Flaw::Length, 4));
+        return Err(FormatFault::new(Flaw::Length, 4));
     }
-    Ok(Head { order, kind, size })
+    Ok(BlockHeader { order, kind, size })
 }
 
 // Whether a frame is too long, or doesn't fit into a block of this size behind so many bytes.
@@ -134,11 +134,11 @@ fn units(digits: u8) -> u64
 
 // With the option at this place, where none before it was an option 9.
 fn or_option(
-    first: Option<Result<u8, Fault>>,
+    first: Option<Result<u8, FormatFault>>,
     order: ByteOrder,
     block: &[u8],
     at: usize,
-) -> Option<Result<u8, Fault>>
+) -> Option<Result<u8, FormatFault>>
     requires there { at + 8 ≤ length block.now }
     requires digits { HasDigits first }
     ensures value { result ≡ or_option first order at block.now }
@@ -150,12 +150,12 @@ fn or_option(
     if half_word_at(order, block, at + 2) == 1 && block[at + 4] <= 9 {
         return Some(Ok(block[at + 4]));
     }
-    Some(Err(Fault::new(Flaw::Resolution, at as u64)))
+    Some(Err(FormatFault::new(Flaw::Resolution, at as u64)))
 }
 
 // What the options of an interface block say of its resolution.
 #[tactic(auto, using(crate::proofs::OptionLemmas::from_end, crate::proofs::OptionLemmas::from_zero, crate::proofs::OptionLemmas::from_past, crate::proofs::OptionLemmas::from_next))]
-fn resolution(order: ByteOrder, block: &[u8]) -> Result<u8, Fault>
+fn resolution(order: ByteOrder, block: &[u8]) -> Result<u8, FormatFault>
     requires long { 20 ≤ length block.now }
     requires most { length block.now ≤ 327_680 }
     requires fours { length block.now % 4 ≡ 0 }
@@ -164,7 +164,7 @@ fn resolution(order: ByteOrder, block: &[u8]) -> Result<u8, Fault>
 {
     let to = block.len() - 4;
     let mut at = 16usize;
-    let mut first: Option<Result<u8, Fault>> = None;
+    let mut first: Option<Result<u8, FormatFault>> = None;
     'options: while at < to && half_word_at(order, block, at) != 0 {
         let size = half_word_at(order, block, at + 2) as usize;
         refuse!(to < at + 4 + size, Length, at as u64);
@@ -174,7 +174,11 @@ fn resolution(order: ByteOrder, block: &[u8]) -> Result<u8, Fault>
     first.unwrap_or(Ok(6))
 }
 
-fn new_interface(head: Head, interfaces: &[Interface], block: &[u8]) -> Result<Content, Fault>
+fn new_interface(
+    head: BlockHeader,
+    interfaces: &[Interface],
+    block: &[u8],
+) -> Result<BlockContent, FormatFault>
     requires whole { length block.now ≡ head.size }
     requires fours { head.size % 4 ≡ 0 }
     requires most { head.size ≤ 327_680 }
@@ -184,7 +188,7 @@ fn new_interface(head: Head, interfaces: &[Interface], block: &[u8]) -> Result<C
     refuse!(head.size < 20, Length, 4);
     refuse!(interfaces.len() >= 256, TooMany, 0);
     let digits = resolution(head.order, block)?;
-    Ok(Content::NewInterface(Interface {
+    Ok(BlockContent::NewInterface(Interface {
         link: half_word_at(head.order, block, 8),
         snap: word_at(head.order, block, 12),
         digits,
@@ -192,7 +196,11 @@ fn new_interface(head: Head, interfaces: &[Interface], block: &[u8]) -> Result<C
 }
 
 #[inline(always)]
-fn enhanced(head: Head, interfaces: &[Interface], block: &[u8]) -> Result<Content, Fault>
+fn enhanced(
+    head: BlockHeader,
+    interfaces: &[Interface],
+    block: &[u8],
+) -> Result<BlockContent, FormatFault>
     requires whole { length block.now ≡ head.size }
     requires digits { All HasResolution interfaces.now }
     ensures value { result ≡ enhanced_at head interfaces.now block.now }
@@ -208,14 +216,19 @@ fn enhanced(head: Head, interfaces: &[Interface], block: &[u8]) -> Result<Conten
     refuse!(time >= SECONDS * units(interface.digits), Time, 12);
     let bytes = word_at(head.order, block, 20);
     refuse!(is_no_frame(head.size, 32, bytes), Length, 20);
-    Ok(Content::Packet(Seen {
+    Ok(BlockContent::Packet(RecordSpan {
         moment: time * units(9 - interface.digits),
         from: 28,
         bytes,
     }))
 }
 
-fn simple(head: Head, interfaces: &[Interface], last: u64, block: &[u8]) -> Result<Content, Fault>
+fn simple(
+    head: BlockHeader,
+    interfaces: &[Interface],
+    last: u64,
+    block: &[u8],
+) -> Result<BlockContent, FormatFault>
     requires whole { length block.now ≡ head.size }
     requires digits { All HasResolution interfaces.now }
     requires last { last < 2 ^ 32 * 1_000_000_000 }
@@ -233,7 +246,7 @@ fn simple(head: Head, interfaces: &[Interface], last: u64, block: &[u8]) -> Resu
         original.min(interface.snap)
     };
     refuse!(is_no_frame(head.size, 16, bytes), Length, 8);
-    Ok(Content::Packet(Seen {
+    Ok(BlockContent::Packet(RecordSpan {
         moment: last,
         from: 12,
         bytes,
@@ -244,11 +257,11 @@ fn simple(head: Head, interfaces: &[Interface], last: u64, block: &[u8]) -> Resu
 #[tactic(auto, unfolding(crate::specs::Blocks::block_at))]
 #[inline(always)]
 pub(crate) fn whole_block(
-    head: Head,
+    head: BlockHeader,
     interfaces: &[Interface],
     last: u64,
     block: &[u8],
-) -> Result<Content, Fault>
+) -> Result<BlockContent, FormatFault>
     requires { IsReadable head interfaces.now last block.now }
     ensures value { result ≡ block_at head interfaces.now last block.now }
     ensures within { IfOk result (IsIn head.size (length interfaces.now)) }
@@ -260,11 +273,11 @@ pub(crate) fn whole_block(
         SECTION_HEADER => {
             refuse!(head.size < 28, Length, 4);
             refuse!(half_word_at(head.order, block, 12) != 1, Version, 12);
-            Ok(Content::NewSection)
+            Ok(BlockContent::NewSection)
         }
         INTERFACE => new_interface(head, interfaces, block),
         PACKET => enhanced(head, interfaces, block),
         SIMPLE_PACKET => simple(head, interfaces, last, block),
-        _ => Ok(Content::Skipped),
+        _ => Ok(BlockContent::Skipped),
     }
 }

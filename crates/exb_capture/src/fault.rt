@@ -29,29 +29,29 @@ pub enum Flaw {
 
 /// What is wrong, and the byte at which it is.
 #[derive(Clone, Copy, Debug)]
-pub struct Fault {
+pub struct FormatFault {
     pub flaw: Flaw,
     pub at: u64,
 }
 
-impl Fault {
+impl FormatFault {
     // Apart, so that nothing of a fault is made ready where there is none.
     #[cold]
     #[inline(never)]
-    pub(crate) fn new(flaw: Flaw, at: u64) -> Fault
+    pub(crate) fn new(flaw: Flaw, at: u64) -> FormatFault
         ensures { result ≡ record { flaw = flaw; at = at } }
     {
-        Fault { flaw, at }
+        FormatFault { flaw, at }
     }
 
     // The same fault in what begins at this place of the file.
     #[inline]
-    pub(crate) fn at_place(self, place: u64) -> Fault
+    pub(crate) fn at_place(self, place: u64) -> FormatFault
         ensures { result ≡ at_place place self }
     {
         let at = place.saturating_add(self.at);
         let flaw = self.flaw;
-        Fault { flaw, at }
+        FormatFault { flaw, at }
     }
 }
 
@@ -59,7 +59,7 @@ impl Fault {
 macro_rules! refuse {
     ($test:expr, $flaw:ident, $at:expr) => {
         if $test {
-            return Err(Fault::new(Flaw::$flaw, $at));
+            return Err(FormatFault::new(Flaw::$flaw, $at));
         }
     };
 }

@@ -2,19 +2,19 @@
 ghost use Rattle.std.specs.Prelude.{◌≡◌, List, ℕ};
 ghost use Rattle.exb_capture.specs.Blocks.{most_held};
 ghost use Rattle.exb_capture.specs.Captures.{unknown_front};
-ghost use Rattle.exb_capture.specs.declared.format.Capture.TheVariants.{Unknown};
+ghost use Rattle.exb_capture.specs.declared.format.AnyFormat.TheVariants.{Unknown};
 ghost use Rattle.exb_capture.specs.Formats.{Front as Stood};
-ghost use Rattle.exb_capture.specs.Pieces.{IsFormat};
-ghost use Rattle.exb_capture.specs.Within.{Shows};
+ghost use Rattle.exb_capture.specs.ReaderMachine.{IsFormat};
+ghost use Rattle.exb_capture.specs.FieldRanges.{Shows};
 
-use crate::blocks::Blocks;
-use crate::classic::{Reached, agrees};
-use crate::fault::{Fault, Flaw};
+use crate::classic::{ClassicFormat, agrees};
+use crate::fault::{Flaw, FormatFault};
+use crate::pcapng::PcapngFormat;
 
 /// A record that was looked at: its moment in nanoseconds since the epoch, below 2^32 seconds; where in what was
 /// looked at its frame begins; and how many bytes that has, at most 262,144.
 #[derive(Clone, Copy)]
-pub struct Seen {
+pub struct RecordSpan {
     pub moment: u64,
     pub from: u32,
     pub bytes: u32,
@@ -26,10 +26,10 @@ pub struct Seen {
 #[derive(Clone, Copy)]
 pub enum Front {
     Nothing,
-    Short(Fault),
-    Bad(Fault),
+    Short(FormatFault),
+    Bad(FormatFault),
     Over(u32),
-    Holds(Seen, u32),
+    Holds(RecordSpan, u32),
 }
 
 impl Front {
@@ -65,13 +65,13 @@ pub trait Format: Drop {
 
 /// How far a capture was read, in the format that its first four bytes tell.
 #[derive(Drop)]
-pub enum Capture {
+pub enum AnyFormat {
     Unknown,
-    Classic(Reached),
-    Blocks(Blocks),
+    Classic(ClassicFormat),
+    Blocks(PcapngFormat),
 }
 
-impl Capture {
+impl AnyFormat {
     // What stands at the front of a file, whose first four bytes tell its format.
     #[cold]
     #[inline(never)]
@@ -81,27 +81,27 @@ impl Capture {
     {
         if agrees(0x0A, 0x0D, 0x0D, 0x0A, held) {
             if held.len() < 4 {
-                return Front::Short(Fault::new(Flaw::NotPcap, 0));
+                return Front::Short(FormatFault::new(Flaw::NotPcap, 0));
             }
-            let mut blocks = Blocks::new();
+            let mut blocks = PcapngFormat::new();
             let front = blocks.front(held);
             match front {
-                Front::Over(_) | Front::Holds(_, _) => *self = Capture::Blocks(blocks),
+                Front::Over(_) | Front::Holds(_, _) => *self = AnyFormat::Blocks(blocks),
                 _ => {}
             }
             return front;
         }
-        let mut reached = Reached::Start;
+        let mut reached = ClassicFormat::Start;
         let front = reached.front(held);
         match front {
-            Front::Over(_) | Front::Holds(_, _) => *self = Capture::Classic(reached),
+            Front::Over(_) | Front::Holds(_, _) => *self = AnyFormat::Classic(reached),
             _ => {}
         }
         front
     }
 }
 
-impl Format for Capture {
+impl Format for AnyFormat {
     ghost use Rattle.exb_capture.specs.Captures.{capture_front};
 
     ghost stands = { capture_front };
@@ -110,9 +110,9 @@ impl Format for Capture {
     #[inline(always)]
     fn front(&mut self, held: &[u8]) -> Front {
         match self {
-            Capture::Unknown => self.begin(held).taken(),
-            Capture::Classic(reached) => reached.front(held),
-            Capture::Blocks(blocks) => blocks.front(held),
+            AnyFormat::Unknown => self.begin(held).taken(),
+            AnyFormat::Classic(reached) => reached.front(held),
+            AnyFormat::Blocks(blocks) => blocks.front(held),
         }
     }
 

@@ -3,8 +3,8 @@
 ghost use Rattle.std.specs.Prelude.{◌≡◌, ℕ, List, Option, Result};
 ghost use Rattle.exb_capture.specs.Captures.{EachIsRead};
 ghost use Rattle.exb_capture.specs.Laws.{AnswersComeFirst, AreFormats, MoreStaysOpen, ReadAsTheWhole, RowsAreRead, WrittenIsRead};
-ghost use Rattle.exb_capture.specs.declared.checking.Scanned.{Scanned};
-ghost use Rattle.exb_capture.specs.declared.checking.ScanFault.{ScanFault};
+ghost use Rattle.exb_capture.specs.declared.scans.Scanned.{Scanned};
+ghost use Rattle.exb_capture.specs.declared.scans.ScanFault.{ScanFault};
 ghost use Rattle.exb_capture.specs.Scans.{IsScan, IsOfFile};
 
 /// The capture of 140 bytes has one record, of 100 seconds; with byte 56 changed it names no interface,

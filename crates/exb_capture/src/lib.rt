@@ -6,26 +6,26 @@
 #![tactic(auto)]
 
 mod block;
-mod blocks;
-mod checking;
+mod byte_order;
+mod capture_file;
 mod classic;
 mod fault;
-mod file;
 mod format;
 pub mod laws;
-mod order;
+mod pcapng;
 mod reader;
 mod replay;
+mod scans;
 mod writer;
 
-pub use block::{Content, Head, Interface};
-pub use blocks::Blocks;
-pub use checking::{ScanFault, Scanned, scan};
-pub use classic::{Form, Reached, Resolution};
-pub use fault::{Fault, Flaw};
-pub use file::{CaptureFile, Halt};
-pub use format::{Capture, Format, Front, Seen};
-pub use order::ByteOrder;
+pub use block::{BlockContent, BlockHeader, Interface};
+pub use byte_order::ByteOrder;
+pub use capture_file::{CaptureFile, Halt};
+pub use classic::{ClassicEncoding, ClassicFormat, Resolution};
+pub use fault::{Flaw, FormatFault};
+pub use format::{AnyFormat, Format, Front, RecordSpan};
+pub use pcapng::PcapngFormat;
 pub use reader::{Ahead, Reader};
 pub use replay::{Replay, ReplayFault};
+pub use scans::{ScanFault, Scanned, scan};
 pub use writer::{header_text, record_text};

@@ -2,12 +2,12 @@
 ghost use Rattle.std.specs.Prelude.{◌≡◌, ◌≢◌, ◌<◌, ◌≤◌, ◌+◌, ◌-◌, length, drop, take, None, IfOk};
 ghost use Rattle.exb_shelf.specs.Shelf.{IsReading};
 ghost use Rattle.exb_capture.specs.Blocks.{most_held};
-ghost use Rattle.exb_capture.specs.Pieces.{Reading, At, unread, fitting, fed, roomy, gone, over, at_front_end, turn, asked};
-ghost use Rattle.exb_capture.specs.Calls.{Fills};
-ghost use Rattle.exb_capture.specs.Asked.{turned, seen, IsAhead, IsSeen, Looks};
+ghost use Rattle.exb_capture.specs.ReaderMachine.{Reading, At, unread, fitting, fed, roomy, gone, over, at_front_end, turn, asked};
+ghost use Rattle.exb_capture.specs.CallContracts.{Fills};
+ghost use Rattle.exb_capture.specs.ReaderAnswers.{turned, seen, IsAhead, IsSeen, Looks};
 
-use crate::fault::{Fault, Flaw};
-use crate::format::{Format, Front, Seen};
+use crate::fault::{Flaw, FormatFault};
+use crate::format::{Format, Front, RecordSpan};
 use exb_model::memory::NoMemory;
 use exb_shelf::{Shelf, ShelfFault};
 use std::alloc::{AllocError, Global};
@@ -20,7 +20,7 @@ const BUFFER: usize = 327_680;
 #[derive(Clone, Copy)]
 pub enum Ahead {
     /// A captured frame in what is held.
-    Record(Seen),
+    Record(RecordSpan),
     /// Bytes that weren't fed yet decide what comes next.
     More,
     /// There is no further record.
@@ -39,7 +39,7 @@ fn room_for(alloc: Global, size: usize) -> Result<Vec<u8>, AllocError>
 #[derive(Drop)]
 pub struct Reader<F: Format> {
     format: F,
-    failed: Option<Fault>,
+    failed: Option<FormatFault>,
     place: u64,
     begun: u64,
     owing: u32,
@@ -51,8 +51,8 @@ pub struct Reader<F: Format> {
 impl<F: Format> Model for Reader<F> {
     ghost use Rattle.std.specs.Prelude.{◌≡◌, ◌-◌, ◌≤◌, take, drop, length};
     ghost use Rattle.exb_capture.specs.Blocks.{most_held};
-    ghost use Rattle.exb_capture.specs.Pieces.{Reading};
-    ghost use Rattle.exb_capture.specs.Asked.{stage_of};
+    ghost use Rattle.exb_capture.specs.ReaderMachine.{Reading};
+    ghost use Rattle.exb_capture.specs.ReaderAnswers.{stage_of};
 
     ghost Value = { Reading F };
 
@@ -163,7 +163,11 @@ impl<F: Format> Reader<F> {
 
     // That more is needed, or at the file's end this fault, from then on, or the end.
     #[inline(always)]
-    fn at_last(&mut self, ended: bool, fault: Option<Fault>) -> Option<Result<Ahead, Fault>>
+    fn at_last(
+        &mut self,
+        ended: bool,
+        fault: Option<FormatFault>,
+    ) -> Option<Result<Ahead, FormatFault>>
         ensures value { turned result self.new ≡ at_front_end most_held ended fault self.old }
         ensures held { IsSeen self.new.held result }
     {
@@ -198,7 +202,7 @@ impl<F: Format> Reader<F> {
 
     // One look at the front; nothing where what is there is no record, and it goes on behind it.
     #[inline(always)]
-    fn turn(&mut self, ended: bool) -> Option<Result<Ahead, Fault>>
+    fn turn(&mut self, ended: bool) -> Option<Result<Ahead, FormatFault>>
         ensures value { turned result self.new ≡ turn most_held F.stands ended self.old }
         ensures held { IsSeen self.new.held result }
     {
@@ -208,7 +212,7 @@ impl<F: Format> Reader<F> {
         self.go();
         if self.owing > 0 {
             let at = self.begun;
-            return self.at_last(ended, Some(Fault::new(Flaw::Cut, at)));
+            return self.at_last(ended, Some(FormatFault::new(Flaw::Cut, at)));
         }
         match self.look() {
             Front::Nothing => self.at_last(ended, None),
@@ -228,7 +232,7 @@ impl<F: Format> Reader<F> {
     /// What comes next, where all that was fed decides it; `ended` says that the whole file was fed. After
     /// More there is room. After a fault it gives the same fault again.
     #[inline(always)]
-    pub fn advance(&mut self, ended: bool) -> Result<Ahead, Fault>
+    pub fn advance(&mut self, ended: bool) -> Result<Ahead, FormatFault>
         ensures answer { seen result self.new.held ≡ (asked most_held F.stands ended self.old).answer }
         ensures left { self.new ≡ (asked most_held F.stands ended self.old).left }
         ensures frame { IfOk result (IsAhead self.new.held) }

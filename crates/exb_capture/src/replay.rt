@@ -1,11 +1,11 @@
 //! Reading a capture again that was checked.
 ghost use Rattle.std.specs.Prelude.{◌≡◌, ◌<◌, ◌+◌, ◌^◌, ℕ, true};
-ghost use Rattle.exb_capture.specs.Calls.{LooksAgain, OpensAgain, StopsEarly, TakesAgain};
-ghost use Rattle.exb_capture.specs.Reading.{IsAt, ComesNext};
-ghost use Rattle.exb_capture.specs.Replaying.{comes_early, IsKept, ComesAt};
+ghost use Rattle.exb_capture.specs.CallContracts.{LooksAgain, OpensAgain, StopsEarly, TakesAgain};
+ghost use Rattle.exb_capture.specs.CaptureFiles.{IsAt, ComesNext};
+ghost use Rattle.exb_capture.specs.Replays.{comes_early, IsKept, ComesAt};
 
-use crate::checking::Scanned;
-use crate::file::{CaptureFile, Halt};
+use crate::capture_file::{CaptureFile, Halt};
+use crate::scans::Scanned;
 use exb_model::bytes::Bytes;
 use exb_model::memory::NoMemory;
 use exb_shelf::{OpenFault, Shelf};

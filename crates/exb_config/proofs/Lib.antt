@@ -1,4 +1,4 @@
-pub mod Masks
-pub mod Statics
+pub mod PortMasks
+pub mod StaticEntryLists
 pub mod Rows
 pub mod Changes

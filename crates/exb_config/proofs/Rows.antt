@@ -15,7 +15,7 @@ use Rattle.exb_model.proofs.PortLemmas.{any_below-true, any_below-false}
 use Rattle.exb_config.specs.declared.members.Members.{Members}
 use Rattle.exb_config.specs.Rows.{has_member, kind_by, row_at, member_of, is_marked}
 use Rattle.exb_model.proofs.JoinedWords.{none_past}
-use Rattle.exb_model.proofs.Words.{get_or-same}
+use Rattle.exb_model.proofs.PortBits.{get_or-same}
 
 none_of_below : (p : ℕ → Bool) (n : ℕ) → list_any p (below n) ≡ false → (k : ℕ) → k < n → p k ≡ false
 none_of_below p n none k low =

@@ -4,8 +4,8 @@
 //! VLANs, ports or entries. It stands on `exb_model`, and on `indexmap` for its tables.
 #![tactic(auto)]
 
-mod beginning;
 pub mod config;
+mod initial_config;
 pub mod members;
 pub mod port_rules;
 pub mod static_entries;

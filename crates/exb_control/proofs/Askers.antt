@@ -4,9 +4,9 @@ use Rattle.std.proofs.lemmas.Bool.{cases_eq, ne_eqb}
 use Rattle.std.proofs.lemmas.List.{get_or-set_same, get_or-set_other, get_or_default}
 use Rattle.std.specs.Prelude.{replicate}
 use mathlib.Core.Path.{fun_ext}
-use Rattle.exb_model.proofs.Words.{get_or-same}
-use Rattle.exb_csp.specs.Sessions.Asking.{AskerState, begun}
-use Rattle.exb_control.specs.Steps.{askers_of, put}
+use Rattle.exb_model.proofs.PortBits.{get_or-same}
+use Rattle.exb_csp.specs.Sessions.AskingEnd.{AskerState, begun}
+use Rattle.exb_control.specs.MachineSteps.{askers_of, put}
 
 pub put_set : (xs : List AskerState) (e : ℕ) (a : AskerState) → e < length xs → askers_of (set xs e a) ≡ put e a (askers_of xs)
 put_set xs e a within = fun_ext (λ n. by_place n)

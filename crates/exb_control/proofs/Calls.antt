@@ -7,36 +7,36 @@ use Rattle.std.specs.declared.result.Result.{Result}
 use Rattle.std.specs.declared.result.Result.TheVariants.{Ok, Err}
 use Rattle.exb_model.specs.declared.event.Event.{Event}
 use Rattle.exb_csp.specs.declared.message.Request.{Request}
-use Rattle.exb_csp.specs.Sessions.Asking.{AskerState, beaten, beaten_while}
+use Rattle.exb_csp.specs.Sessions.AskingEnd.{AskerState, beaten, beaten_while}
 use Rattle.exb_csp.specs.declared.ask_at.AskAt.{AskAt}
-use Rattle.exb_changing.specs.declared.planning.change.Change.{Change}
-use Rattle.exb_changing.specs.declared.asked.Asked.{Asked}
-use Rattle.exb_changing.specs.declared.job.Job.{Job}
-use Rattle.exb_changing.specs.declared.job.Phase.{Phase}
-use Rattle.exb_changing.specs.declared.job.Phase.TheVariants.{Preparing, Cleaning}
+use Rattle.exb_control_spec.specs.declared.plan.change.Change.{Change}
+use Rattle.exb_control_spec.specs.declared.extender_message.Asked.{Asked}
+use Rattle.exb_control_spec.specs.declared.job.Job.{Job}
+use Rattle.exb_control_spec.specs.declared.job.Phase.{Phase}
+use Rattle.exb_control_spec.specs.declared.job.Phase.TheVariants.{Preparing, Cleaning}
 use Rattle.exb_control.specs.declared.stage.Stage.{Stage}
 use Rattle.exb_control.specs.declared.stage.Stage.TheVariants.{AtRest, Prepared, InForce}
-use Rattle.exb_changing.specs.Machine.{Work, State, Moved, beats, beats_in, heard, wakes}
-use Rattle.exb_control.specs.declared.working.Core.{Core}
+use Rattle.exb_control_spec.specs.Machine.{Work, State, Moved, beats, beats_in, heard, wakes}
+use Rattle.exb_control.specs.declared.change_execution.ChangeExecutor.{ChangeExecutor}
 use Rattle.exb_control.specs.declared.outbox.Outbox.{Outbox}
 use Rattle.exb_model.specs.Tree.{Shape}
-use Rattle.exb_changing.specs.Deciding.{Decide}
+use Rattle.exb_control_spec.specs.Decisions.{Decide}
 use Rattle.exb_control.specs.Queues.{first_in}
 use Rattle.exb_control.specs.Controls.{Parts, state_of, work_from, work_at}
-use Rattle.exb_control.specs.Boxes.{IsMoved}
-use Rattle.exb_control.specs.Steps.{askers_of, Reached, reached, reached_by, put, noted, ask_at, after_beat, messages_at_beat}
+use Rattle.exb_control.specs.CallEffects.{IsMoved}
+use Rattle.exb_control.specs.MachineSteps.{askers_of, Reached, reached, reached_by, put, noted, ask_at, after_beat, messages_at_beat}
 use Rattle.exb_control.specs.Soundness.{IsSteady, to_come}
-use Rattle.exb_control.specs.Spelled.{Repeats, Spells}
-use Rattle.exb_control.specs.Insides.{parts_of, IsKept}
-use Rattle.exb_control.proofs.Messages.{repeats_put, repeats_beaten}
-use Rattle.exb_control.proofs.Steps.{drop-nil}
+use Rattle.exb_control.specs.EncodableRequests.{Repeats, Spells}
+use Rattle.exb_control.specs.ControlParts.{parts_of, IsKept}
+use Rattle.exb_control.proofs.EncodableMessages.{repeats_put, repeats_beaten}
+use Rattle.exb_control.proofs.MachineSteps.{drop-nil}
 
 pub when_ok : {T E P : Type 0} (r : Result T E) → is_err r ≡ false → OnOk r P → P
 when_ok (Ok x) fine p = p
 when_ok (Err e) fine p = absurd (cc)
 
 -- ---- a step of the machine
-pub moved : (m : Moved) (old : Parts) (core : Core) (queue : List Job) (heard : List Bool) (given : ℕ) (failed : Bool) (events : List Event) (asks : List Asked) (downs : List ℕ) (out : Outbox) →
+pub moved : (m : Moved) (old : Parts) (core : ChangeExecutor) (queue : List Job) (heard : List Bool) (given : ℕ) (failed : Bool) (events : List Event) (asks : List Asked) (downs : List ℕ) (out : Outbox) →
     events ≡ [] → asks ≡ [] → downs ≡ [] →
     reached (state_of (parts_of core queue heard given failed)) out.events out.asks out.downs ≡ reached_by m events asks downs →
     core.active.shape ≡ old.active.shape → core.active.limits ≡ old.active.limits → failed ≡ old.failed →
@@ -109,10 +109,10 @@ repeats_beat (Some a) askers all n = repeats_put a.extender (beaten (askers a.ex
 spells_beat : (t : Shape) (o : Option Work) (q : Option AskAt) (askers : ℕ → AskerState) → Spells t o askers → Spells t o (after_beat q askers)
 spells_beat t o q askers k = record { known = k.known; work = k.work; askers = repeats_beat q askers k.askers }
 
-pub kept_beat : (core core' : Core) (queue : List Job) (given : ℕ) (failed : Bool) → core' ≡ record core { sessions = core'.sessions } →
+pub kept_beat : (core core' : ChangeExecutor) (queue : List Job) (given : ℕ) (failed : Bool) → core' ≡ record core { sessions = core'.sessions } →
     askers_of core'.sessions ≡ after_beat (ask_at core.active.stage core.place) (askers_of core.sessions) → IsKept core queue given failed → IsKept core' queue given failed
 kept_beat core core' queue given failed rest askers kept =
-    subst (λ (x : Core). IsKept x queue given failed) (sym rest)
+    subst (λ (x : ChangeExecutor). IsKept x queue given failed) (sym rest)
     (record {
       sound = λ fine.
           let sound = kept.sound fine in
@@ -124,14 +124,14 @@ kept_beat core core' queue given failed rest askers kept =
           };
     })
 
-pub beat_moves : (core core' : Core) (queue : List Job) (heard : List Bool) (given : ℕ) (failed : Bool) (events : List Event) (asks asks' : List Asked) (downs : List ℕ) →
+pub beat_moves : (core core' : ChangeExecutor) (queue : List Job) (heard : List Bool) (given : ℕ) (failed : Bool) (events : List Event) (asks asks' : List Asked) (downs : List ℕ) →
     core' ≡ record core { sessions = core'.sessions } →
     askers_of core'.sessions ≡ after_beat (ask_at core.active.stage core.place) (askers_of core.sessions) →
     asks' ≡ asks ++ messages_at_beat (ask_at core.active.stage core.place) (askers_of core.sessions) →
     reached (state_of (parts_of core' queue heard given failed)) events asks' downs
     ≡ reached_by (beats (state_of (parts_of core queue heard given failed))) events asks downs
 beat_moves core core' queue heard given failed events asks asks' downs rest askers told =
-    ap (λ (x : Core). reached (state_of (parts_of x queue heard given failed)) events asks' downs) rest
+    ap (λ (x : ChangeExecutor). reached (state_of (parts_of x queue heard given failed)) events asks' downs) rest
     ∙ beats_as core.active.stage core.place (state_of (parts_of core queue heard given failed)) (askers_of core'.sessions) events asks asks' downs refl askers told
 
 -- ---- who was heard

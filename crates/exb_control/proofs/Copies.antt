@@ -8,10 +8,10 @@ use Rattle.exb_model.specs.Setup.{Limits}
 use Rattle.exb_numbers.specs.Channels.{holder}
 use Rattle.exb_numbers.specs.Groups.{Groups, set_of}
 use Rattle.exb_numbers.specs.Spaces.{Spaces, has_space, channels_at, groups_at, no_groups, with_channels, with_groups}
-use Rattle.exb_plan.specs.Spaces.{HasSpaces, held_by}
-use Rattle.exb_changing.specs.Plans.Held.{is_place, in_spaces}
-use Rattle.exb_changing.proofs.Places.{placed_same, place_true}
-use Rattle.exb_control.proofs.Spaces.{space_parts}
+use Rattle.exb_plan.specs.SpaceContents.{HasSpaces, held_by}
+use Rattle.exb_control_spec.specs.Plans.HeldNumbers.{is_place, in_spaces}
+use Rattle.exb_control_spec.proofs.CascadePlaces.{placed_same, place_true}
+use Rattle.exb_control.proofs.PresentSpaces.{space_parts}
 
 -- the spaces with the channels and groups of other ones at bridge port k
 abbrev pub copied : Spaces → ℕ → Spaces → Spaces

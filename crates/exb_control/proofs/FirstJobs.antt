@@ -7,11 +7,11 @@ use Rattle.std.proofs.lemmas.List.Concat.{flat_map-append}
 use Rattle.exb_model.specs.Tree.{Shape, is_external, by_depth, externals_of}
 use Rattle.exb_model.proofs.PortLemmas.{range-more}
 use Rattle.exb_model.proofs.TreeLoops.{by_depth-range}
-use Rattle.exb_changing.specs.declared.job.Job.{Job}
-use Rattle.exb_changing.specs.declared.job.Job.TheVariants as job
-use Rattle.exb_changing.specs.Beginning.{jobs_of}
-use Rattle.exb_changing.proofs.FirstJobs.{ups}
-use Rattle.exb_control.specs.Steps.{up_if}
+use Rattle.exb_control_spec.specs.declared.job.Job.{Job}
+use Rattle.exb_control_spec.specs.declared.job.Job.TheVariants as job
+use Rattle.exb_control_spec.specs.InitialState.{jobs_of}
+use Rattle.exb_control_spec.proofs.FirstJobs.{ups}
+use Rattle.exb_control.specs.MachineSteps.{up_if}
 
 map-append : (xs ys : List ℕ) → map job.AutomaticUp (xs ++ ys) ≡ map job.AutomaticUp xs ++ map job.AutomaticUp ys
 map-append [] ys = refl

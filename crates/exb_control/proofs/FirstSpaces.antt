@@ -7,18 +7,18 @@ use Rattle.std.proofs.lemmas.Bool.{false≢true}
 use Rattle.std.proofs.lemmas.List.{length-replicate}
 use Rattle.exb_model.specs.Tree.{Shape, IsTree, device, trunk, is_cascade_under}
 use Rattle.exb_model.specs.Setup.{Limits}
-use Rattle.exb_model.specs.Numbering.{lowest_free}
+use Rattle.exb_model.specs.LowestFree.{lowest_free}
 use Rattle.exb_numbers.specs.Spaces.{Spaces, has_space, channels_at, groups_at}
-use Rattle.exb_changing.specs.Plans.Held.{Held, channel_in, channel_used, free_channel, give_channel, is_place, in_spaces}
-use Rattle.exb_plan.specs.Spaces.{HasSpaces, held_by}
-use Rattle.exb_plan.specs.Working.{CanClaimChannel, channel_limit}
-use Rattle.exb_changing.proofs.Plans.Counting.{IsLowest}
-use Rattle.exb_changing.proofs.Plans.Giving.{gives_channels}
-use Rattle.exb_changing.proofs.Plans.Trunks.{port_extender}
-use Rattle.exb_changing.specs.Beginning.{nothing_held, is_deep, HasChannels}
-use Rattle.exb_changing.proofs.Places.{place_true}
-use Rattle.exb_changing.proofs.Released.{same_held}
-use Rattle.exb_changing.proofs.FirstClaims.{AreFirst, first_below, high, known, low_trunk, cascade_trunk, lowest, held_next, still_first, itself}
+use Rattle.exb_control_spec.specs.Plans.HeldNumbers.{Held, channel_in, channel_used, free_channel, give_channel, is_place, in_spaces}
+use Rattle.exb_plan.specs.SpaceContents.{HasSpaces, held_by}
+use Rattle.exb_plan.specs.PlanValues.{CanClaimChannel, channel_limit}
+use Rattle.exb_control_spec.proofs.Plans.UsedNumbers.{IsLowest}
+use Rattle.exb_control_spec.proofs.Plans.ChannelOwners.{gives_channels}
+use Rattle.exb_control_spec.proofs.Plans.Trunks.{port_extender}
+use Rattle.exb_control_spec.specs.InitialState.{nothing_held, is_deep, HasChannels}
+use Rattle.exb_control_spec.proofs.CascadePlaces.{place_true}
+use Rattle.exb_control_spec.proofs.ReleasedNumbers.{same_held}
+use Rattle.exb_control_spec.proofs.FirstClaims.{AreFirst, first_below, high, known, low_trunk, cascade_trunk, lowest, held_next, still_first, itself}
 
 module _ (t : Shape) (n : ℕ) (valid : IsTree t) (on : is_deep t n ≡ true) where
   space_there : (l : Limits) (v : Spaces) → HasSpaces t l v → has_space v (trunk t (device n)) ≡ true

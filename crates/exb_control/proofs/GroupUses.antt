@@ -10,31 +10,31 @@ use Rattle.exb_model.specs.Configuration.{Bridge, after}
 use Rattle.exb_model.specs.Refusals.{is_empty_set}
 use Rattle.exb_config.specs.Tables.{Tables, bridge_of}
 use Rattle.exb_numbers.specs.Spaces.{Spaces, groups_at}
-use Rattle.exb_changing.specs.Plans.Sets.{PortsAt, sets_of}
-use Rattle.exb_changing.specs.declared.planning.change.Decision.{Decision}
-use Rattle.exb_changing.specs.declared.planning.change.Decision.TheVariants as decision
-use Rattle.exb_changing.specs.Plans.Held.{Held, HoldsNeeded, free_where, in_spaces}
-use Rattle.exb_plan.specs.Spaces.{held_by}
-use Rattle.exb_changing.specs.Plans.Between.{is_gone, refusal_between}
-use Rattle.exb_changing.specs.Plans.Plans.{change_of, claimed}
-use Rattle.exb_changing.proofs.Plans.Trunks.{extended_external}
-use Rattle.exb_changing.specs.Plans.Touched.{uses_of}
-use Rattle.exb_plan.specs.Counted.{IsCounted, count_at}
+use Rattle.exb_control_spec.specs.Plans.Sets.{PortsAt, sets_of}
+use Rattle.exb_control_spec.specs.declared.plan.change.Decision.{Decision}
+use Rattle.exb_control_spec.specs.declared.plan.change.Decision.TheVariants as decision
+use Rattle.exb_control_spec.specs.Plans.HeldNumbers.{Held, HoldsNeeded, free_where, in_spaces}
+use Rattle.exb_plan.specs.SpaceContents.{held_by}
+use Rattle.exb_control_spec.specs.Plans.Differences.{is_gone, refusal_between}
+use Rattle.exb_control_spec.specs.Plans.Plans.{change_of, claimed}
+use Rattle.exb_control_spec.proofs.Plans.Trunks.{extended_external}
+use Rattle.exb_control_spec.specs.Plans.TouchedParts.{uses_of}
+use Rattle.exb_plan.specs.UseCounts.{IsCounted, count_at}
 use Rattle.exb_plan.specs.Decisions.{IfDecided}
 use Rattle.exb_plan.specs.Recount.{HaveRowsOf}
-use Rattle.exb_plan.proofs.Freed.{counted_freed}
-use Rattle.exb_changing.specs.declared.job.Job.{Job}
-use Rattle.exb_changing.specs.declared.job.Job.TheVariants as job
+use Rattle.exb_plan.proofs.FreedUses.{counted_freed}
+use Rattle.exb_control_spec.specs.declared.job.Job.{Job}
+use Rattle.exb_control_spec.specs.declared.job.Job.TheVariants as job
 use Rattle.exb_control.specs.declared.stage.Stage.{Stage}
 use Rattle.exb_control.specs.declared.stage.Stage.TheVariants.{AtRest, Prepared, InForce}
-use Rattle.exb_changing.specs.Deciding.{Outcome, Refused, Ready, decide, outcome_by, bridge_after, release}
+use Rattle.exb_control_spec.specs.Decisions.{Outcome, Refused, Ready, decide, outcome_by, bridge_after, release}
 use Rattle.exb_control.specs.ActiveConfigs.{ActiveConfig, IsPrepared, bridge_in, held_in, stage_of, held_after, in_force, bridge_at_end, held_at_end}
-use Rattle.exb_changing.specs.Fitting.{Fits, HasExternals}
+use Rattle.exb_control_spec.specs.JobsOfTree.{Fits, HasExternals}
 use Rattle.exb_control.specs.GroupUses.{AreUses, IsKept}
-use Rattle.exb_changing.specs.Planned.{IsPlanned}
-use Rattle.exb_changing.proofs.Places.{place_true, placed_alike, alike_back}
-use Rattle.exb_changing.proofs.Released.{sets_are, freed_set}
-use Rattle.exb_control.proofs.Decided.{said_stage, planned}
+use Rattle.exb_control_spec.specs.RequestLaws.{IsPlanned}
+use Rattle.exb_control_spec.proofs.CascadePlaces.{place_true, placed_alike, alike_back}
+use Rattle.exb_control_spec.proofs.ReleasedNumbers.{sets_are, freed_set}
+use Rattle.exb_control.proofs.Decisions.{said_stage, planned}
 
 -- ---- what is held elsewhere than at the cascade ports of the bridge is no matter
 uses_with : Shape → Bridge → ℕ → List ℕ → ℕ

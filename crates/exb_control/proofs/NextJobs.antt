@@ -4,39 +4,39 @@ use Rattle.std.proofs.lemmas.List.{append-nil}
 use Rattle.std.specs.Option.{is_none}
 use Rattle.exb_model.specs.declared.event.Event.{Event}
 use Rattle.exb_control.specs.ActiveConfigs.{ActiveConfig, bridge_in, held_in}
-use Rattle.exb_changing.specs.Fitting.{AreFit}
-use Rattle.exb_changing.specs.declared.asked.Asked.{Asked}
-use Rattle.exb_changing.specs.declared.job.Job.{Job}
-use Rattle.exb_changing.specs.declared.job.Job.TheVariants as job
+use Rattle.exb_control_spec.specs.JobsOfTree.{AreFit}
+use Rattle.exb_control_spec.specs.declared.extender_message.Asked.{Asked}
+use Rattle.exb_control_spec.specs.declared.job.Job.{Job}
+use Rattle.exb_control_spec.specs.declared.job.Job.TheVariants as job
 use Rattle.exb_control.specs.declared.stage.Stage.{Stage}
 use Rattle.exb_control.specs.declared.stage.Stage.TheVariants.{AtRest, Prepared, InForce}
-use Rattle.exb_changing.specs.Deciding.{Decide}
-use Rattle.exb_changing.specs.Machine.{Work, State, Moved, waits, after_start, starts, goes_on}
-use Rattle.exb_control.specs.declared.working.Core.{Core}
+use Rattle.exb_control_spec.specs.Decisions.{Decide}
+use Rattle.exb_control_spec.specs.Machine.{Work, State, Moved, waits, after_start, starts, goes_on}
+use Rattle.exb_control.specs.declared.change_execution.ChangeExecutor.{ChangeExecutor}
 use Rattle.exb_control.specs.Queues.{first_in, after_first}
 use Rattle.exb_control.specs.Controls.{work_at, decide_of}
-use Rattle.exb_control.specs.Steps.{Front, askers_of, Reached, reached, reached_by, rest_of, state_in, with_queue, waits_for, is_at_rest}
-use Rattle.exb_csp.specs.Sessions.Asking.{AskerState}
+use Rattle.exb_control.specs.MachineSteps.{Front, askers_of, Reached, reached, reached_by, rest_of, state_in, with_queue, waits_for, is_at_rest}
+use Rattle.exb_csp.specs.Sessions.AskingEnd.{AskerState}
 use Rattle.exb_control.specs.Soundness.{MayAsk, IsSteady, AsksOrRests}
-use Rattle.exb_control.proofs.Steps.{joined}
+use Rattle.exb_control.proofs.MachineSteps.{joined}
 
 -- ---- nothing is started
-pub state_at_rest : (f : Front) (c : Core) → c.active.stage ≡ AtRest → state_in f c ≡ rest_of f c
+pub state_at_rest : (f : Front) (c : ChangeExecutor) → c.active.stage ≡ AtRest → state_in f c ≡ rest_of f c
 state_at_rest f c rest = rw rest refl
 
-waits_as : (f : Front) (c : Core) (j : Job) → waits (rest_of f c) j ≡ waits_for f.heard j
+waits_as : (f : Front) (c : ChangeExecutor) (j : Job) → waits (rest_of f c) j ≡ waits_for f.heard j
 waits_as f c (job.Opening n) = refl
 waits_as f c (job.AutomaticUp p) = refl
 waits_as f c (job.Ordered n k) = refl
 
-pub none_waits : (decide : Decide) (q : List Job) (f : Front) (c : Core) (events : List Event) (asks : List Asked) (t : List ℕ) →
+pub none_waits : (decide : Decide) (q : List Job) (f : Front) (c : ChangeExecutor) (events : List Event) (asks : List Asked) (t : List ℕ) →
     c.active.stage ≡ AtRest → first_in q ≡ None →
     reached (state_in (with_queue q f) c) events asks t ≡ reached_by (goes_on decide q (rest_of f c)) events asks t
 unfolding goes_on
 none_waits decide [] f c events asks t rest none = rw (rest, append-nil events, append-nil asks, append-nil t) refl
 none_waits decide (j ∷ js) f c events asks t rest none = absurd (cc)
 
-pub first_waits : (decide : Decide) (q : List Job) (j : Job) (f : Front) (heard : List Bool) (c : Core) (events : List Event) (asks : List Asked) (t : List ℕ) →
+pub first_waits : (decide : Decide) (q : List Job) (j : Job) (f : Front) (heard : List Bool) (c : ChangeExecutor) (events : List Event) (asks : List Asked) (t : List ℕ) →
     c.active.stage ≡ AtRest → first_in q ≡ Some j → f.heard ≡ heard → waits_for heard j ≡ true →
     reached (state_in (with_queue q f) c) events asks t ≡ reached_by (goes_on decide q (rest_of f c)) events asks t
 unfolding goes_on
@@ -73,7 +73,7 @@ some_or : (o : Option Work) → (is_none o ≡ true → ⊥) → IsBusy o
 some_or None never = absurd (never refl)
 some_or (Some w) never = record { work = w; is = refl }
 
-pub busy_of : (c : Core) → AsksOrRests c → is_at_rest c.active.stage ≡ false → IsBusy (work_at c.active.stage c.place)
+pub busy_of : (c : ChangeExecutor) → AsksOrRests c → is_at_rest c.active.stage ≡ false → IsBusy (work_at c.active.stage c.place)
 busy_of c asks busy = some_or (work_at c.active.stage c.place) (λ none. let rest = asks none in at_rest (rw rest at busy))
   where
     at_rest : true ≡ false → ⊥
@@ -84,7 +84,7 @@ rests_of AtRest e = refl
 rests_of (Prepared j x) e = absurd (cc)
 rests_of (InForce j x) e = absurd (cc)
 
-module _ (decide : Decide) (j : Job) (js : List Job) (f : Front) (heard : List Bool) (old new : Core) (events events' : List Event) (asks asks' : List Asked) (t t' : List ℕ)
+module _ (decide : Decide) (j : Job) (js : List Job) (f : Front) (heard : List Bool) (old new : ChangeExecutor) (events events' : List Event) (asks asks' : List Asked) (t t' : List ℕ)
     (same : f.heard ≡ heard) (goes : waits_for heard j ≡ false)
     (e : reached (state_in f new) events' asks' t' ≡
     reached_by (starts j (decide (bridge_in old.active) (held_in old.active) j) (rest_of f old)) events asks t) where
@@ -113,7 +113,7 @@ first_is [] j e = absurd (cc)
 first_is (i ∷ js) j e = let one : i ≡ j = cc in rw one refl
 
 -- ---- the loop over the queue
-pub record IsOnWay (heard : List Bool) (q0 q : List Job) (c0 c : Core) (events0 events : List Event) (asks0 asks : List Asked) (downs0 downs : List ℕ) : Type 0 where
+pub record IsOnWay (heard : List Bool) (q0 q : List Job) (c0 c : ChangeExecutor) (events0 events : List Event) (asks0 asks : List Asked) (downs0 downs : List ℕ) : Type 0 where
   pub stage : c.active.stage ≡ AtRest
   pub shape : c.active.shape ≡ c0.active.shape
   pub limits : c.active.limits ≡ c0.active.limits

@@ -1,20 +1,20 @@
 -- Requests can be asked.
 use Rattle.std.proofs.Common.{◌≡◌, ◌≢◌, ℕ, suc, ◌+◌, ◌^◌, ◌<◌, ◌≤◌, ◌==◌, Bool, true, false, cond, List, [], ◌∷◌, Option, Some, None, length, refl, ap, sym, subst, ◌∙◌, arith}
 use Rattle.std.proofs.lemmas.Bool.{ne_eqb}
-use Rattle.exb_csp.specs.Sessions.Asking.{AskerState}
+use Rattle.exb_csp.specs.Sessions.AskingEnd.{AskerState}
 use Rattle.exb_csp.specs.declared.ask_at.AskAt.{AskAt}
 use Rattle.exb_control.specs.Queues.{first_in}
 use Rattle.exb_model.specs.declared.event.Event.{Event}
-use Rattle.exb_csp.specs.Sessions.Asking.{asked}
-use Rattle.exb_changing.specs.declared.planning.change.Change.{Change}
-use Rattle.exb_changing.specs.declared.asked.Asked.{Asked}
-use Rattle.exb_changing.specs.declared.job.Job.{Job}
-use Rattle.exb_changing.specs.declared.job.Phase.TheVariants.{Preparing, Cleaning}
+use Rattle.exb_csp.specs.Sessions.AskingEnd.{asked}
+use Rattle.exb_control_spec.specs.declared.plan.change.Change.{Change}
+use Rattle.exb_control_spec.specs.declared.extender_message.Asked.{Asked}
+use Rattle.exb_control_spec.specs.declared.job.Job.{Job}
+use Rattle.exb_control_spec.specs.declared.job.Phase.TheVariants.{Preparing, Cleaning}
 use Rattle.exb_control.specs.declared.stage.Stage.{Stage}
 use Rattle.exb_control.specs.declared.stage.Stage.TheVariants.{AtRest, Prepared, InForce}
-use Rattle.exb_changing.specs.Deciding.{bridge_after}
-use Rattle.exb_changing.specs.Machine.{Work, State, Moved, cleans, asking}
-use Rattle.exb_control.specs.Steps.{Reached, reached, reached_by, put, is_at_rest, asks_after, advances}
+use Rattle.exb_control_spec.specs.Decisions.{bridge_after}
+use Rattle.exb_control_spec.specs.Machine.{Work, State, Moved, cleans, asking}
+use Rattle.exb_control.specs.MachineSteps.{Reached, reached, reached_by, put, is_at_rest, asks_after, advances}
 use Rattle.exb_control.specs.Soundness.{AreKnown, HasRoom, MayAsk, CanAsk, IsWaiting, IsSteady, later, following}
 
 pub room_for : (k n : ℕ) (askers : ℕ → AskerState) → n ≤ k → HasRoom k askers → HasRoom n askers

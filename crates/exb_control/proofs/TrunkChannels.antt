@@ -6,13 +6,13 @@ use mathlib.Core.Path.{fun_ext}
 use Rattle.exb_model.specs.Tree.{Shape, IsTree, HangsOn, device, on, trunk, is_extender, is_cascade}
 use Rattle.exb_model.proofs.TreeLoops.{trunk_is}
 use Rattle.exb_model.proofs.TreeWays.{top_low, top_hangs}
-use Rattle.exb_model.specs.Numbering.{is_port}
+use Rattle.exb_model.specs.LowestFree.{is_port}
 use Rattle.exb_numbers.specs.Channels.{channel_of}
 use Rattle.exb_numbers.specs.Spaces.{Spaces, has_space, channels_at}
-use Rattle.exb_changing.specs.Plans.Held.{Held, channel_in}
-use Rattle.exb_plan.specs.Spaces.{held_by}
-use Rattle.exb_changing.specs.Plans.Held.{is_place, in_spaces}
-use Rattle.exb_model.proofs.TreeHung.{hung_cascade}
+use Rattle.exb_control_spec.specs.Plans.HeldNumbers.{Held, channel_in}
+use Rattle.exb_plan.specs.SpaceContents.{held_by}
+use Rattle.exb_control_spec.specs.Plans.HeldNumbers.{is_place, in_spaces}
+use Rattle.exb_model.proofs.TreeTrunks.{hung_cascade}
 use Rattle.exb_control.specs.Controls.{channel_at_trunk}
 
 -- ---- an extender's trunk is a cascade port of the bridge

@@ -7,16 +7,16 @@ use Rattle.exb_model.specs.declared.event.Cause.{Cause}
 use Rattle.exb_config.specs.Tables.{Tables, bridge_of}
 use Rattle.exb_numbers.specs.Spaces.{Spaces}
 use Rattle.exb_config.specs.Pvids.{HasPvids}
-use Rattle.exb_changing.specs.declared.planning.change.Change.{Change}
-use Rattle.exb_changing.specs.declared.planning.change.Decision.{Decision}
-use Rattle.exb_changing.specs.declared.planning.change.Decision.TheVariants as decision
-use Rattle.exb_changing.specs.Plans.Held.{Held, HoldsNeeded, in_spaces}
-use Rattle.exb_plan.specs.Spaces.{HasSpaces, held_by}
-use Rattle.exb_changing.specs.declared.job.Job.{Job}
+use Rattle.exb_control_spec.specs.declared.plan.change.Change.{Change}
+use Rattle.exb_control_spec.specs.declared.plan.change.Decision.{Decision}
+use Rattle.exb_control_spec.specs.declared.plan.change.Decision.TheVariants as decision
+use Rattle.exb_control_spec.specs.Plans.HeldNumbers.{Held, HoldsNeeded, in_spaces}
+use Rattle.exb_plan.specs.SpaceContents.{HasSpaces, held_by}
+use Rattle.exb_control_spec.specs.declared.job.Job.{Job}
 use Rattle.exb_control.specs.declared.stage.Stage.{Stage}
 use Rattle.exb_control.specs.declared.stage.Stage.TheVariants.{AtRest, Prepared, InForce}
-use Rattle.exb_changing.specs.Fitting.{Fits, HasExternals}
-use Rattle.exb_changing.specs.Deciding.{Outcome, Refused, Ready, bridge_after, release}
+use Rattle.exb_control_spec.specs.JobsOfTree.{Fits, HasExternals}
+use Rattle.exb_control_spec.specs.Decisions.{Outcome, Refused, Ready, bridge_after, release}
 
 pub record ActiveConfig : Type 0 where
   pub shape : Shape

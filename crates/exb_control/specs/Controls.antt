@@ -4,19 +4,19 @@ use Rattle.std.specs.Prelude.{ℕ, ◌&&◌, Bool, false, if◌then◌else◌, L
 use Rattle.exb_model.specs.declared.setup.Setup.{Setup}
 use Rattle.exb_model.specs.Tree.{Shape, device, trunk, is_extender}
 use Rattle.exb_model.specs.Setup.{shape_of, limits_of, start_of}
-use Rattle.exb_csp.specs.Sessions.Asking.{AskerState, begun}
+use Rattle.exb_csp.specs.Sessions.AskingEnd.{AskerState, begun}
 use Rattle.exb_csp.specs.declared.ask_at.AskAt.{AskAt}
-use Rattle.exb_changing.specs.declared.planning.change.Change.{Change}
-use Rattle.exb_changing.specs.Plans.Held.{Held, channel_in}
-use Rattle.exb_changing.specs.declared.job.Job.{Job}
-use Rattle.exb_changing.specs.declared.job.Phase.{Phase}
-use Rattle.exb_changing.specs.declared.job.Phase.TheVariants.{Preparing, Cleaning}
+use Rattle.exb_control_spec.specs.declared.plan.change.Change.{Change}
+use Rattle.exb_control_spec.specs.Plans.HeldNumbers.{Held, channel_in}
+use Rattle.exb_control_spec.specs.declared.job.Job.{Job}
+use Rattle.exb_control_spec.specs.declared.job.Phase.{Phase}
+use Rattle.exb_control_spec.specs.declared.job.Phase.TheVariants.{Preparing, Cleaning}
 use Rattle.exb_control.specs.declared.stage.Stage.{Stage}
 use Rattle.exb_control.specs.declared.stage.Stage.TheVariants.{AtRest, Prepared, InForce}
-use Rattle.exb_changing.specs.Deciding.{Decide, decide}
+use Rattle.exb_control_spec.specs.Decisions.{Decide, decide}
 use Rattle.exb_control.specs.ActiveConfigs.{ActiveConfig, bridge_in, held_in}
-use Rattle.exb_changing.specs.Machine.{Work, State, heard}
-use Rattle.exb_changing.specs.Beginning.{first_state}
+use Rattle.exb_control_spec.specs.Machine.{Work, State, heard}
+use Rattle.exb_control_spec.specs.InitialState.{first_state}
 use Rattle.exb_control.specs.Queues.{is_empty}
 
 -- The configuration with its numbers and the change at work, the place of the outstanding request among those

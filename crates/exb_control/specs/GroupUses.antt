@@ -3,8 +3,8 @@ use Rattle.std.specs.Prelude.{◌≡◌, ℕ, ◌<◌, true, List, [], length, s
 use Rattle.exb_model.specs.Tree.{Shape, is_cascade}
 use Rattle.exb_model.specs.Setup.{Limits}
 use Rattle.exb_model.specs.Configuration.{Bridge}
-use Rattle.exb_changing.specs.Plans.Held.{Held}
-use Rattle.exb_plan.specs.Counted.{IsCounted}
+use Rattle.exb_control_spec.specs.Plans.HeldNumbers.{Held}
+use Rattle.exb_plan.specs.UseCounts.{IsCounted}
 use Rattle.exb_control.specs.ActiveConfigs.{ActiveConfig, IsActiveConfig, bridge_in, held_in, bridge_at_end, held_at_end}
 
 -- There is a place for each group that there can be, with the uses of its set.

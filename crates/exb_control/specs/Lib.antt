@@ -2,8 +2,8 @@ pub mod ActiveConfigs
 pub mod GroupUses
 pub mod Queues
 pub mod Controls
-pub mod Boxes
-pub mod Steps
-pub mod Spelled
+pub mod CallEffects
+pub mod MachineSteps
+pub mod EncodableRequests
 pub mod Soundness
-pub mod Insides
+pub mod ControlParts

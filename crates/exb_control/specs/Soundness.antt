@@ -1,18 +1,18 @@
 -- What holds of the control while memory hasn't run out.
 use Rattle.std.specs.Prelude.{◌≡◌, ◌≢◌, ℕ, ◌+◌, ◌-◌, ◌*◌, ◌^◌, ◌<◌, true, List, [], ◌∷◌, Option, Some, None, is_none, length}
-use Rattle.exb_csp.specs.Sessions.Asking.{AskerState}
+use Rattle.exb_csp.specs.Sessions.AskingEnd.{AskerState}
 use Rattle.exb_csp.specs.declared.ask_at.AskAt.{AskAt}
-use Rattle.exb_changing.specs.declared.planning.change.Change.{Change}
-use Rattle.exb_changing.specs.declared.job.Job.{Job}
-use Rattle.exb_changing.specs.declared.job.Phase.{Phase}
-use Rattle.exb_changing.specs.declared.job.Phase.TheVariants.{Preparing, Cleaning}
+use Rattle.exb_control_spec.specs.declared.plan.change.Change.{Change}
+use Rattle.exb_control_spec.specs.declared.job.Job.{Job}
+use Rattle.exb_control_spec.specs.declared.job.Phase.{Phase}
+use Rattle.exb_control_spec.specs.declared.job.Phase.TheVariants.{Preparing, Cleaning}
 use Rattle.exb_control.specs.declared.stage.Stage.TheVariants.{AtRest}
-use Rattle.exb_changing.specs.Fitting.{AreFit}
-use Rattle.exb_changing.specs.Machine.{Work}
-use Rattle.exb_control.specs.declared.working.Core.{Core}
+use Rattle.exb_control_spec.specs.JobsOfTree.{AreFit}
+use Rattle.exb_control_spec.specs.Machine.{Work}
+use Rattle.exb_control.specs.declared.change_execution.ChangeExecutor.{ChangeExecutor}
 use Rattle.exb_control.specs.Controls.{work_at}
-use Rattle.exb_control.specs.Spelled.{Spells}
-use Rattle.exb_control.specs.Steps.{askers_of}
+use Rattle.exb_control.specs.EncodableRequests.{Spells}
+use Rattle.exb_control.specs.MachineSteps.{askers_of}
 
 -- ---- requests
 -- each request is to an extender with a number of 1 to 64
@@ -57,7 +57,7 @@ IsSteady k None askers = MayAsk k askers
 IsSteady k (Some w) askers = IsWaiting k w askers
 
 -- where no request is outstanding, no change is at work
-abbrev pub AsksOrRests : Core → Type 0
+abbrev pub AsksOrRests : ChangeExecutor → Type 0
 AsksOrRests c = is_none (work_at c.active.stage c.place) ≡ true → c.active.stage ≡ AtRest
 
 -- the requests of these jobs and of the commands that may still be given, at most 2^21 each
@@ -65,7 +65,7 @@ abbrev pub to_come : List Job → ℕ → ℕ
 to_come queue given = 2 ^ 21 * (length queue + (65536 - given))
 
 -- what holds while memory hasn't run out
-pub record IsSound (c : Core) (queue : List Job) (given : ℕ) : Type 0 where
+pub record IsSound (c : ChangeExecutor) (queue : List Job) (given : ℕ) : Type 0 where
   pub fit : AreFit c.active.shape queue
   pub asks : AsksOrRests c
   pub steady : IsSteady (to_come queue given) (work_at c.active.stage c.place) (askers_of c.sessions)

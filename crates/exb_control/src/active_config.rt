@@ -2,22 +2,22 @@
 ghost use Rattle.std.specs.Prelude.{◌≡◌, IfOk, OnOk, OnErr};
 ghost use Rattle.exb_model.specs.Setup.{Limits, IsValid, shape_of, limits_of, start_of};
 ghost use Rattle.exb_config.specs.Tables.{bridge_of};
-ghost use Rattle.exb_plan.specs.Spaces.{HasSpaces, held_by};
-ghost use Rattle.exb_plan.specs.Working.{IsAlike};
-ghost use Rattle.exb_changing.specs.declared.planning.change.Change.{Change};
-ghost use Rattle.exb_changing.specs.Beginning.{first_held};
-ghost use Rattle.exb_changing.specs.Deciding.{bridge_after, release, decide};
+ghost use Rattle.exb_plan.specs.SpaceContents.{HasSpaces, held_by};
+ghost use Rattle.exb_plan.specs.PlanValues.{IsAlike};
+ghost use Rattle.exb_control_spec.specs.declared.plan.change.Change.{Change};
+ghost use Rattle.exb_control_spec.specs.InitialState.{first_held};
+ghost use Rattle.exb_control_spec.specs.Decisions.{bridge_after, release, decide};
 ghost use Rattle.exb_config.specs.Pvids.{HasPvids};
 ghost use Rattle.exb_control.specs.ActiveConfigs.{bridge_at_end, held_at_end};
-ghost use Rattle.exb_changing.specs.Plans.Held.{in_spaces};
+ghost use Rattle.exb_control_spec.specs.Plans.HeldNumbers.{in_spaces};
 
-use crate::beginning::first_spaces;
-use crate::copying::copy_spaces;
-use crate::deciding::decide;
-use crate::releasing::release;
+use crate::decision::decide;
+use crate::initial_channels::first_spaces;
+use crate::release::release;
+use crate::space_copies::copy_spaces;
 use crate::stage::Stage;
-use exb_changing::{Decision, Job};
 use exb_config::Config;
+use exb_control_spec::{Decision, Job};
 use exb_model::command::Command;
 use exb_model::event::Cause;
 use exb_model::memory::NoMemory;
@@ -137,7 +137,7 @@ fn free_numbers(stage: &Stage, tree: &Tree, spaces: &mut Spaces)
 
 impl ActiveConfig {
     ghost use Rattle.exb_control.specs.ActiveConfigs.{IsActiveConfig, IsPrepared, IsInForce, bridge_in, held_in, stage_of, cause_of, held_after};
-    ghost use Rattle.exb_changing.specs.Fitting.{Fits};
+    ghost use Rattle.exb_control_spec.specs.JobsOfTree.{Fits};
 
     /// The bridge of a setup: its local external ports are present, and the commands of its start are applied. The
     /// cascade ports of its extenders have channels, in port order.

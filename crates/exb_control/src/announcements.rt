@@ -1,9 +1,9 @@
 //! Which extenders were heard.
 ghost use Rattle.std.specs.Prelude.{◌≡◌, ◌<◌, ◌≤◌, false, if◌then◌else◌};
 ghost use Rattle.exb_control.specs.Controls.{is_heard};
-ghost use Rattle.exb_control.specs.Steps.{heard_of, noted, waits_for, unheard_at, unheard_to};
+ghost use Rattle.exb_control.specs.MachineSteps.{heard_of, noted, waits_for, unheard_at, unheard_to};
 
-use exb_changing::Job;
+use exb_control_spec::Job;
 use exb_model::tree::Tree;
 use std::marker::Model;
 

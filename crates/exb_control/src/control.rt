@@ -3,19 +3,19 @@ ghost use Rattle.std.specs.Prelude.{◌≡◌, ℕ, ◌+◌, ◌-◌, ◌<◌, �
 ghost use Rattle.std.specs.List.{All};
 ghost use Rattle.exb_model.specs.Setup.{IsValid, NamesExternal, shape_of, limits_of};
 ghost use Rattle.exb_model.specs.Tree.{is_extender, is_cascade};
-ghost use Rattle.exb_csp.specs.Sessions.Asking.{took};
+ghost use Rattle.exb_csp.specs.Sessions.AskingEnd.{took};
 
 use crate::active_config::ActiveConfig;
 use crate::announcements::Heard;
-use crate::jobs::first_jobs;
-use crate::numbers::{channel_of, port_of};
+use crate::change_execution::{ChangeExecutor, beat, outstanding};
+use crate::held_channels::{channel_of, port_of};
+use crate::initial_jobs::first_jobs;
+use crate::job_turns::{give, take, wake};
 use crate::outbox::Outbox;
-use crate::planned::planned;
+use crate::planned_exchanges::planned;
 use crate::queue::Queue;
 use crate::sessions::Sessions;
-use crate::turns::{give, take, wake};
-use crate::working::{Core, beat, outstanding};
-use exb_changing::Job;
+use exb_control_spec::Job;
 use exb_csp::{Message, Taken};
 use exb_model::command::Command;
 use exb_model::memory::NoMemory;
@@ -37,7 +37,7 @@ pub enum ControlFault {
 /// The controlling bridge's control. A call in which memory runs out leaves it failed, with the tree and the limits that it
 /// had; each later call that can answer so then says that it has failed, and changes nothing.
 pub struct Control {
-    core: Core,
+    core: ChangeExecutor,
     queue: Queue<Job>,
     heard: Heard,
     given: u32,
@@ -61,7 +61,7 @@ impl Model for Control {
 
     ghost Value = { Parts };
 
-    ghost use Rattle.exb_control.specs.Insides.{parts_of, IsKept};
+    ghost use Rattle.exb_control.specs.ControlParts.{parts_of, IsKept};
 
     ghost view = { λ c. parts_of c.core c.queue c.heard c.given c.failed };
 
@@ -69,11 +69,11 @@ impl Model for Control {
 }
 
 impl Control {
-    ghost use Rattle.exb_changing.specs.Counting.{planned};
+    ghost use Rattle.exb_control_spec.specs.PlannedExchanges.{planned};
     ghost use Rattle.exb_control.specs.ActiveConfigs.{IsActiveConfig, held_in};
-    ghost use Rattle.exb_changing.specs.Machine.{ordered, heard, answered, beats};
-    ghost use Rattle.exb_control.specs.Boxes.{IsMoved, IsStill};
-    ghost use Rattle.exb_control.specs.Spelled.{CanBeSpelled};
+    ghost use Rattle.exb_control_spec.specs.Machine.{ordered, heard, answered, beats};
+    ghost use Rattle.exb_control.specs.CallEffects.{IsMoved, IsStill};
+    ghost use Rattle.exb_control.specs.EncodableRequests.{CanBeSpelled};
     ghost use Rattle.exb_control.specs.Controls.{state_of, decide_of, first_of, is_settled, channel_at_trunk};
 
     /// The control of a setup: nothing was heard or given yet.
@@ -93,7 +93,7 @@ impl Control {
             drop(active);
             return Err(NoMemory);
         }
-        let core = Core {
+        let core = ChangeExecutor {
             active,
             place: 0,
             sessions,

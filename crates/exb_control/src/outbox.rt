@@ -1,7 +1,7 @@
 //! What a call of the control gives.
 ghost use Rattle.std.specs.Prelude.{◌≡◌, []};
 
-use exb_changing::Asked;
+use exb_control_spec::Asked;
 use exb_model::event::Event;
 use exb_model::list::List;
 use exb_model::port::PortId;

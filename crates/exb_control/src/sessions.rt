@@ -1,7 +1,7 @@
 //! The bridge's ends of the sessions with its extenders.
 ghost use Rattle.std.specs.Prelude.{◌≡◌, ◌<◌, ◌^◌, IfOk, length, replicate};
-ghost use Rattle.exb_csp.specs.Sessions.Asking.{begun, asked, took, beaten, message_again};
-ghost use Rattle.exb_control.specs.Steps.{askers_of, put, due};
+ghost use Rattle.exb_csp.specs.Sessions.AskingEnd.{begun, asked, took, beaten, message_again};
+ghost use Rattle.exb_control.specs.MachineSteps.{askers_of, put, due};
 
 use exb_csp::{Asker, Message, Request, Taken};
 use exb_model::memory::NoMemory;
@@ -19,7 +19,7 @@ pub(crate) struct Sessions {
 
 impl Model for Sessions {
     ghost use Rattle.std.specs.Prelude.{◌≡◌, List, length};
-    ghost use Rattle.exb_csp.specs.Sessions.Asking.{AskerState};
+    ghost use Rattle.exb_csp.specs.Sessions.AskingEnd.{AskerState};
 
     ghost Value = { List AskerState };
 

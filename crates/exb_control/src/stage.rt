@@ -2,7 +2,7 @@
 ghost use Rattle.std.specs.Prelude.{◌≡◌};
 ghost use Rattle.exb_control.specs.ActiveConfigs.{in_force};
 
-use exb_changing::{Change, Job};
+use exb_control_spec::{Change, Job};
 
 /// The change at work, and whether it is in force.
 #[derive(Drop)]

@@ -1,5 +1,5 @@
-mod Allowed
-mod Counts
-mod Pieces
+mod AllowedArrivals
+mod EventCounts
+mod LinePieces
 mod Summary
-pub mod Summing
+pub mod PortSums

@@ -6,7 +6,7 @@ use Rattle.exb_model.specs.Texts.{counts}
 use Rattle.exb_model.specs.Tree.{Shape, is_external, external_ports}
 use Rattle.exb_counters.specs.Counters.{relayed_at, ignored_at}
 use Rattle.exb_counters.specs.Laws.{CountsAreTheSummary, ComeIn}
-use Rattle.exb_counters.proofs.Summing.{sum_by-plus, sum_by-zero, hit_once, counts-left}
+use Rattle.exb_counters.proofs.PortSums.{sum_by-plus, sum_by-zero, hit_once, counts-left}
 
 once : (t : Shape) (p : ℕ) → is_external t p ≡ true → p < 4160 → sum_by (λ q. cond (p == q) 1 0) (external_ports t) ≡ 1
 unfolding external_ports

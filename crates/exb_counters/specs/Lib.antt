@@ -1,3 +1,3 @@
 pub mod Counters
-pub mod Counting
+pub mod CounterUpdates
 pub mod Laws

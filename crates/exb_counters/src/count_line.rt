@@ -3,9 +3,9 @@ ghost use Rattle.std.specs.Prelude.{◌≡◌, ◌++◌, OnOk, OnErr};
 ghost use Rattle.exb_counters.specs.Counters.{count_line};
 
 use crate::Counts5;
+use exb_journal::PortName;
 use exb_model::memory::NoMemory;
 use exb_model::port::PortId;
-use exb_text::PortName;
 
 /// Puts the line of a port's counts, with its newline, behind a text.
 #[tactic(auto, unfolding(crate::specs::Counters::count_line))]

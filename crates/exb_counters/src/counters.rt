@@ -2,7 +2,7 @@
 ghost use Rattle.std.specs.Prelude.{◌≡◌, ◌<◌, ℕ, true, length, IfOk};
 ghost use Rattle.exb_model.specs.Setup.{IsValid, shape_of};
 ghost use Rattle.exb_model.specs.Tree.{is_external};
-ghost use Rattle.exb_counters.specs.Counting.{counts_at, nothing, rest_after, plus_event, plus_events, with_ignored, with_left, with_relay, FitsCounts, HasPort, SameButAt};
+ghost use Rattle.exb_counters.specs.CounterUpdates.{counts_at, nothing, rest_after, plus_event, plus_events, with_ignored, with_left, with_relay, FitsCounts, HasPort, SameButAt};
 
 use exb_model::event::Event;
 use exb_model::memory::NoMemory;

@@ -1,8 +1,8 @@
-pub mod Rows
-pub mod Lengths
-pub mod Again
-pub mod Executing
-pub mod Spelled
-pub mod Loops
-pub mod AllLemmas
+pub mod RowDecoding
+pub mod ListLengths
+pub mod RoundTrip
+pub mod ExecutionLaws
+pub mod UniqueEncoding
+pub mod ExecutionLoops
+pub mod AllTablesLemmas
 pub mod Sessions

@@ -8,7 +8,7 @@ use Rattle.exb_csp.specs.declared.group_rows.GroupRow.{GroupRow}
 use Rattle.exb_csp.specs.declared.message.Request.{Request}
 use Rattle.exb_csp.specs.declared.message.Request.TheVariants.{Open, PortCreate, PortDelete, Register, Unregister, RegisterMany, UnregisterMany}
 use Rattle.exb_csp.specs.declared.ask_at.AskAt.{AskAt}
-use Rattle.exb_csp.specs.Execute.{ExtenderTables, is_listed, code_of, executed}
+use Rattle.exb_csp.specs.Execution.{ExtenderTables, is_listed, code_of, executed}
 
 -- of tables by extender: port q is port q % 64 + 1 of extender q / 64
 abbrev pub tables_at : (ℕ → ExtenderTables) → Tables

@@ -4,10 +4,10 @@ use Rattle.exb_csp.specs.declared.group_rows.GroupRow.{GroupRow}
 use Rattle.exb_csp.specs.declared.message.Message.{Message}
 use Rattle.exb_csp.specs.declared.message.Request.{Request}
 use Rattle.exb_csp.specs.declared.message.Request.TheVariants.{Register, Unregister, RegisterMany, UnregisterMany}
-use Rattle.exb_csp.specs.Reading.{read_message}
+use Rattle.exb_csp.specs.Decoding.{read_message}
 use Rattle.exb_model.specs.Frames.{IsBytes}
-use Rattle.exb_csp.specs.Spelling.{body_bytes, message_bytes, HasSpelling, Fits}
-use Rattle.exb_csp.specs.Execute.{ExtenderTables, in_mask, some_port, has_pair, execute}
+use Rattle.exb_csp.specs.Encoding.{body_bytes, message_bytes, HasSpelling, Fits}
+use Rattle.exb_csp.specs.Execution.{ExtenderTables, in_mask, some_port, has_pair, execute}
 
 -- What is written is read again as the same message.
 abbrev pub WrittenIsRead : Type 0

@@ -1,9 +1,9 @@
-pub mod Kinds
-pub mod Reading
-pub mod Spelling
-pub mod Execute
+pub mod RequestKinds
+pub mod Decoding
+pub mod Encoding
+pub mod Execution
 pub mod Laws
 pub mod AllTables
-pub mod AllLaws
-pub mod Words
+pub mod AllTablesLaws
+pub mod PortMasks
 pub mod Sessions

@@ -1,8 +1,8 @@
 //! What holds of every message, of every extender that executes requests, and of every session.
 
 ghost use Rattle.exb_csp.specs.Laws.{WrittenIsRead, ReadIsSpelled, MessagesAreShort, RefusedChangesNothing, RegisterSetsTheMask, UnregisterClearsTheRow, RegisterManyIsItsRows, UnregisterManyIsItsEcids, HasPairExactly, SomeBitExactly};
-ghost use Rattle.exb_csp.specs.AllLaws.{DoneAtEachPort, RefusedAtNoPort, RunsLayRows};
-ghost use Rattle.exb_csp.specs.Sessions.Asking.{StaysSound, AsksAreSpelled};
+ghost use Rattle.exb_csp.specs.AllTablesLaws.{DoneAtEachPort, RefusedAtNoPort, RunsLayRows};
+ghost use Rattle.exb_csp.specs.Sessions.AskingEnd.{StaysSound, AsksAreSpelled};
 ghost use Rattle.exb_csp.specs.Sessions.Runs.{EachRequestOnce, RequestsAreAnswered, MessagesAreNumbered, MessagesAreSpelled};
 
 /// What is written is read again as the same message.

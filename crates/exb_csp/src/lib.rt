@@ -14,26 +14,26 @@
 #![tactic(auto)]
 
 mod ask_at;
+mod ecid_ranges;
 mod ecids;
 mod fault;
-mod form;
 mod group_rows;
 pub mod laws;
 mod message;
-mod ranges;
-mod reading;
+mod message_kind;
+mod reader;
 mod session;
-mod writing;
+mod writer;
 
 pub use ask_at::AskAt;
+pub use ecid_ranges::{is_channel, is_ecid};
 pub use ecids::Ecids;
 pub use fault::CspFault;
 pub use group_rows::{GroupRow, GroupRows};
 pub use message::{Body, Message, Request, RequestKind, Response};
-pub use ranges::{is_channel, is_ecid};
-pub use reading::read;
+pub use reader::read;
 pub use session::{Answerer, Asker, Due, Taken};
-pub use writing::write;
+pub use writer::write;
 
 /// The subtype of ECP by which control messages travel.
 pub const ECP_SUBTYPE: u16 = 2;

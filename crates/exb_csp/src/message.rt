@@ -1,7 +1,7 @@
 //! Requests, responses and the messages that carry them.
 
 ghost use Rattle.std.specs.Prelude.{◌≡◌};
-ghost use Rattle.exb_csp.specs.Kinds.{kind_of};
+ghost use Rattle.exb_csp.specs.RequestKinds.{kind_of};
 
 use crate::ecids::Ecids;
 use crate::group_rows::GroupRows;

@@ -4,7 +4,7 @@ use Rattle.std.specs.Prelude.{nat_le}
 use Rattle.std.specs.List.{list_any}
 use Rattle.std.proofs.lemmas.Bool.{eqb-true, eqb-false, le-leb, lt-leb, leb-true, leb-false, cases_Bool}
 use Rattle.exb_ecp.specs.declared.stop_and_wait.Beat.TheVariants as due
-use Rattle.exb_ecp.specs.Machine.{Sending, after, unless_sequence, aged, beat_at, beat_of}
+use Rattle.exb_ecp.specs.StopAndWait.{Sending, after, unless_sequence, aged, beat_at, beat_of}
 use Rattle.exb_ecp.specs.Calls.{Call, Submit, Stop, Acked, Received, Beat, state_after, is_submit, is_beat, ends, sequence_of, Submitted, submit_at, times, last_submit, last_received, is_over, still_sent, due_after, IsTold}
 
 after_sequence : (n : ℕ) → after (sequence_of n) ≡ sequence_of (suc n)

@@ -1,6 +1,6 @@
 -- How the ends of the transport begin: none sends anything.
 use Rattle.std.proofs.Common.{◌≡◌, ℕ, List, length, ap}
-use Rattle.exb_ecp.specs.Machine.{State as Ecp, new_state}
+use Rattle.exb_ecp.specs.StopAndWait.{State as Ecp, new_state}
 use Rattle.exb_ecp.specs.Ends.{near_of, AreNoted}
 use Rattle.exb_model.proofs.DeviceSets.{none_in_0}
 use Rattle.exb_model.proofs.NumberedTables.{alike}

@@ -1,6 +1,6 @@
-pub mod Spelled
+pub mod RoundTrip
 pub mod Sequences
-pub mod Sound
+pub mod Soundness
 pub mod LineLaws
 pub mod CallLaws
 pub mod Ends

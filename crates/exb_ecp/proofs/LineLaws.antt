@@ -5,7 +5,7 @@ use Rattle.std.proofs.lemmas.Bool.{eqb-true, eqb-false, cases_Bool, cases_eq}
 use Rattle.std.proofs.lemmas.List.{append-nil, length-append, nil_from_length}
 use Rattle.exb_ecp.specs.Calls.{Call}
 use Rattle.exb_ecp.specs.Calls as calls
-use Rattle.exb_ecp.specs.Machine.{Sending, State, after, heard, unless_sequence, is_last, aged, beat_at, beat_of, is_due}
+use Rattle.exb_ecp.specs.StopAndWait.{Sending, State, after, heard, unless_sequence, is_last, aged, beat_at, beat_of, is_due}
 use Rattle.exb_ecp.specs.Line.{Item, Request, Line, Step, Submit, Stop, Beat, Receive, LoseRequest, Hear, LoseAcknowledgement, OtherRequest, OtherCall, sending_call, without, left_over, sent, sent_again, gives_up, submits, stops, receives, hears, stepped, new_line, run, IsSubsequence, FallsBelow, InOrder}
 use Rattle.exb_ecp.specs.declared.stop_and_wait.Beat.TheVariants as due
 use Rattle.exb_ecp.proofs.Sequences.{after_differs}

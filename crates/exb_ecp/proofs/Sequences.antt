@@ -1,7 +1,7 @@
 -- Sequences: the next differs, and comes from one alone.
 use Rattle.std.proofs.Common.{◌≡◌, ℕ, ◌+◌, ◌==◌, ◌<◌, true, false, cond, refl, arith}
 use Rattle.std.proofs.lemmas.Bool.{eqb-true, eqb-false}
-use Rattle.exb_ecp.specs.Machine.{after}
+use Rattle.exb_ecp.specs.StopAndWait.{after}
 
 pub after_fits : (s : ℕ) → s < 65536 → after s < 65536
 unfolding after

@@ -3,7 +3,7 @@ use Rattle.std.specs.Prelude.{◌≡◌, ℕ, suc, ◌+◌, ◌%◌, ◌<◌, �
 use Rattle.std.specs.List.{list_any}
 use Rattle.exb_ecp.specs.declared.stop_and_wait.Beat.{Beat as Due}
 use Rattle.exb_ecp.specs.declared.stop_and_wait.Beat.TheVariants as due
-use Rattle.exb_ecp.specs.Machine.{Sending, State, new_state, submitted, stopped, acknowledged, heard, beaten, beat_at, beat_of, IsSound}
+use Rattle.exb_ecp.specs.StopAndWait.{Sending, State, new_state, submitted, stopped, acknowledged, heard, beaten, beat_at, beat_of, IsSound}
 
 pub data Call : Type 0 where
   Submit : List ℕ → Call

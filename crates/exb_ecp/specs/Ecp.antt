@@ -2,7 +2,7 @@
 use Rattle.std.specs.Prelude.{ℕ, ◌<◌, ◌≤◌, List, length, Option, Some, None}
 use Rattle.std.specs.Option.{ForSome}
 use Rattle.exb_ecp.specs.declared.stop_and_wait.Ecp.TheInside.{Inside}
-use Rattle.exb_ecp.specs.Machine.{Sending, State, after}
+use Rattle.exb_ecp.specs.StopAndWait.{Sending, State, after}
 
 abbrev pub sending_of : ℕ → List ℕ → Option ℕ → Option Sending
 sending_of latest payload None = None

@@ -1,6 +1,6 @@
 -- The bridge's ends of the transport, by extender.
 use Rattle.std.specs.Prelude.{◌≡◌, ◌≢◌, ◌↔◌, ℕ, ◌<◌, ◌≤◌, List, None, length, slice_index_or}
-use Rattle.exb_ecp.specs.Machine.{State, new_state}
+use Rattle.exb_ecp.specs.StopAndWait.{State, new_state}
 use Rattle.exb_model.specs.DeviceSets.{number_in}
 
 abbrev pub near_of : List State → ℕ → State

@@ -1,5 +1,5 @@
 pub mod Frames
-pub mod Machine
+pub mod StopAndWait
 pub mod Ecp
 pub mod Calls
 pub mod Line

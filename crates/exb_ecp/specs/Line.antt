@@ -3,7 +3,7 @@ use Rattle.std.specs.Prelude.{◌≡◌, ◌⊎◌, ℕ, zero, suc, ◌-◌, ◌
 use Rattle.exb_ecp.specs.declared.stop_and_wait.Beat.{Beat as Due}
 use Rattle.exb_ecp.specs.declared.stop_and_wait.Beat.TheVariants as due
 use Rattle.exb_ecp.specs.Calls.{Call, Received, called}
-use Rattle.exb_ecp.specs.Machine.{Sending, State, new_state, submitted, stopped, acknowledged, heard, is_fresh, beaten, beat_of}
+use Rattle.exb_ecp.specs.StopAndWait.{Sending, State, new_state, submitted, stopped, acknowledged, heard, is_fresh, beaten, beat_of}
 
 -- what was submitted: its number, counted from 0, tells it from others with the same payload
 pub record Item : Type 0 where

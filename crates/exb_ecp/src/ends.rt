@@ -1,6 +1,6 @@
 //! The bridge's ends of the transport between it and its extenders (ECP, IEEE 802.1Q, clause 43).
 ghost use Rattle.std.specs.Prelude.{◌≡◌, ◌↔◌, ℕ, ◌≤◌, false, IfNone, IfOk, IfSome, None, length};
-ghost use Rattle.exb_ecp.specs.Machine.{new_state, submitted, stopped, acknowledged, heard, is_fresh, beaten, beat_of};
+ghost use Rattle.exb_ecp.specs.StopAndWait.{new_state, submitted, stopped, acknowledged, heard, is_fresh, beaten, beat_of};
 ghost use Rattle.exb_model.specs.Tables.{at};
 ghost use Rattle.exb_ecp.specs.Ends.{near_of, IsNextSending};
 ghost use Rattle.exb_model.specs.DeviceSets.{number_in, IsNumber};
@@ -30,7 +30,7 @@ impl Drop for Ends {
 
 impl Model for Ends {
     ghost use Rattle.std.specs.Prelude.{List};
-    ghost use Rattle.exb_ecp.specs.Machine.{State};
+    ghost use Rattle.exb_ecp.specs.StopAndWait.{State};
     ghost use Rattle.exb_ecp.specs.Ends.{AreNoted};
 
     ghost Value = { List State };

@@ -1,7 +1,7 @@
 //! The machine of one end: it sends one payload until it is acknowledged, stopped or given up, and tells a
 //! request that is new from one that came before.
 ghost use Rattle.std.specs.Prelude.{◌≡◌, ◌≤◌, length, None, IfSome, IsTrue, ◌↔◌};
-ghost use Rattle.exb_ecp.specs.Machine.{after};
+ghost use Rattle.exb_ecp.specs.StopAndWait.{after};
 
 use arrayvec::ArrayVec;
 use std::marker::Model;
@@ -29,7 +29,7 @@ pub struct Ecp {
 }
 
 impl Model for Ecp {
-    ghost use Rattle.exb_ecp.specs.Machine.{State};
+    ghost use Rattle.exb_ecp.specs.StopAndWait.{State};
 
     ghost Value = { State };
 
@@ -41,7 +41,7 @@ impl Model for Ecp {
 }
 
 /// The sequence after this one.
-#[tactic(auto, unfolding(crate::specs::Machine::after))]
+#[tactic(auto, unfolding(crate::specs::StopAndWait::after))]
 fn next_sequence(sequence: u16) -> u16
     ensures { result ≡ after sequence }
 {
@@ -52,10 +52,10 @@ fn next_sequence(sequence: u16) -> u16
 }
 
 impl Ecp {
-    ghost use Rattle.exb_ecp.specs.Machine.{new_state, submitted, stopped, acknowledged, heard, is_fresh, beaten, beat_of, sent_payload, IsSound};
+    ghost use Rattle.exb_ecp.specs.StopAndWait.{new_state, submitted, stopped, acknowledged, heard, is_fresh, beaten, beat_of, sent_payload, IsSound};
 
     /// An end that sends nothing and has received nothing. Its first sequence is 1.
-    #[tactic(auto, unfolding(crate::specs::Machine::after))]
+    #[tactic(auto, unfolding(crate::specs::StopAndWait::after))]
     pub fn new() -> Ecp
         ensures { result ≡ new_state }
     {

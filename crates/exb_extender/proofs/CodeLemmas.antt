@@ -3,9 +3,9 @@ use Rattle.std.proofs.Common.{◌≡◌, ◌≢◌, ◌⊎◌, ℕ, ◌<◌, ◌
 use Rattle.std.specs.Prelude.{◌↔◌}
 use Rattle.std.proofs.lemmas.Bool.{and_parts, and_from, or_cases, or_left, or_right, ltb-true, leb-true, cases_eq, cases_Bool, eq-eqb, ne_eqb, eqb-true, lt-ltb, le-leb, both_ways, false_from_ne_true}
 use Rattle.exb_csp.specs.declared.group_rows.GroupRow.{GroupRow}
-use Rattle.exb_csp.specs.Execute.{ExtenderTables, in_mask, is_port, is_channel, is_ecid, has_pair, has_stray, is_named, row_code, rows_code, code_of}
+use Rattle.exb_csp.specs.Execution.{ExtenderTables, in_mask, is_port, is_channel, is_ecid, has_pair, has_stray, is_named, row_code, rows_code, code_of}
 use Rattle.std.proofs.lemmas.List.{append-nil}
-use Rattle.exb_csp.proofs.Executing.{find_port, some_port-true, or_false, head_done}
+use Rattle.exb_csp.proofs.ExecutionLaws.{find_port, some_port-true, or_false, head_done}
 use Rattle.exb_extender.specs.Laws.{IsPortOf, IsChannel, IsEcid, HasPair, HasStray, CreateCodes, DeleteCodes, RegisterCodes, UnregisterCodes, CodesExactly, ManyCodes}
 
 -- ---- tests that decide facts

@@ -9,9 +9,9 @@ use Rattle.exb_ecp.specs.declared.pdu.EcpFault.TheVariants.{NotEcp, Cut}
 use Rattle.exb_ecp.specs.declared.stop_and_wait.Beat.TheVariants.{Nothing, SendAgain, GaveUp}
 use Rattle.exb_ecp.specs.Calls.{Submit, Stop, Acked, Received, Beat}
 use Rattle.exb_ecp.specs.Frames.{is_ecp, pdu_in}
-use Rattle.exb_ecp.specs.Machine.{Sending, State, submitted, stopped, acknowledged, heard, beaten, aged, beat_of, sent_payload, IsOutstanding, IsSound}
-use Rattle.exb_ecp.proofs.Sound.{keeps_sound}
-use Rattle.exb_lldp.specs.Spelling.{spelling as announcement}
+use Rattle.exb_ecp.specs.StopAndWait.{Sending, State, submitted, stopped, acknowledged, heard, beaten, aged, beat_of, sent_payload, IsOutstanding, IsSound}
+use Rattle.exb_ecp.proofs.Soundness.{keeps_sound}
+use Rattle.exb_lldp.specs.Encoding.{spelling as announcement}
 use Rattle.exb_csp.specs.declared.message.Request.{Request}
 use Rattle.exb_csp.specs.declared.message.Request.TheVariants as request
 use Rattle.exb_csp.specs.declared.message.RequestKind.{RequestKind}
@@ -20,17 +20,17 @@ use Rattle.exb_csp.specs.declared.message.Response.{Response}
 use Rattle.exb_csp.specs.declared.message.Body.TheVariants.{Answer}
 use Rattle.exb_csp.specs.declared.message.Message.{Message}
 use Rattle.exb_csp.specs.declared.group_rows.GroupRow.{GroupRow}
-use Rattle.exb_csp.specs.Kinds.{kind_of}
-use Rattle.exb_csp.specs.Spelling.{answer_bytes, message_bytes, IsPortCount, HasSpelling}
-use Rattle.exb_csp.specs.Execute.{ExtenderTables, is_ecid, is_port, is_channel, has_pair, has_stray, is_named, row_code, rows_code, clear_code, clears_code, code_of, answered_ports, executed, response_to}
+use Rattle.exb_csp.specs.RequestKinds.{kind_of}
+use Rattle.exb_csp.specs.Encoding.{answer_bytes, message_bytes, IsPortCount, HasSpelling}
+use Rattle.exb_csp.specs.Execution.{ExtenderTables, is_ecid, is_port, is_channel, has_pair, has_stray, is_named, row_code, rows_code, clear_code, clears_code, code_of, answered_ports, executed, response_to}
 use Rattle.exb_csp.specs.declared.session.answerer.Due.{Due as Turn}
 use Rattle.exb_csp.specs.declared.session.answerer.Due.TheVariants.{Execute, Again, Ignore}
-use Rattle.exb_csp.specs.Sessions.Answering.{AnswererState, arrived, stored, stored_message}
-use Rattle.exb_extender.specs.Control.{state_with}
+use Rattle.exb_csp.specs.Sessions.AnsweringEnd.{AnswererState, arrived, stored, stored_message}
+use Rattle.exb_extender.specs.ExtenderParts.{state_with}
 use Rattle.exb_extender.specs.ControlState.{ControlState, IsInOrder}
 use Rattle.exb_extender.specs.Forwarding.{up}
 use Rattle.exb_extender.specs.Machine.{ExtenderState, request_frame, announcement_frame, sends_again, beats, next_count, is_open, executes, answers, by_turn, takes_request, hears_pdu, hears}
-use Rattle.exb_extender.specs.Sending.{own_sent}
+use Rattle.exb_extender.specs.SentFrames.{own_sent}
 
 -- ---- own frames
 

@@ -1,7 +1,7 @@
 -- A data frame changes nothing of the extender that takes it.
 use Rattle.std.proofs.Common.{◌≡◌, ◌⊎◌, ℕ, ◌<◌, ◌≤◌, ◌&&◌, Bool, true, false, not, nat_le, List, length, refl, ap, sym, subst, ◌∙◌}
 use Rattle.exb_model.specs.Frames.{is_control_frame}
-use Rattle.exb_csp.specs.Execute.{ExtenderTables}
+use Rattle.exb_csp.specs.Execution.{ExtenderTables}
 use Rattle.exb_extender.specs.declared.sends.Side.{Side}
 use Rattle.exb_extender.specs.declared.sends.Side.TheVariants.{Up, Port}
 use Rattle.exb_extender.specs.Forwarding.{emitted, has_etag_type, is_bare_control}

@@ -6,13 +6,13 @@ use Rattle.std.proofs.lemmas.Bool.{cases_eq, cases_lt, cases_Bool, ne_eqb, and_f
 use Rattle.std.proofs.lemmas.List.{get_or_past, length-set}
 use mathlib.Core.Path.{fun_ext}
 use Rattle.exb_model.specs.Tree.{Shape, is_extender}
-use Rattle.exb_csp.specs.Execute.{ExtenderTables}
-use Rattle.exb_ecp.specs.Machine.{State}
+use Rattle.exb_csp.specs.Execution.{ExtenderTables}
+use Rattle.exb_ecp.specs.StopAndWait.{State}
 use Rattle.exb_extender.specs.Fields.{Fields, state_of}
 use Rattle.exb_extender.specs.Machine.{ExtenderState, at_power_on}
 use Rattle.exb_model.specs.Tables.{at}
-use Rattle.exb_extender.specs.Resting.{rests, rested}
-use Rattle.exb_extender.proofs.RestingLemmas.{awake_is, one_more, rests_rested, same_tables, same_end}
+use Rattle.exb_extender.specs.IdleExtender.{rests, rested}
+use Rattle.exb_extender.proofs.IdleLemmas.{awake_is, one_more, rests_rested, same_tables, same_end}
 use Rattle.exb_extender.specs.Extenders.{Devices, state_at, far_of, first_far, if_rests, is_there, has_extender, IsPoweredOn, AreSame, AreNoted, sent_at, waits_at}
 use Rattle.exb_model.specs.DeviceSets.{number_in}
 use Rattle.exb_model.proofs.DeviceSets.{none_in_0}

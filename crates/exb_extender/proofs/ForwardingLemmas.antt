@@ -12,14 +12,14 @@ use Rattle.std.proofs.lemmas.Nat.Bits.{bit_at-trailing_zeros, bit_at_clear_same}
 use Rattle.std.proofs.lemmas.List.{map-append, append-nil}
 use Rattle.exb_model.specs.ETags.{Tag, has_etag, read_etag, stripped}
 use Rattle.exb_model.specs.ExtenderForwarding.{emits, emits_tagged, left_out, bare}
-use Rattle.exb_csp.specs.Execute.{ExtenderTables, in_mask}
-use Rattle.exb_csp.proofs.Executing.{mask_empty, and_true}
-use Rattle.exb_csp.proofs.Loops.{without}
+use Rattle.exb_csp.specs.Execution.{ExtenderTables, in_mask}
+use Rattle.exb_csp.proofs.ExecutionLaws.{mask_empty, and_true}
+use Rattle.exb_csp.proofs.ExecutionLoops.{without}
 use Rattle.exb_extender.specs.declared.sends.Form.TheVariants.{AsIs, Stripped}
 use Rattle.exb_extender.specs.declared.sends.Out.{Out}
 use Rattle.exb_extender.specs.declared.sends.Side.TheVariants.{Up, Port}
 use Rattle.exb_extender.specs.Forwarding.{Sent, forwarding_of, sent_at, sent_from_cascade, sent_from_external, emitted}
-use Rattle.exb_extender.specs.Sending.{CanBeGiven, out_sent, form_at, listed_at, outs_at, outs_where}
+use Rattle.exb_extender.specs.SentFrames.{CanBeGiven, out_sent, form_at, listed_at, outs_at, outs_where}
 use Rattle.exb_extender.proofs.TableLemmas.{in_mask-without}
 
 -- ---- lists made of the numbers of a range

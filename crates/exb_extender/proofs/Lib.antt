@@ -1,13 +1,13 @@
 pub mod TableLemmas
 pub mod ForwardingLemmas
-pub mod PassingLemmas
+pub mod SingleSideLemmas
 pub mod ControlLemmas
 pub mod MachineLemmas
-pub mod AllLemmas
+pub mod AllTablesLemmas
 pub mod CodeLemmas
-pub mod KeepsLemmas
+pub mod InvariantLemmas
 pub mod OwnFrames
-pub mod RestingLemmas
+pub mod IdleLemmas
 pub mod SidesSent
 pub mod DataFrames
 pub mod ExtendersByNumber

@@ -4,18 +4,18 @@ use Rattle.std.specs.Prelude.{Option, Some, None, Result, Ok, Err}
 use Rattle.exb_ecp.specs.declared.pdu.Pdu.{Pdu}
 use Rattle.exb_ecp.specs.declared.pdu.EcpFault.{EcpFault}
 use Rattle.exb_ecp.specs.Frames.{pdu_in}
-use Rattle.exb_ecp.specs.Machine.{is_fresh, heard, acknowledged}
+use Rattle.exb_ecp.specs.StopAndWait.{is_fresh, heard, acknowledged}
 use Rattle.exb_csp.specs.declared.fault.CspFault.{CspFault}
 use Rattle.exb_csp.specs.declared.message.Body.{Body}
 use Rattle.exb_csp.specs.declared.message.Body.TheVariants.{Ask, Answer}
 use Rattle.exb_csp.specs.declared.message.Message.{Message}
 use Rattle.exb_csp.specs.declared.message.Request.{Request}
 use Rattle.exb_csp.specs.declared.message.Request.TheVariants.{Open, PortCreate, PortDelete, Register, Unregister, RegisterMany, UnregisterMany}
-use Rattle.exb_csp.specs.Execute.{ExtenderTables, code_of, done, executed}
-use Rattle.exb_csp.specs.Reading.{read_message}
+use Rattle.exb_csp.specs.Execution.{ExtenderTables, code_of, done, executed}
+use Rattle.exb_csp.specs.Decoding.{read_message}
 use Rattle.exb_csp.specs.declared.session.answerer.Due.{Due as Turn}
 use Rattle.exb_csp.specs.declared.session.answerer.Due.TheVariants.{Execute, Again, Ignore}
-use Rattle.exb_csp.specs.Sessions.Answering.{AnswererState, arrived, stored_message}
+use Rattle.exb_csp.specs.Sessions.AnsweringEnd.{AnswererState, arrived, stored_message}
 use Rattle.exb_extender.specs.declared.sends.Side.{Side}
 use Rattle.exb_extender.specs.declared.sends.Side.TheVariants.{Up, Port}
 use Rattle.exb_extender.specs.Forwarding.{is_bare_control, emitted}

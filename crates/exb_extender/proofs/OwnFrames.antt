@@ -4,24 +4,24 @@ use Rattle.std.specs.Prelude.{nat_le, IfSome}
 use Rattle.std.proofs.lemmas.Bool.{le-leb}
 use Rattle.exb_model.specs.Frames.{is_control_frame}
 use Rattle.exb_lldp.specs.declared.announce.Announce.{Announce}
-use Rattle.exb_lldp.specs.Spelling.{spelling as announcement}
-use Rattle.exb_lldp.proofs.Spelled.{spelling_is}
+use Rattle.exb_lldp.specs.Encoding.{spelling as announcement}
+use Rattle.exb_lldp.proofs.RoundTrip.{spelling_is}
 use Rattle.exb_ecp.specs.declared.pdu.Pdu.{Pdu}
 use Rattle.exb_ecp.specs.declared.pdu.EcpFault.{EcpFault}
 use Rattle.exb_ecp.specs.declared.stop_and_wait.Beat.{Beat as Due}
 use Rattle.exb_ecp.specs.declared.stop_and_wait.Beat.TheVariants as due
 use Rattle.exb_ecp.specs.Frames.{pdu_in, spelling, carried}
-use Rattle.exb_ecp.specs.Machine.{Sending, acknowledged, heard, IsOutstanding, is_fresh, beat_of}
-use Rattle.exb_ecp.proofs.Spelled.{length_spelling}
+use Rattle.exb_ecp.specs.StopAndWait.{Sending, acknowledged, heard, IsOutstanding, is_fresh, beat_of}
+use Rattle.exb_ecp.proofs.RoundTrip.{length_spelling}
 use Rattle.exb_csp.specs.declared.fault.CspFault.{CspFault}
 use Rattle.exb_csp.specs.declared.message.Body.{Body}
 use Rattle.exb_csp.specs.declared.message.Body.TheVariants.{Ask, Answer}
 use Rattle.exb_csp.specs.declared.message.Message.{Message}
-use Rattle.exb_csp.specs.Reading.{read_message}
-use Rattle.exb_csp.specs.Spelling.{message_bytes}
+use Rattle.exb_csp.specs.Decoding.{read_message}
+use Rattle.exb_csp.specs.Encoding.{message_bytes}
 use Rattle.exb_csp.specs.declared.session.answerer.Due.{Due as Turn}
 use Rattle.exb_csp.specs.declared.session.answerer.Due.TheVariants.{Execute, Again, Ignore}
-use Rattle.exb_csp.specs.Sessions.Answering.{AnswererState, arrived, stored_message}
+use Rattle.exb_csp.specs.Sessions.AnsweringEnd.{AnswererState, arrived, stored_message}
 use Rattle.exb_extender.specs.Forwarding.{Sent, up, is_bare_control}
 use Rattle.exb_extender.specs.Machine.{ExtenderState, Reaction, nothing, address_of, control_pdu, acknowledgement_frame, request_frame, announcement_frame, submits, answers, executes, by_turn, takes_body, takes_message, hears_request, hears_pdu, hears, next_count, announces, sends_again, beats, IsExtender}
 use Rattle.exb_extender.specs.Laws.{IsOwnFrame, SendsControl}

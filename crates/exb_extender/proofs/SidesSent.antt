@@ -8,24 +8,24 @@ use Rattle.exb_csp.specs.declared.fault.CspFault.{CspFault}
 use Rattle.exb_csp.specs.declared.message.Body.{Body}
 use Rattle.exb_csp.specs.declared.message.Body.TheVariants.{Ask, Answer}
 use Rattle.exb_csp.specs.declared.message.Message.{Message}
-use Rattle.exb_csp.specs.Reading.{read_message}
-use Rattle.exb_csp.specs.Execute.{ExtenderTables}
+use Rattle.exb_csp.specs.Decoding.{read_message}
+use Rattle.exb_csp.specs.Execution.{ExtenderTables}
 use Rattle.exb_ecp.specs.declared.pdu.Pdu.{Pdu}
 use Rattle.exb_ecp.specs.declared.pdu.EcpFault.{EcpFault}
 use Rattle.exb_ecp.specs.Frames.{pdu_in}
-use Rattle.exb_ecp.specs.Machine.{acknowledged, heard, is_fresh}
+use Rattle.exb_ecp.specs.StopAndWait.{acknowledged, heard, is_fresh}
 use Rattle.exb_csp.specs.declared.session.answerer.Due.{Due as Turn}
 use Rattle.exb_csp.specs.declared.session.answerer.Due.TheVariants.{Execute, Again, Ignore}
-use Rattle.exb_csp.specs.Sessions.Answering.{AnswererState, arrived, stored_message}
-use Rattle.exb_csp.proofs.Sessions.Fronts.{each_append, all_from}
+use Rattle.exb_csp.specs.Sessions.AnsweringEnd.{AnswererState, arrived, stored_message}
+use Rattle.exb_csp.proofs.Sessions.Prefixes.{each_append, all_from}
 use Rattle.exb_extender.specs.declared.sends.Side.{Side}
 use Rattle.exb_extender.specs.declared.sends.Side.TheVariants.{Up, Port}
 use Rattle.exb_extender.specs.declared.sends.Out.{Out}
 use Rattle.exb_extender.specs.declared.sends.Sends.{Sends}
 use Rattle.exb_extender.specs.Forwarding.{Sent, emitted, forwarding_of, sent_from_cascade, sent_from_external, up, channel_tag, names_channel, is_bare_control, is_ignored}
 use Rattle.exb_extender.specs.Machine.{ExtenderState, Arrives, react, hears, hears_pdu, hears_request, nothing, takes_message, takes_body, by_turn, executes, submits}
-use Rattle.exb_extender.specs.Passing.{GoesTo, IsLow}
-use Rattle.exb_extender.specs.Sending.{CanBeGiven, out_sent, own_sent, sent_by}
+use Rattle.exb_extender.specs.SingleSide.{GoesTo, IsLow}
+use Rattle.exb_extender.specs.SentFrames.{CanBeGiven, out_sent, own_sent, sent_by}
 use Rattle.exb_extender.specs.Forms.{IsSide, CanGo}
 
 abbrev pub AreSides : List Sent → Type 0

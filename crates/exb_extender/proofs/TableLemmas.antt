@@ -9,14 +9,14 @@ use Rattle.exb_csp.specs.declared.message.Request.{Request}
 use Rattle.exb_csp.specs.declared.message.Request.TheVariants.{Open, PortCreate, PortDelete, Register, Unregister, RegisterMany, UnregisterMany}
 use Rattle.exb_csp.specs.declared.message.RequestKind.{RequestKind}
 use Rattle.exb_csp.specs.declared.message.Response.{Response}
-use Rattle.exb_csp.specs.Kinds.{kind_of}
-use Rattle.exb_csp.specs.Execute.{ExtenderTables, answered_ports, response_to, in_mask, has_stray, create_code, row_code, rows_code, clear_code, clears_code, in_rows, is_listed, code_of, done, executed}
-use Rattle.exb_csp.specs.Words.{AddsRows, ClearsRows, ClearsPair, powered_on}
-use Rattle.exb_csp.proofs.Executing.{or_false, and_true, or_assoc, both_out, mask_empty, some_port-true, some_port-false, executed_done, executed_refused}
-use Rattle.exb_csp.proofs.Loops.{no_row, in_mask-or, in_rows-next, is_listed-next, one_row, without}
-use Rattle.exb_model.proofs.Words.{get_or-same}
-use Rattle.exb_extender.specs.Kept.{IsKept}
-use Rattle.exb_extender.specs.Rows.{tables_in}
+use Rattle.exb_csp.specs.RequestKinds.{kind_of}
+use Rattle.exb_csp.specs.Execution.{ExtenderTables, answered_ports, response_to, in_mask, has_stray, create_code, row_code, rows_code, clear_code, clears_code, in_rows, is_listed, code_of, done, executed}
+use Rattle.exb_csp.specs.PortMasks.{AddsRows, ClearsRows, ClearsPair, powered_on}
+use Rattle.exb_csp.proofs.ExecutionLaws.{or_false, and_true, or_assoc, both_out, mask_empty, some_port-true, some_port-false, executed_done, executed_refused}
+use Rattle.exb_csp.proofs.ExecutionLoops.{no_row, in_mask-or, in_rows-next, is_listed-next, one_row, without}
+use Rattle.exb_model.proofs.PortBits.{get_or-same}
+use Rattle.exb_extender.specs.TableInvariant.{IsKept}
+use Rattle.exb_extender.specs.TableRows.{tables_in}
 
 -- ---- masks and rows
 

@@ -1,8 +1,8 @@
 -- What an extender keeps beside its tables.
 use Rattle.std.specs.Prelude.{◌≡◌, ℕ, ◌<◌, ◌≤◌, Bool, false, IfSome}
-use Rattle.exb_ecp.specs.Machine.{State, IsSound}
-use Rattle.exb_csp.specs.Spelling.{HasSpelling}
-use Rattle.exb_csp.specs.Sessions.Answering.{AnswererState, is_owing, stored_message}
+use Rattle.exb_ecp.specs.StopAndWait.{State, IsSound}
+use Rattle.exb_csp.specs.Encoding.{HasSpelling}
+use Rattle.exb_csp.specs.Sessions.AnsweringEnd.{AnswererState, is_owing, stored_message}
 
 -- its number, and its session, ECP, count of beats, and whether it was opened
 pub record ControlState : Type 0 where

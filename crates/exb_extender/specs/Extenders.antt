@@ -1,10 +1,10 @@
 -- The extenders of a network as the world has them: the state of each, by its number.
 use Rattle.std.specs.Prelude.{◌≡◌, ◌↔◌, ℕ, ◌==◌, ◌||◌, ◌<◌, Bool, true, false, if◌then◌else◌, List, Option, Some, None, length, slice_get, slice_index}
 use Rattle.exb_model.specs.Tree.{Shape}
-use Rattle.exb_ecp.specs.Machine.{Sending}
+use Rattle.exb_ecp.specs.StopAndWait.{Sending}
 use Rattle.exb_extender.specs.Fields.{Fields, state_of}
 use Rattle.exb_extender.specs.Machine.{ExtenderState, at_power_on, beats}
-use Rattle.exb_extender.specs.Resting.{rests, rested}
+use Rattle.exb_extender.specs.IdleExtender.{rests, rested}
 use Rattle.exb_model.specs.DeviceSets.{number_in}
 
 -- By device, how many ports it has, and the extender, where it is one. And how many beats, modulo 16, have passed at those

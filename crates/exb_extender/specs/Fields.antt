@@ -1,9 +1,9 @@
 -- What an extender keeps, and the state that this is.
 use Rattle.std.specs.Prelude.{ℕ, Bool, List}
-use Rattle.exb_ecp.specs.Machine.{State}
-use Rattle.exb_csp.specs.Sessions.Answering.{AnswererState}
+use Rattle.exb_ecp.specs.StopAndWait.{State}
+use Rattle.exb_csp.specs.Sessions.AnsweringEnd.{AnswererState}
 use Rattle.exb_extender.specs.Machine.{ExtenderState}
-use Rattle.exb_extender.specs.Rows.{tables_in}
+use Rattle.exb_extender.specs.TableRows.{tables_in}
 
 -- a channel and a kind for each port, from 1, with place 0 empty; a row of ports for each E-CID; and the rest of the state
 pub record Fields : Type 0 where

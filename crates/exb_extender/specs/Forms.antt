@@ -3,7 +3,7 @@ use Rattle.std.specs.Prelude.{ℕ, ◌<◌, ◌≤◌, List, ⊤}
 use Rattle.exb_extender.specs.declared.sends.Side.{Side}
 use Rattle.exb_extender.specs.declared.sends.Side.TheVariants as side
 use Rattle.exb_extender.specs.declared.sends.Out.{Out}
-use Rattle.exb_extender.specs.Sending.{CanBeGiven}
+use Rattle.exb_extender.specs.SentFrames.{CanBeGiven}
 
 -- the number of a port is 1 to 64
 abbrev pub IsSide : Side → Type 0

@@ -7,7 +7,7 @@ use Rattle.exb_model.specs.declared.frame_kind.Seen.TheVariants as seen
 use Rattle.exb_model.specs.Frames.{is_control_frame, number_at, kind_of}
 use Rattle.exb_model.specs.ETags.{Tag, read_etag, tagged}
 use Rattle.exb_model.specs.ExtenderForwarding.{Tables, emits}
-use Rattle.exb_csp.specs.Execute.{ExtenderTables, is_channel}
+use Rattle.exb_csp.specs.Execution.{ExtenderTables, is_channel}
 use Rattle.exb_extender.specs.declared.sends.Side.{Side}
 use Rattle.exb_extender.specs.declared.sends.Side.TheVariants.{Up, Port}
 

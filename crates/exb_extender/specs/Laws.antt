@@ -3,12 +3,12 @@ use Rattle.std.specs.Prelude.{◌≡◌, ◌≢◌, ◌↔◌, ◌⊎◌, ℕ, �
 use Rattle.exb_model.specs.ExtenderForwarding.{emits}
 use Rattle.exb_csp.specs.declared.group_rows.GroupRow.{GroupRow}
 use Rattle.exb_csp.specs.declared.message.Request.TheVariants.{PortCreate, PortDelete, Register, Unregister, RegisterMany}
-use Rattle.exb_csp.specs.Execute.{ExtenderTables, in_mask, code_of, row_code}
+use Rattle.exb_csp.specs.Execution.{ExtenderTables, in_mask, code_of, row_code}
 use Rattle.exb_model.specs.Frames.{IsBytes}
 use Rattle.exb_csp.specs.AllTables.{tables_at, port_of}
 use Rattle.exb_extender.specs.declared.sends.Side.TheVariants.{Up}
 use Rattle.exb_extender.specs.Forwarding.{Sent, is_bare_control, forwarding_of}
-use Rattle.exb_extender.specs.Resting.{rests, rested}
+use Rattle.exb_extender.specs.IdleExtender.{rests, rested}
 use Rattle.exb_extender.specs.Machine.{hears, beats, ExtenderState, Input, Arrives, Beats, react, IsSameDevice, IsExtender, at_power_on}
 
 -- What an extender sends at a port of a frame from upstream is what the tables of all extenders say of that port.

@@ -1,26 +1,26 @@
 -- A port extender as a pure machine: its state, what befalls it, and what it then sends.
 use Rattle.std.specs.Prelude.{◌≡◌, ◌⊎◌, ℕ, ◌+◌, ◌<◌, ◌≤◌, ◌==◌, ◌&&◌, ◌||◌, Bool, true, false, not, if◌then◌else◌, List, [], ◌∷◌, ◌++◌, drop, Option, Some, None, Result, Ok, Err, IfSome, ⊤}
 use Rattle.exb_model.specs.declared.address.Mac.{Mac}
-use Rattle.exb_lldp.specs.Spelling.{spelling as announcement}
+use Rattle.exb_lldp.specs.Encoding.{spelling as announcement}
 use Rattle.exb_ecp.specs.declared.pdu.Pdu.{Pdu}
 use Rattle.exb_ecp.specs.declared.pdu.EcpFault.{EcpFault}
 use Rattle.exb_ecp.specs.declared.stop_and_wait.Beat.{Beat as Due}
 use Rattle.exb_ecp.specs.declared.stop_and_wait.Beat.TheVariants.{SendAgain}
 use Rattle.exb_ecp.specs.Frames.{pdu_in, spelling}
-use Rattle.exb_ecp.specs.Machine.{Sending, State, new_state, submitted, acknowledged, heard, is_fresh, beaten, beat_of, IsSound}
+use Rattle.exb_ecp.specs.StopAndWait.{Sending, State, new_state, submitted, acknowledged, heard, is_fresh, beaten, beat_of, IsSound}
 use Rattle.exb_csp.specs.declared.fault.CspFault.{CspFault}
 use Rattle.exb_csp.specs.declared.message.Body.{Body}
 use Rattle.exb_csp.specs.declared.message.Body.TheVariants.{Ask, Answer}
 use Rattle.exb_csp.specs.declared.message.Message.{Message}
 use Rattle.exb_csp.specs.declared.message.Request.{Request}
 use Rattle.exb_csp.specs.declared.message.Request.TheVariants.{Open}
-use Rattle.exb_csp.specs.Reading.{read_message}
-use Rattle.exb_csp.specs.Spelling.{message_bytes, HasSpelling}
-use Rattle.exb_csp.specs.Execute.{ExtenderTables, executed, response_to}
-use Rattle.exb_csp.specs.Words.{powered_on}
+use Rattle.exb_csp.specs.Decoding.{read_message}
+use Rattle.exb_csp.specs.Encoding.{message_bytes, HasSpelling}
+use Rattle.exb_csp.specs.Execution.{ExtenderTables, executed, response_to}
+use Rattle.exb_csp.specs.PortMasks.{powered_on}
 use Rattle.exb_csp.specs.declared.session.answerer.Due.{Due as Turn}
 use Rattle.exb_csp.specs.declared.session.answerer.Due.TheVariants.{Execute, Again, Ignore}
-use Rattle.exb_csp.specs.Sessions.Answering.{AnswererState, fresh, is_owing, arrived, stored, stored_message}
+use Rattle.exb_csp.specs.Sessions.AnsweringEnd.{AnswererState, fresh, is_owing, arrived, stored, stored_message}
 use Rattle.exb_extender.specs.declared.sends.Side.{Side}
 use Rattle.exb_extender.specs.declared.sends.Side.TheVariants.{Up, Port}
 use Rattle.exb_extender.specs.Forwarding.{Sent, up, is_bare_control, emitted}

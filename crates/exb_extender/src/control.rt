@@ -1,18 +1,18 @@
 //! The control of an extender: what it hears, answers and sends by itself.
 ghost use Rattle.std.specs.Prelude.{◌≡◌, ◌↔◌, ◌≤◌, ◌<◌, ◌++◌, [], ◌∷◌, ◌==◌, ◌&&◌, ◌||◌, not, if◌then◌else◌, length, false, Ok, None, IsTrue};
-ghost use Rattle.exb_csp.specs.Execute.{ExtenderTables};
-ghost use Rattle.exb_ecp.specs.Machine.{new_state, beaten, beat_of, IsSound};
-ghost use Rattle.exb_csp.specs.Sessions.Answering.{fresh};
-ghost use Rattle.exb_extender.specs.Control.{state_with, state_in};
+ghost use Rattle.exb_csp.specs.Execution.{ExtenderTables};
+ghost use Rattle.exb_ecp.specs.StopAndWait.{new_state, beaten, beat_of, IsSound};
+ghost use Rattle.exb_csp.specs.Sessions.AnsweringEnd.{fresh};
+ghost use Rattle.exb_extender.specs.ExtenderParts.{state_with, state_in};
 ghost use Rattle.exb_extender.specs.ControlState.{IsInOrder};
-ghost use Rattle.exb_csp.specs.Reading.{read_message};
+ghost use Rattle.exb_csp.specs.Decoding.{read_message};
 ghost use Rattle.exb_extender.specs.Machine.{address_of, acknowledgement_frame, request_frame, announcement_frame, is_open, next_count, answers, beats, sends_again, takes_request, takes_message, hears_request, hears_pdu, hears};
 ghost use Rattle.exb_extender.specs.Forwarding.{up};
-ghost use Rattle.exb_extender.specs.Resting.{rests, rested};
-ghost use Rattle.exb_extender.specs.Sending.{IsNothing, own_sent};
+ghost use Rattle.exb_extender.specs.IdleExtender.{rests, rested};
+ghost use Rattle.exb_extender.specs.SentFrames.{IsNothing, own_sent};
 
 use crate::sends::Sends;
-use crate::tables::Tables;
+use crate::tables::ForwardingTables;
 use exb_csp::{Answerer, Body, Due, ECP_SUBTYPE, Message, Request};
 use exb_ecp::{Beat, Ecp, PAYLOAD_AT, Pdu};
 use exb_lldp::Announce;
@@ -22,7 +22,7 @@ use std::marker::Model;
 
 /// What an extender keeps beside its tables.
 #[derive(Drop)]
-pub(crate) struct Control {
+pub(crate) struct ExtenderControl {
     /// The extender's number, 1 to 64.
     number: u8,
     session: Answerer,
@@ -33,7 +33,7 @@ pub(crate) struct Control {
     opened: bool,
 }
 
-impl Model for Control {
+impl Model for ExtenderControl {
     ghost use Rattle.exb_extender.specs.ControlState.{ControlState, IsInOrder};
 
     ghost Value = { ControlState };
@@ -131,14 +131,14 @@ fn next_count(beats: u8) -> u8
     }
 }
 
-impl Control {
+impl ExtenderControl {
     /// At power-on: nothing was heard, executed or sent.
-    pub(crate) fn new(number: u8) -> Control
+    pub(crate) fn new(number: u8) -> ExtenderControl
         requires { (1 ≤ number) × (number ≤ 64) }
         ensures { (t : ExtenderTables) → state_with t result
             ≡ record { number = number; tables = t; session = fresh; ecp = new_state; beats = 0; opened = false } }
     {
-        Control {
+        ExtenderControl {
             number,
             session: Answerer::new(),
             ecp: Ecp::new(),
@@ -211,7 +211,7 @@ impl Control {
     // Executes the next request, answers the last one again, and ignores any other.
     fn take_request(
         &mut self,
-        tables: &mut Tables,
+        tables: &mut ForwardingTables,
         serial: u64,
         request: Request,
         out: &mut ControlBuf,
@@ -232,7 +232,7 @@ impl Control {
         }
     }
 
-    fn take_payload(&mut self, tables: &mut Tables, payload: &[u8], out: &mut ControlBuf)
+    fn take_payload(&mut self, tables: &mut ForwardingTables, payload: &[u8], out: &mut ControlBuf)
         requires { out.old.items ≡ [] }
         ensures state { state_in tables.new self.new ≡ (takes_message (read_message payload.now) (state_in tables.old self.old)).0 }
         ensures sends { own_sent out.new.items ≡ (takes_message (read_message payload.now) (state_in tables.old self.old)).1 }
@@ -250,7 +250,7 @@ impl Control {
     // Acknowledges a request of ECP, and takes its payload if it is fresh.
     fn hear_request(
         &mut self,
-        tables: &mut Tables,
+        tables: &mut ForwardingTables,
         sequence: u16,
         payload: &[u8],
         sends: &mut Sends,
@@ -267,7 +267,13 @@ impl Control {
         }
     }
 
-    fn hear_pdu(&mut self, tables: &mut Tables, pdu: &Pdu, frame: &[u8], sends: &mut Sends)
+    fn hear_pdu(
+        &mut self,
+        tables: &mut ForwardingTables,
+        pdu: &Pdu,
+        frame: &[u8],
+        sends: &mut Sends,
+    )
         requires long { 18 ≤ length frame.now }
         requires empty { IsNothing sends.old }
         ensures state { state_in tables.new self.new ≡ (hears_pdu (Ok pdu.now) frame.now (state_in tables.old self.old)).0 }
@@ -287,7 +293,7 @@ impl Control {
     }
 
     /// Hears a control frame that comes from upstream without an E-TAG.
-    pub(crate) fn hear(&mut self, tables: &mut Tables, frame: &[u8], sends: &mut Sends)
+    pub(crate) fn hear(&mut self, tables: &mut ForwardingTables, frame: &[u8], sends: &mut Sends)
         requires { IsNothing sends.old }
         ensures state { state_in tables.new self.new ≡ (hears frame.now (state_in tables.old self.old)).0 }
         ensures frames { sends.new.frames ≡ sends.old.frames }

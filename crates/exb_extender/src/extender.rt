@@ -1,17 +1,17 @@
 //! The extender.
 ghost use Rattle.std.specs.Prelude.{◌≡◌, ◌↔◌, ◌⊎◌, ℕ, ◌≤◌, [], List, true, false, is_none, All, None, IfOk, IfSome, IsTrue};
-ghost use Rattle.exb_extender.specs.Control.{state_in};
+ghost use Rattle.exb_extender.specs.ExtenderParts.{state_in};
 ghost use Rattle.exb_extender.specs.Forwarding.{emitted, is_ignored};
 ghost use Rattle.exb_extender.specs.Machine.{comes};
-ghost use Rattle.exb_extender.specs.Sending.{IsNothing, sent_by, form_sent, CanBeGiven};
+ghost use Rattle.exb_extender.specs.SentFrames.{IsNothing, sent_by, form_sent, CanBeGiven};
 ghost use Rattle.exb_extender.specs.Tables.{tables_of};
 
-use crate::control::Control;
+use crate::control::ExtenderControl;
 use crate::forwarding::{
     form_from_cascade, form_from_external, is_bare_control, only_down, only_up, send_down,
 };
 use crate::sends::{Entry, Form, Out, Sends, Side};
-use crate::tables::Tables;
+use crate::tables::ForwardingTables;
 use exb_model::memory::NoMemory;
 use std::alloc::Global;
 use std::marker::Model;
@@ -20,8 +20,8 @@ use std::marker::Model;
 /// requests; it acknowledges and answers these, sends an answer again until it is acknowledged, and
 /// announces itself until it is opened.
 pub struct Extender {
-    tables: Tables,
-    control: Control,
+    tables: ForwardingTables,
+    control: ExtenderControl,
 }
 
 impl Drop for Extender {
@@ -38,7 +38,7 @@ impl Model for Extender {
 
     ghost Value = { Fields };
 
-    ghost use Rattle.exb_extender.specs.Control.{fields_in};
+    ghost use Rattle.exb_extender.specs.ExtenderParts.{fields_in};
 
     ghost view = { λ x. fields_in x.tables x.control };
 }
@@ -55,7 +55,7 @@ fn send_up(form: Option<Form>, sends: &mut Sends)
 }
 
 // Takes a frame from a port that is a cascade port or has no channel.
-fn take_up(tables: &Tables, port: u8, frame: &[u8], sends: &mut Sends)
+fn take_up(tables: &ForwardingTables, port: u8, frame: &[u8], sends: &mut Sends)
     requires empty { IsNothing sends.old }
     requires port { port ≤ 64 }
     requires cascade { ((tables_of tables.now).cascade port ≡ true) ⊎ ((tables_of tables.now).own port ≡ 0) }
@@ -68,7 +68,12 @@ fn take_up(tables: &Tables, port: u8, frame: &[u8], sends: &mut Sends)
 }
 
 // Takes a frame from upstream.
-fn take_down(tables: &mut Tables, control: &mut Control, frame: &[u8], sends: &mut Sends)
+fn take_down(
+    tables: &mut ForwardingTables,
+    control: &mut ExtenderControl,
+    frame: &[u8],
+    sends: &mut Sends,
+)
     requires { IsNothing sends.old }
     ensures state { state_in tables.new control.new ≡ (comes Side.Up frame.now (state_in tables.old control.old)).0 }
     ensures sends { sent_by frame.now sends.new ≡ (comes Side.Up frame.now (state_in tables.old control.old)).1 }
@@ -84,8 +89,8 @@ fn take_down(tables: &mut Tables, control: &mut Control, frame: &[u8], sends: &m
 impl Extender {
     ghost use Rattle.exb_extender.specs.Fields.{state_of};
     ghost use Rattle.exb_extender.specs.Machine.{at_power_on, react, Arrives, Beats, IsPort, CanTake, IsSameDevice, IsExtender};
-    ghost use Rattle.exb_extender.specs.Passing.{GoesTo};
-    ghost use Rattle.exb_extender.specs.Resting.{rests, rested};
+    ghost use Rattle.exb_extender.specs.SingleSide.{GoesTo};
+    ghost use Rattle.exb_extender.specs.IdleExtender.{rests, rested};
 
     /// Extender `number` at power-on: each port is external and without a channel. This call alone takes
     /// memory.
@@ -95,8 +100,8 @@ impl Extender {
         ensures state { IfOk result (λ made. state_of made ≡ at_power_on number ports) }
         ensures ports { IfOk result (λ made. (state_of made).tables.ports ≡ ports) }
     {
-        let tables = Tables::new(alloc, ports)?;
-        let control = Control::new(number);
+        let tables = ForwardingTables::new(alloc, ports)?;
+        let control = ExtenderControl::new(number);
         Ok(Extender { tables, control })
     }
 

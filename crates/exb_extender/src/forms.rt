@@ -2,7 +2,7 @@
 ghost use Rattle.std.specs.Prelude.{◌≡◌, OnOk};
 ghost use Rattle.exb_frame.specs.TagValues.{tag_of};
 ghost use Rattle.exb_extender.specs.Forwarding.{channel_tag};
-ghost use Rattle.exb_extender.specs.Sending.{CanBeGiven, bytes_in};
+ghost use Rattle.exb_extender.specs.SentFrames.{CanBeGiven, bytes_in};
 
 use crate::sends::Form;
 use exb_frame::etag::{ETag, strip_into, tag_into};

@@ -4,12 +4,12 @@ ghost use Rattle.arrayvec.specs.ArrayVec.{array_vec_len};
 ghost use Rattle.exb_model.specs.ETags.{read_etag};
 ghost use Rattle.exb_frame.specs.TagValues.{tag_of};
 ghost use Rattle.exb_extender.specs.Forwarding.{emitted, is_bare_control, names_channel, is_refused_kind, is_ignored, sent_from_cascade, sent_from_external};
-ghost use Rattle.exb_extender.specs.Passing.{GoesAt, GoesTo};
-ghost use Rattle.exb_extender.specs.Sending.{out_sent, form_sent, form_at, outs_at, outs_where, CanBeGiven};
+ghost use Rattle.exb_extender.specs.SingleSide.{GoesAt, GoesTo};
+ghost use Rattle.exb_extender.specs.SentFrames.{out_sent, form_sent, form_at, outs_at, outs_where, CanBeGiven};
 ghost use Rattle.exb_extender.specs.Tables.{tables_of};
 
 use crate::sends::{Form, Out, Side};
-use crate::tables::Tables;
+use crate::tables::ForwardingTables;
 use arrayvec::ArrayVec;
 use exb_frame::classify::classify;
 use exb_frame::etag::{E_TAG_AT, E_TAG_TYPE, ETag};
@@ -38,7 +38,7 @@ pub(crate) fn is_bare_control(frame: &[u8]) -> bool
 // The form in which a frame with that E-TAG goes out at a port that has the pair. None without a
 // channel, and at the external port from which it came.
 #[inline(always)]
-fn form_at(tables: &Tables, port: u8, tag: &ETag) -> Option<Form>
+fn form_at(tables: &ForwardingTables, port: u8, tag: &ETag) -> Option<Form>
     requires { port ≤ 64 }
     ensures { result ≡ form_at (tables_of tables.now) (tag_of tag.now) port }
 {
@@ -57,7 +57,7 @@ fn form_at(tables: &Tables, port: u8, tag: &ETag) -> Option<Form>
 }
 
 // Adds the port, if the frame goes out there.
-fn send_at(tables: &Tables, port: u8, tag: &ETag, frames: &mut Outs)
+fn send_at(tables: &ForwardingTables, port: u8, tag: &ETag, frames: &mut Outs)
     requires port { port ≤ 64 }
     requires room { array_vec_len frames.old < 65 }
     ensures { frames.new.items ≡ frames.old.items ++ outs_at (tables_of tables.now) (tag_of tag.now) port }
@@ -71,7 +71,7 @@ fn send_at(tables: &Tables, port: u8, tag: &ETag, frames: &mut Outs)
 }
 
 // Goes through the ports of the E-CID alone, lowest first.
-fn replicate(tables: &Tables, tag: &ETag, frames: &mut Outs)
+fn replicate(tables: &ForwardingTables, tag: &ETag, frames: &mut Outs)
     requires ecid { tag.now.ecid < 16384 }
     requires empty { frames.old.items ≡ [] }
     ensures { let t = tables_of tables.now in frames.new.items ≡ outs_where (t.pair tag.now.ecid) t (tag_of tag.now) }
@@ -86,7 +86,7 @@ fn replicate(tables: &Tables, tag: &ETag, frames: &mut Outs)
 
 // The one port at which a frame with that E-TAG goes out, where its E-CID has that port alone.
 #[inline(always)]
-fn only_port(tables: &Tables, tag: &ETag) -> Option<Out>
+fn only_port(tables: &ForwardingTables, tag: &ETag) -> Option<Out>
     requires { tag.now.ecid < 16384 }
     ensures { IfSome result (GoesAt (tables_of tables.now) (tag_of tag.now)) }
 {
@@ -109,7 +109,7 @@ fn only_port(tables: &Tables, tag: &ETag) -> Option<Out>
 
 /// The one side to which a frame from upstream goes on, where it has the E-TAG of one port. None says nothing.
 #[inline(always)]
-pub(crate) fn only_down(tables: &Tables, frame: &[u8]) -> Option<Out>
+pub(crate) fn only_down(tables: &ForwardingTables, frame: &[u8]) -> Option<Out>
     ensures { IfSome result (GoesTo (tables_of tables.now) Side.Up frame.now) }
 {
     match ETag::read(frame) {
@@ -119,7 +119,7 @@ pub(crate) fn only_down(tables: &Tables, frame: &[u8]) -> Option<Out>
 }
 
 /// Where a frame goes that comes from upstream: in rising order to the ports of its E-CID.
-pub(crate) fn send_down(tables: &Tables, frame: &[u8], frames: &mut Outs)
+pub(crate) fn send_down(tables: &ForwardingTables, frame: &[u8], frames: &mut Outs)
     requires { frames.old.items ≡ [] }
     ensures sends { map (out_sent frame.now) frames.new.items ≡ emitted (tables_of tables.now) Side.Up frame.now }
     ensures given { All (λ out. CanBeGiven frame.now out.form) frames.new.items }
@@ -142,7 +142,7 @@ fn names_channel(frame: &[u8]) -> bool
 
 /// A frame from a cascade port goes up as it is, where it has the E-TAG of a channel. None says nothing.
 #[inline(always)]
-pub(crate) fn only_up(tables: &Tables, port: u8, frame: &[u8]) -> Option<Out>
+pub(crate) fn only_up(tables: &ForwardingTables, port: u8, frame: &[u8]) -> Option<Out>
     requires { port ≤ 64 }
     ensures { IfSome result (GoesTo (tables_of tables.now) (Side.Port port) frame.now) }
 {

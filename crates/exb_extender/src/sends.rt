@@ -53,7 +53,7 @@ pub struct Sends {
 }
 
 impl Sends {
-    ghost use Rattle.exb_extender.specs.Sending.{IsNothing};
+    ghost use Rattle.exb_extender.specs.SentFrames.{IsNothing};
 
     /// Nothing is sent.
     pub fn new() -> Sends

@@ -2,9 +2,9 @@
 ghost use Rattle.std.specs.Prelude.{◌≡◌, ℕ, ◌<◌, ◌≤◌, ◌==◌, ◌&&◌, ◌||◌, nat_lt, nat_le, [], ◌∷◌, All, IfOk};
 ghost use Rattle.std.specs.List.{list_all};
 ghost use Rattle.exb_extender.specs.MemberSets.{row_of};
-ghost use Rattle.exb_csp.specs.Execute.{is_ecid, in_mask, some_port, has_stray, has_pair, is_named, create_code, row_code, rows_code, code_of, answered_ports, executed, response_to};
-ghost use Rattle.exb_csp.specs.Words.{AddsRows, ClearsRows, ClearsPair, powered_on};
-ghost use Rattle.exb_extender.specs.Kept.{IsKept};
+ghost use Rattle.exb_csp.specs.Execution.{is_ecid, in_mask, some_port, has_stray, has_pair, is_named, create_code, row_code, rows_code, code_of, answered_ports, executed, response_to};
+ghost use Rattle.exb_csp.specs.PortMasks.{AddsRows, ClearsRows, ClearsPair, powered_on};
+ghost use Rattle.exb_extender.specs.TableInvariant.{IsKept};
 
 use crate::members::MemberSets;
 use exb_csp::{GroupRow, Request, Response, is_channel, is_ecid};
@@ -13,7 +13,7 @@ use std::alloc::Global;
 
 /// The tables of an extender of 1 to 64 ports. Lists by port have a place for each number up to 64.
 #[derive(Drop)]
-pub(crate) struct Tables {
+pub(crate) struct ForwardingTables {
     /// How many ports there are.
     count: u8,
     /// The own channel of each port, 0 for none.
@@ -103,26 +103,26 @@ fn answered_ports(ports: u8, request: &Request) -> u8
     }
 }
 
-impl Tables {
+impl ForwardingTables {
     ghost use Rattle.exb_csp.specs.declared.message.Request.TheVariants.{PortCreate, PortDelete, RegisterMany, UnregisterMany};
     ghost use Rattle.exb_extender.specs.Tables.{tables_of};
 
     /// At power-on: each port is external and has no channel, and no E-CID goes to any port.
-    pub(crate) fn new(alloc: Global, ports: u8) -> Result<Tables, NoMemory>
+    pub(crate) fn new(alloc: Global, ports: u8) -> Result<ForwardingTables, NoMemory>
         requires { (1 ≤ ports) × (ports ≤ 64) }
         ensures { IfOk result (λ t. tables_of t ≡ powered_on ports) }
     {
         let rows = MemberSets::new(alloc)?;
-        Ok(Tables::with_rows(ports, rows))
+        Ok(ForwardingTables::with_rows(ports, rows))
     }
 
     // Each port is external and has no channel; no E-CID goes to any port.
-    fn with_rows(ports: u8, rows: MemberSets) -> Tables
+    fn with_rows(ports: u8, rows: MemberSets) -> ForwardingTables
         requires count { (1 ≤ ports) × (ports ≤ 64) }
         requires rows { (e : ℕ) → row_of rows e ≡ 0 }
         ensures { tables_of result ≡ powered_on ports }
     {
-        Tables {
+        ForwardingTables {
             count: ports,
             own: [0; 65],
             cascade: [false; 65],

@@ -1,7 +1,7 @@
 //! Announcements, acknowledgements and answers.
-use crate::drive::judge;
+use crate::driver::judge;
 use crate::fixture::Fixture;
-use crate::words::{bytes_of, put_bytes, same};
+use crate::row_words::{bytes_of, put_bytes, same};
 use exb_extender::{Extender, Sends, Side};
 use std::alloc::Global;
 use std::process::Abort;

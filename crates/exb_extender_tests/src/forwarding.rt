@@ -1,8 +1,8 @@
 //! Frames of every kind from every side, at an extender that is opened, with the external ports 1 and 2 of channels 1 and 2,
 //! and the cascade port 3 of channel 3. The group 0x1000 goes to all three, and channel 9 to the cascade port.
-use crate::drive::judge;
+use crate::driver::judge;
 use crate::fixture::Fixture;
-use crate::words::{bytes_of, put_bytes, same};
+use crate::row_words::{bytes_of, put_bytes, same};
 use exb_frame::etag::{ETag, tag_into};
 use std::alloc::Global;
 use std::process::Abort;

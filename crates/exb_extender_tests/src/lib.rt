@@ -5,12 +5,12 @@
 #[cfg(test)]
 mod control;
 #[cfg(test)]
-mod drive;
+mod driver;
 #[cfg(test)]
 mod fixture;
 #[cfg(test)]
 mod forwarding;
 #[cfg(test)]
-mod hostile;
+mod mutations;
 #[cfg(test)]
-mod words;
+mod row_words;

@@ -1,7 +1,7 @@
 //! Captures in pieces: the records that are read of them, or the first fault.
+use crate::capture_reads::{front_text, sized_text};
 use crate::compare::{holds, same, same_at};
-use crate::hostile::bytes_of;
-use crate::reading::{front_text, sized_text};
+use crate::test_rows::bytes_of;
 use exb_capture::{header_text, record_text};
 use std::alloc::Global;
 use std::process::Abort;

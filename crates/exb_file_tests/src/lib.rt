@@ -4,16 +4,16 @@
 #![tactic(auto)]
 
 #[cfg(test)]
+mod capture_reads;
+#[cfg(test)]
 mod captures;
 #[cfg(test)]
 mod compare;
-#[cfg(test)]
-mod hostile;
-#[cfg(test)]
-mod reading;
 #[cfg(test)]
 mod replays;
 #[cfg(test)]
 mod scans;
 #[cfg(test)]
 mod shelves;
+#[cfg(test)]
+mod test_rows;

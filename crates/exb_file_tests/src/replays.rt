@@ -1,14 +1,14 @@
 //! Captures that are read again, each on a shelf that reads at most so many bytes at once, and of which another file was told.
-ghost use Rattle.exb_faulty.specs.Faulty.{ids_of};
-ghost use Rattle.exb_capture.specs.Reading.{IsAt};
-ghost use Rattle.exb_capture.specs.Replaying.{IsKept};
+ghost use Rattle.exb_test_shelf.specs.DisturbedFiles.{ids_of};
+ghost use Rattle.exb_capture.specs.CaptureFiles.{IsAt};
+ghost use Rattle.exb_capture.specs.Replays.{IsKept};
 
 use crate::compare::{same, same_at};
-use crate::hostile::bytes_of;
 use crate::scans::{CUTS, capture, changed, number, shelf_with};
+use crate::test_rows::bytes_of;
 use exb_capture::{Replay, ReplayFault, Scanned, scan};
-use exb_faulty::{Disturbance, FaultyShelf};
 use exb_model::bytes::Bytes;
+use exb_test_shelf::{Disturbance, FaultyShelf};
 use std::alloc::Global;
 use std::process::Abort;
 use std::str::SplitWhitespace;

@@ -1,8 +1,8 @@
 //! Captures that are checked, each on a shelf that reads at most so many bytes at once.
 use crate::compare::same;
-use crate::hostile::bytes_of;
+use crate::test_rows::bytes_of;
 use exb_capture::{ScanFault, Scanned, header_text, record_text, scan};
-use exb_faulty::{Disturbance, FaultyShelf};
+use exb_test_shelf::{Disturbance, FaultyShelf};
 use std::alloc::Global;
 use std::process::Abort;
 use std::str::SplitWhitespace;

@@ -1,7 +1,7 @@
 //! Shelves and sinks in memory.
 use crate::compare::holds;
-use exb_faulty::{MemShelf, MemSink};
 use exb_shelf::{PIECE, ReadFault, Shelf, ShelfFault, print_text, read_file, write_text};
+use exb_test_shelf::{MemShelf, MemSink};
 use std::alloc::Global;
 use std::process::Abort;
 

@@ -7,9 +7,9 @@ use Rattle.exb_shelf.specs.Files.{Files, SameFiles}
 use Rattle.exb_shelf.specs.Shelf.{Faults}
 use Rattle.exb_inputs.specs.declared.fault.Fault.{Fault}
 use Rattle.exb_inputs.specs.declared.fault.Fault.TheVariants.{Memory}
-use Rattle.exb_inputs.specs.Counting.{CountsFault}
-use Rattle.exb_inputs.specs.Shelving.{CountsFaults}
-use Rattle.exb_inputs.proofs.ShelvingLemmas.{counted_once, counts_ok, fewer_same}
+use Rattle.exb_inputs.specs.FaultCounts.{CountsFault}
+use Rattle.exb_inputs.specs.ShelfEffects.{CountsFaults}
+use Rattle.exb_inputs.proofs.ShelfEffects.{counted_once, counts_ok, fewer_same}
 
 pub when_ok : {T E P : Type 0} (r : Result T E) → is_err r ≡ false → OnOk r P → P
 when_ok (Ok v) e p = p

@@ -3,14 +3,14 @@ use Rattle.std.specs.Prelude.{⊤, ◌≡◌, ◌<◌, ◌≤◌, ◌++◌, ℕ,
 use Rattle.std.specs.declared.alloc.Global.{Global}
 use Rattle.std.specs.Fmt.{decimal}
 use Rattle.exb_model.specs.Texts.{port_name}
-use Rattle.exb_keys.specs.declared.faults.KeyFault.{KeyFault}
-use Rattle.exb_keys.specs.declared.faults.KeyFault.TheVariants as keys
-use Rattle.exb_keys.specs.declared.faults.TopoFault.{TopoFault}
-use Rattle.exb_keys.specs.declared.faults.TopoFault.TheVariants as topology
-use Rattle.exb_keys.specs.Faults.{Refusal, not_toml, large, at}
-use Rattle.exb_merge.specs.declared.replays.CaptureFault.{CaptureFault}
-use Rattle.exb_merge.specs.declared.replays.CaptureFault.TheVariants as capture
-use Rattle.exb_capture.specs.declared.fault.Fault.{Fault as Broke}
+use Rattle.exb_toml_keys.specs.declared.faults.KeyFault.{KeyFault}
+use Rattle.exb_toml_keys.specs.declared.faults.KeyFault.TheVariants as keys
+use Rattle.exb_toml_keys.specs.declared.faults.TopoFault.{TopoFault}
+use Rattle.exb_toml_keys.specs.declared.faults.TopoFault.TheVariants as topology
+use Rattle.exb_toml_keys.specs.Faults.{Refusal, not_toml, large, at}
+use Rattle.exb_timeline.specs.declared.capture_merge.CaptureFault.{CaptureFault}
+use Rattle.exb_timeline.specs.declared.capture_merge.CaptureFault.TheVariants as capture
+use Rattle.exb_capture.specs.declared.fault.FormatFault.{FormatFault as Broke}
 use Rattle.exb_capture.specs.declared.fault.Flaw.{Flaw as Wrong}
 use Rattle.exb_capture.specs.declared.fault.Flaw.TheVariants as wrong
 use Rattle.exb_shelf.specs.declared.shelf.ShelfFault.{ShelfFault}
@@ -19,13 +19,13 @@ use Rattle.exb_shelf.specs.Files.{Files}
 use Rattle.exb_shelf.specs.Shelf.{Rose}
 use Rattle.exb_topology.specs.declared.topology.Topology.{Topology}
 use Rattle.exb_topology.specs.Topologies.{topology_of, topology_view}
-use Rattle.exb_inputs.specs.declared.fault.Part.{Part}
-use Rattle.exb_inputs.specs.declared.fault.Part.TheVariants as part
-use Rattle.exb_inputs.specs.declared.fault.Flaw.{Flaw}
-use Rattle.exb_inputs.specs.declared.fault.Flaw.TheVariants.{Large, Broken}
+use Rattle.exb_inputs.specs.declared.fault.AuditInput.{AuditInput}
+use Rattle.exb_inputs.specs.declared.fault.AuditInput.TheVariants as part
+use Rattle.exb_inputs.specs.declared.fault.InputFlaw.{InputFlaw}
+use Rattle.exb_inputs.specs.declared.fault.InputFlaw.TheVariants.{Large, Broken}
 use Rattle.exb_inputs.specs.declared.fault.Fault.{Fault}
 use Rattle.exb_inputs.specs.declared.fault.Fault.TheVariants.{Usage, Missing, Topology as BadTopology, Capture, Changed, Net, Member, MemberCapture, MemberChanged, Output, TooLarge, BadLine, Illegal, Read, Write, Memory}
-use Rattle.exb_inputs.specs.Checks.{FirstFault}
+use Rattle.exb_inputs.specs.CaptureChecks.{FirstFault}
 
 -- ---- a topology
 -- the file of this name holds this topology
@@ -76,7 +76,7 @@ pub record CaptureFaulty (name : List ℕ) (file : Files) (fault : Fault) : Type
   pub first : FirstFault topology.captures file port fault
 
 -- lines are those of the journal and the trace
-abbrev pub HasLines : Part → Type 0
+abbrev pub HasLines : AuditInput → Type 0
 HasLines part.Journal = ⊤
 HasLines part.Trace = ⊤
 HasLines _ = ⊥
@@ -118,7 +118,7 @@ flaw_name wrong.Interface = codes "Interface"
 abbrev pub broken_text : Broke → List ℕ
 broken_text fault = flaw_name fault.flaw ++ codes " at " ++ decimal fault.at
 
-abbrev pub flaw_text : Flaw → List ℕ
+abbrev pub flaw_text : InputFlaw → List ℕ
 flaw_text (Large limit) = codes "Large " ++ decimal limit
 flaw_text (Broken fault) = broken_text fault
 
@@ -171,16 +171,16 @@ unfoldable pub output_line : ℕ → List ℕ → List ℕ
 output_line p text = codes "exbr: out " ++ (port_name p ++ (codes ": " ++ (text ++ codes "\n")))
 
 -- what an audit reads
-abbrev pub part_name : Part → List ℕ
+abbrev pub part_name : AuditInput → List ℕ
 part_name part.Captures = codes "captures"
 part_name part.Outputs = codes "outputs"
 part_name part.Journal = codes "journal"
 part_name part.Trace = codes "trace"
 
-abbrev pub large_line : Part → List ℕ
+abbrev pub large_line : AuditInput → List ℕ
 large_line what = codes "exbr: " ++ part_name what ++ codes " Large 536870912\n"
 
-abbrev pub bad_line : Part → ℕ → List ℕ
+abbrev pub bad_line : AuditInput → ℕ → List ℕ
 bad_line what n = codes "exbr: " ++ part_name what ++ codes " line " ++ decimal n ++ codes "\n"
 
 unfoldable pub fault_line : Fault → List ℕ

@@ -5,7 +5,7 @@ use Rattle.exb_model.specs.declared.setup.Timed.{Timed}
 use Rattle.exb_model.specs.Input.{Input, Record, given_by}
 use Rattle.exb_capture.specs.Captures.{capture_records, records_or_none}
 use Rattle.exb_shelf.specs.Files.{Files, bytes_of}
-use Rattle.exb_tables.specs.declared.rows.Named.{Named}
+use Rattle.exb_topology_tables.specs.declared.elements.Named.{Named}
 use Rattle.exb_topology.specs.declared.topology.Topology.{Topology}
 
 -- ---- captures

@@ -3,16 +3,16 @@ ghost use Rattle.std.specs.Prelude.{◌≡◌};
 ghost use Rattle.exb_inputs.specs.declared.fault.Fault.TheVariants.{Memory};
 ghost use Rattle.exb_inputs.specs.Answers.{fault_again, fault_of};
 
-use exb_keys::faults::TopoFault;
-use exb_merge::CaptureFault;
 use exb_model::memory::NoMemory;
 use exb_model::port::PortId;
 use exb_model::text::Text;
 use exb_shelf::ShelfFault;
+use exb_timeline::CaptureFault;
+use exb_toml_keys::faults::TopoFault;
 
 /// What is wrong with a capture that is there.
 #[derive(Clone, Copy)]
-pub enum Flaw {
+pub enum InputFlaw {
     /// It has more bytes than this limit.
     Large {
         /// The most bytes that it may have.
@@ -21,13 +21,13 @@ pub enum Flaw {
     /// It is no capture of Ethernet frames in either format.
     Broken {
         /// What is wrong, and where.
-        fault: exb_capture::Fault,
+        fault: exb_capture::FormatFault,
     },
 }
 
 /// What an audit reads beside the topology.
 #[derive(Clone, Copy)]
-pub enum Part {
+pub enum AuditInput {
     /// All captures together.
     Captures,
     /// All output captures together.
@@ -58,7 +58,7 @@ pub enum Fault {
         /// The port.
         port: PortId,
         /// What is wrong with it.
-        flaw: Flaw,
+        flaw: InputFlaw,
     },
     /// The capture of this port is another one than the one that was checked, as this byte shows.
     Changed {
@@ -86,7 +86,7 @@ pub enum Fault {
         /// The port.
         port: PortId,
         /// What is wrong with it.
-        flaw: Flaw,
+        flaw: InputFlaw,
     },
     /// The capture of this port of a bridge of a net is another one than the one that was checked, as this byte shows.
     MemberChanged {
@@ -102,17 +102,17 @@ pub enum Fault {
         /// The port.
         port: PortId,
         /// What is wrong with it, and where.
-        fault: exb_capture::Fault,
+        fault: exb_capture::FormatFault,
     },
     /// This has more bytes than an audit reads.
     TooLarge {
         /// What is too large.
-        what: Part,
+        what: AuditInput,
     },
     /// A line of the journal or of the trace isn't one, or has no newline, in an audit.
     BadLine {
         /// What it is a line of.
-        what: Part,
+        what: AuditInput,
         /// The first such line, from 1.
         number: u64,
     },

@@ -3,17 +3,17 @@ ghost use Rattle.std.specs.Prelude.{◌≡◌, ◌⊎◌, Some, Ok, Err, IfOk, I
 ghost use Rattle.exb_model.specs.Setup.{IsValid};
 ghost use Rattle.exb_shelf.specs.Files.{SameFiles};
 ghost use Rattle.exb_shelf.specs.Shelf.{IsReadingOf, Opens};
-ghost use Rattle.exb_topology.specs.Sound.{IsSound};
+ghost use Rattle.exb_topology.specs.Soundness.{IsSound};
 ghost use Rattle.exb_topology.specs.Topologies.{topology_of, topology_view};
 ghost use Rattle.exb_inputs.specs.Answers.{HoldsTopology, IsRefusal, IsRefused, fault_by};
-ghost use Rattle.exb_inputs.specs.Reading.{IsOfTopology};
-ghost use Rattle.exb_inputs.specs.Shelving.{CountsFaults};
+ghost use Rattle.exb_inputs.specs.FaultPhases.{IsOfTopology};
+ghost use Rattle.exb_inputs.specs.ShelfEffects.{CountsFaults};
 
-use crate::checked::missing;
+use crate::captures::missing;
 use crate::fault::Fault;
-use crate::weight::is_heavy;
-use exb_keys::faults::TopoFault;
+use crate::topology_weight::is_heavy;
 use exb_shelf::{ReadFault, Shelf, read_file};
+use exb_toml_keys::faults::TopoFault;
 use exb_topology::{Topology, read};
 use std::alloc::Global;
 
@@ -52,7 +52,7 @@ fn parse(alloc: Global, file: &[u8]) -> Result<Topology, Fault>
 }
 
 /// Reads the bytes of the topology file of this name.
-#[tactic(auto, using(crate::proofs::Refusing::large_refused))]
+#[tactic(auto, using(crate::proofs::UnreadTopology::large_refused))]
 fn read_bytes<S: Shelf>(alloc: Global, shelf: &mut S, name: &str) -> Result<Vec<u8>, Fault>
     ensures there { S.tells → IfOk result (λ file. S.file shelf.old name.now ≡ Some file.items) }
     ensures refused { S.tells → IfErr result (λ fault. IsRefused name.now (S.file shelf.old name.now) fault ⊎ (fault ≡ Fault.Read) ⊎ (fault ≡ Fault.Memory)) }

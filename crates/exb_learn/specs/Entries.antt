@@ -3,18 +3,18 @@ use Rattle.std.specs.Prelude.{ℕ, List, Option, Some, None}
 use Rattle.std.specs.Map.{lookup}
 use Rattle.exb_model.specs.Learning.{Look}
 use Rattle.exb_learn.specs.declared.key.StationKey.{StationKey}
-use Rattle.exb_learn.specs.declared.entries.Place.{Place}
+use Rattle.exb_learn.specs.declared.entries.DynamicEntry.{DynamicEntry}
 use Rattle.exb_learn.specs.Stations.{same}
 use Rattle.exb_learn.specs.Calls.{Table, look_in}
 
 -- the entries, the clock and the ageing time in seconds, and for how many more entries there is room
 pub record Entries : Type 0 where
-  pub entries : List (StationKey × Place)
+  pub entries : List (StationKey × DynamicEntry)
   pub clock : ℕ
   pub ageing : ℕ
   pub spare : ℕ
 
-abbrev pub place_of : Option Place → Option (ℕ × ℕ)
+abbrev pub place_of : Option DynamicEntry → Option (ℕ × ℕ)
 place_of None = None
 place_of (Some p) = Some (p.port, p.at)
 

@@ -4,6 +4,6 @@ pub mod Stations
 pub mod Entries
 pub mod Counts
 pub mod Histories
-pub mod Links
+pub mod RingLinks
 pub mod Keys
-pub mod Stored
+pub mod EntryRings

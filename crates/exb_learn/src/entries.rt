@@ -11,14 +11,14 @@ use indexmap::IndexMap;
 
 /// Where a station was seen last, and when.
 #[derive(Clone, Copy, PartialEq, Eq)]
-pub struct Place {
+pub struct DynamicEntry {
     pub port: PortId,
     /// The clock in seconds.
     pub at: u64,
 }
 
 /// The station was seen less than the ageing time ago.
-pub fn is_live(place: &Place, clock: u64, ageing: u32) -> bool
+pub fn is_live(place: &DynamicEntry, clock: u64, ageing: u32) -> bool
     ensures { result ≡ is_live clock ageing place.now }
 {
     clock.saturating_sub(place.at) < u64::from(ageing)
@@ -27,10 +27,10 @@ pub fn is_live(place: &Place, clock: u64, ageing: u32) -> bool
 /// Puts the place of a station, where there is room for one more. Answers the index of its entry and the place that
 /// it had.
 pub fn put_place(
-    places: &mut IndexMap<StationKey, Place>,
+    places: &mut IndexMap<StationKey, DynamicEntry>,
     station: StationKey,
-    place: &Place,
-) -> (usize, Option<Place>)
+    place: &DynamicEntry,
+) -> (usize, Option<DynamicEntry>)
     requires spare { 1 ≤ spare places.old }
     requires unique { IsUnique same places.old }
     ensures entries { places.new.entries ≡ insert_entry same places.old.entries station place.now }

@@ -5,10 +5,10 @@ ghost use Rattle.exb_learn.specs.Entries.{table_of, look_of};
 ghost use Rattle.exb_learn.specs.Calls.{See, Tick, Forget, empty_table, after_call};
 ghost use Rattle.exb_learn.specs.Counts.{HasLive};
 
-use crate::entries::Place;
-use crate::forgetting::{forget_dead, forget_port};
+use crate::ageing::{forget_dead, forget_port};
+use crate::entries::DynamicEntry;
 use crate::key::StationKey;
-use crate::store::Store;
+use crate::store::EntryStore;
 use exb_model::address::Mac;
 use exb_model::memory::NoMemory;
 use exb_model::port::PortId;
@@ -18,7 +18,7 @@ use std::marker::Model;
 
 /// Where each address was seen last in each VLAN, with a clock in seconds. It holds live entries alone.
 pub struct Learned {
-    store: Store,
+    store: EntryStore,
     clock: u64,
     ageing: u32,
 }
@@ -52,7 +52,7 @@ impl Learned {
         ensures clock { result.clock ≡ 0 }
     {
         Learned {
-            store: Store::new(alloc),
+            store: EntryStore::new(alloc),
             clock: 0,
             ageing,
         }
@@ -92,7 +92,7 @@ impl Learned {
         ensures table { table_of self.new ≡ after_call (See vid address.0 port) (table_of self.old) }
         ensures clock { self.new.clock ≡ self.old.clock }
     {
-        let place = Place {
+        let place = DynamicEntry {
             port,
             at: self.clock,
         };

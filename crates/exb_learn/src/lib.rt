@@ -3,8 +3,8 @@
 //! that over every list of calls a look-up answers just that. It stands on `exb_model` and a hash map in insertion order (`indexmap`).
 #![tactic(auto)]
 
+pub mod ageing;
 pub mod entries;
-pub mod forgetting;
 pub mod key;
 pub mod laws;
 pub mod learned;

@@ -1,6 +1,6 @@
 //! Rings of slots: doubly linked lists, each of which closes in its head.
 ghost use Rattle.std.specs.Prelude.{◌≡◌, ◌+◌, ◌<◌, ◌≤◌, length, OnOk};
-ghost use Rattle.exb_learn.specs.Links.{next_in, prev_in, in_table, put, links_of, room_of, itself, placed, replaced, taken, first_of, IsNow, IsClosed};
+ghost use Rattle.exb_learn.specs.RingLinks.{next_in, prev_in, in_table, put, links_of, room_of, itself, placed, replaced, taken, first_of, IsNow, IsClosed};
 
 use exb_model::memory::NoMemory;
 use std::alloc::Global;
@@ -8,7 +8,7 @@ use std::marker::Model;
 
 /// The node after a node and the one before it, in its ring.
 #[derive(Clone, Copy)]
-pub struct Link {
+pub struct RingLink {
     pub next: usize,
     pub prev: usize,
 }
@@ -18,11 +18,11 @@ pub struct Link {
 #[derive(Drop)]
 pub struct Rings {
     heads: usize,
-    links: Vec<Link>,
+    links: Vec<RingLink>,
 }
 
 impl Model for Rings {
-    ghost use Rattle.exb_learn.specs.Links.{RingTable, IsClosed};
+    ghost use Rattle.exb_learn.specs.RingLinks.{RingTable, IsClosed};
 
     ghost Value = { RingTable };
 
@@ -102,18 +102,18 @@ impl Rings {
 }
 
 // The links of a node; where there are none, it stands alone.
-fn link_of(links: &[Link], node: usize) -> Link
+fn link_of(links: &[RingLink], node: usize) -> RingLink
     ensures next { result.next ≡ next_in links.now node }
     ensures prev { result.prev ≡ prev_in links.now node }
 {
-    links.get(node).copied().unwrap_or(Link {
+    links.get(node).copied().unwrap_or(RingLink {
         next: node,
         prev: node,
     })
 }
 
 // Makes a table as long as this, or leaves it as long as it is. What is new stands alone.
-fn grow(links: &mut Vec<Link>, nodes: usize) -> Result<(), NoMemory>
+fn grow(links: &mut Vec<RingLink>, nodes: usize) -> Result<(), NoMemory>
     requires closed { IsClosed links.old.items }
     ensures closed { IsClosed links.new.items }
     ensures links { in_table links.new.items ≡ in_table links.old.items }
@@ -121,7 +121,7 @@ fn grow(links: &mut Vec<Link>, nodes: usize) -> Result<(), NoMemory>
     ensures len { length links.old.items ≤ length links.new.items }
 {
     for node in links.len()..nodes {
-        links.push(Link {
+        links.push(RingLink {
             next: node,
             prev: node,
         })?;
@@ -129,7 +129,7 @@ fn grow(links: &mut Vec<Link>, nodes: usize) -> Result<(), NoMemory>
     Ok(())
 }
 
-fn set_next(links: &mut [Link], node: usize, to: usize)
+fn set_next(links: &mut [RingLink], node: usize, to: usize)
     requires { node < length links.old }
     ensures links { in_table links.new ≡ record { next = put (next_in links.old) node to; prev = prev_in links.old } }
     ensures len { length links.new ≡ length links.old }
@@ -137,7 +137,7 @@ fn set_next(links: &mut [Link], node: usize, to: usize)
     links[node].next = to;
 }
 
-fn set_prev(links: &mut [Link], node: usize, to: usize)
+fn set_prev(links: &mut [RingLink], node: usize, to: usize)
     requires { node < length links.old }
     ensures links { in_table links.new ≡ record { next = next_in links.old; prev = put (prev_in links.old) node to } }
     ensures len { length links.new ≡ length links.old }
@@ -146,20 +146,20 @@ fn set_prev(links: &mut [Link], node: usize, to: usize)
 }
 
 // Takes a node out of its ring.
-fn take(links: &mut [Link], node: usize)
+fn take(links: &mut [RingLink], node: usize)
     requires closed { IsClosed links.old }
     requires node { node < length links.old }
     ensures closed { IsClosed links.new }
     ensures links { in_table links.new ≡ taken (in_table links.old) node }
     ensures len { length links.new ≡ length links.old }
 {
-    let Link { next, prev } = links[node];
+    let RingLink { next, prev } = links[node];
     set_next(links, prev, next);
     set_prev(links, next, prev);
 }
 
 // Puts a node that stands in no ring before another.
-fn place(links: &mut [Link], behind: usize, node: usize)
+fn place(links: &mut [RingLink], behind: usize, node: usize)
     requires closed { IsClosed links.old }
     requires behind { behind < length links.old }
     requires node { node < length links.old }
@@ -175,7 +175,7 @@ fn place(links: &mut [Link], behind: usize, node: usize)
 }
 
 // Takes a node out of its ring, and puts it before another.
-fn relocate(links: &mut [Link], behind: usize, node: usize)
+fn relocate(links: &mut [RingLink], behind: usize, node: usize)
     requires closed { IsClosed links.old }
     requires behind { behind < length links.old }
     requires node { node < length links.old }
@@ -188,7 +188,7 @@ fn relocate(links: &mut [Link], behind: usize, node: usize)
 }
 
 // Takes a node out of its ring, and puts it where another stands, which is taken out.
-fn replace(links: &mut [Link], node: usize, other: usize)
+fn replace(links: &mut [RingLink], node: usize, other: usize)
     requires closed { IsClosed links.old }
     requires node { node < length links.old }
     requires other { other < length links.old }

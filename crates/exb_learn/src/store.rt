@@ -3,9 +3,9 @@ ghost use Rattle.std.specs.Prelude.{◌≡◌, ◌≤◌, ◌<◌, [], length, s
 ghost use Rattle.std.specs.List.{IsDistinct};
 ghost use Rattle.std.specs.Map.{keys_of, lookup};
 ghost use Rattle.exb_learn.specs.Stations.{same, is_elsewhere, AllPass, Changes, IsTaken, IsUntil};
-ghost use Rattle.exb_learn.specs.Stored.{IsOldest, IsSeenAt};
+ghost use Rattle.exb_learn.specs.EntryRings.{IsOldest, IsSeenAt};
 
-use crate::entries::{Place, put_place};
+use crate::entries::{DynamicEntry, put_place};
 use crate::key::StationKey;
 use crate::slots::Slots;
 use exb_model::memory::NoMemory;
@@ -16,16 +16,16 @@ use std::marker::Model;
 
 /// Where each station was seen last. The slot of a station is the index of its entry.
 #[derive(Drop)]
-pub struct Store {
-    places: IndexMap<StationKey, Place>,
+pub struct EntryStore {
+    places: IndexMap<StationKey, DynamicEntry>,
     slots: Slots,
     // how many more entries there is room for, by the last `reserve`
     room: usize,
 }
 
-impl Model for Store {
+impl Model for EntryStore {
     ghost use Rattle.indexmap.specs.IndexMap.{spare};
-    ghost use Rattle.exb_learn.specs.Stored.{Stored, IsStored};
+    ghost use Rattle.exb_learn.specs.EntryRings.{Stored, IsStored};
 
     ghost Value = { Stored };
 
@@ -34,13 +34,13 @@ impl Model for Store {
     ghost invariant = { λ s. IsStored s.places.entries s.room (spare s.places) s.slots.ages s.slots.ports };
 }
 
-impl Store {
+impl EntryStore {
     /// No entry, and room for none.
-    pub fn new(alloc: Global) -> Store
+    pub fn new(alloc: Global) -> EntryStore
         ensures entries { result.entries ≡ [] }
         ensures room { result.room ≡ 0 }
     {
-        Store {
+        EntryStore {
             places: IndexMap::new(alloc),
             slots: Slots::new(alloc),
             room: 0,
@@ -93,7 +93,7 @@ impl Store {
 
     /// Where a station was seen last.
     #[inline(always)]
-    pub fn place(&self, station: &StationKey) -> Option<Place>
+    pub fn place(&self, station: &StationKey) -> Option<DynamicEntry>
         ensures { result ≡ lookup (same station.now) self.now.entries }
     {
         self.places.get(station).copied()
@@ -102,7 +102,7 @@ impl Store {
     /// Puts the place of a station, which was seen no earlier than all others. Nothing is written where it has that
     /// place already.
     #[inline(always)]
-    pub fn put(&mut self, station: StationKey, place: Place)
+    pub fn put(&mut self, station: StationKey, place: DynamicEntry)
         requires room { 1 ≤ self.old.room }
         requires latest { IsUntil place.at self.old.entries }
         ensures updates { Changes self.old.entries self.new.entries station (Some place) }
@@ -116,7 +116,7 @@ impl Store {
     /// Puts the place of a station that had none, or another one.
     #[cold]
     #[inline(never)]
-    fn put_anew(&mut self, station: StationKey, place: Place)
+    fn put_anew(&mut self, station: StationKey, place: DynamicEntry)
         requires room { 1 ≤ self.old.room }
         requires latest { IsUntil place.at self.old.entries }
         ensures updates { Changes self.old.entries self.new.entries station (Some place) }
@@ -128,7 +128,7 @@ impl Store {
     }
 
     /// The place that the entry with a slot has.
-    pub fn place_at(&self, slot: usize) -> Option<Place>
+    pub fn place_at(&self, slot: usize) -> Option<DynamicEntry>
         ensures { result ≡ option_map (λ e. e.1) (slice_get self.now.entries slot) }
     {
         let (_, place) = self.places.get_index(slot)?;

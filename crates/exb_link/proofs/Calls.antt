@@ -6,27 +6,27 @@ use Rattle.std.proofs.lemmas.List.{take_all, drop_all, length-map, append-nil}
 use Rattle.std.proofs.lemmas.List.Elements.{All-take, All-drop, All-append}
 use Rattle.std.proofs.lemmas.List.Edits.{length-remove}
 use Rattle.std.proofs.lemmas.Option.{slice_get_within, none-some}
-use Rattle.exb_link.specs.declared.word.Word.{Word}
-use Rattle.exb_link.specs.declared.link.Sent.{Sent}
-use Rattle.exb_link.specs.Words.{is_control, is_data, leading, without_data, without_control}
+use Rattle.exb_link.specs.declared.link_frame.LinkFrame.{LinkFrame}
+use Rattle.exb_link.specs.declared.link.QueuedFrame.{QueuedFrame}
+use Rattle.exb_link.specs.LinkFrames.{is_control, is_data, leading, without_data, without_control}
 use Rattle.exb_link.specs.Queues.{woven, all_behind, IsWoven, more_ahead, more_behind, less_behind}
-use Rattle.exb_link.proofs.Weaving.{AllControl, AllData, IsControl, IsFrame, tail_of, both_of, without_data-none, control-woven, data-woven, leading-woven, woven-frame, all_behind-frame, woven-control, counted-more, data-more, woven-without_data, woven-less, woven-behind, all_behind-less, data-less}
+use Rattle.exb_link.proofs.Interleaving.{AllControl, AllData, IsControl, IsFrame, tail_of, both_of, without_data-none, control-woven, data-woven, leading-woven, woven-frame, all_behind-frame, woven-control, counted-more, data-more, woven-without_data, woven-less, woven-behind, all_behind-less, data-less}
 
 -- ---- no word
 no_length : {X : Type 0} (xs : List X) → length xs ≡ 0 → xs ≡ []
 no_length [] e = refl
 no_length (x ∷ xs) e = absurd (omega arith)
 
-pub new_kept : (frames : List Sent) (control : List Word) → frames ≡ [] → control ≡ [] → IsWoven 0 frames control
+pub new_kept : (frames : List QueuedFrame) (control : List LinkFrame) → frames ≡ [] → control ≡ [] → IsWoven 0 frames control
 unfolding all_behind
 new_kept frames control f c =
     rw (f, c) (record { frames_only = λ k d h. absurd (omega arith); control_only = λ k d h. absurd (omega arith); counted = refl })
 
-pub new_woven : (ahead : ℕ) (frames : List Sent) (control : List Word) → frames ≡ [] → control ≡ [] → woven ahead frames control ≡ []
+pub new_woven : (ahead : ℕ) (frames : List QueuedFrame) (control : List LinkFrame) → frames ≡ [] → control ≡ [] → woven ahead frames control ≡ []
 unfolding woven
 new_woven ahead frames control f c = rw (f, c) refl
 
-past : (ws : List Word) (k : ℕ) → length (filter is_control ws) ≤ k → without_control ws k ≡ ws
+past : (ws : List LinkFrame) (k : ℕ) → length (filter is_control ws) ≤ k → without_control ws k ≡ ws
 past [] k h = refl
 past (w ∷ ws) k h = by_test (λ j l. past ws j l) (is_control w) refl
   where
@@ -45,39 +45,39 @@ slice_get-none (x ∷ xs) zero e = absurd (none-some x (sym e))
 slice_get-none (x ∷ xs) (suc k) e = let h = slice_get-none xs k e in omega (arith, h)
 
 -- ---- the link as its two queues
-module _ (ahead : ℕ) (frames : List Sent) (control : List Word) (ws : List Word) (kept : IsWoven ahead frames control) (is : woven ahead frames control ≡ ws) where
+module _ (ahead : ℕ) (frames : List QueuedFrame) (control : List LinkFrame) (ws : List LinkFrame) (kept : IsWoven ahead frames control) (is : woven ahead frames control ≡ ws) where
   pub control_of : filter is_control ws ≡ control
   control_of = ap (filter is_control) (sym is) ∙ control-woven ahead frames control kept.frames_only kept.control_only
 
-  pub data_of : filter is_data ws ≡ map (λ (s : Sent). s.word) frames
+  pub data_of : filter is_data ws ≡ map (λ (s : QueuedFrame). s.word) frames
   data_of = ap (filter is_data) (sym is) ∙ data-woven ahead frames control kept.frames_only kept.control_only
 
   pub leading_of : leading ws ≡ ahead
   leading_of = ap leading (sym is) ∙ leading-woven ahead frames control kept.frames_only kept.control_only kept.counted
 
 -- ---- what a call makes of the link
-module _ (ahead : ℕ) (frames : List Sent) (control : List Word) (ws : List Word) (kept : IsWoven ahead frames control) (is : woven ahead frames control ≡ ws) where
+module _ (ahead : ℕ) (frames : List QueuedFrame) (control : List LinkFrame) (ws : List LinkFrame) (kept : IsWoven ahead frames control) (is : woven ahead frames control ≡ ws) where
   pub past_of : (k : ℕ) → length control ≤ k → without_control ws k ≡ ws
   past_of k h = past ws k (rw (control_of ahead frames control ws kept is) h)
 
-  pub without_frame_none : length frames ≡ 0 → (fs : List Sent) → frames ≡ fs → woven ahead fs control ≡ without_data ws
+  pub without_frame_none : length frames ≡ 0 → (fs : List QueuedFrame) → frames ≡ fs → woven ahead fs control ≡ without_data ws
   unfolding woven
   without_frame_none e fs same =
       let n = no_length frames e in
-      let w : ws ≡ control = sym is ∙ ap (λ (xs : List Sent). woven ahead xs control) n in
-      ap (λ (xs : List Sent). woven ahead xs control) (sym same) ∙ is ∙ w ∙ sym (ap without_data w ∙ without_data-none control kept.control_only)
+      let w : ws ≡ control = sym is ∙ ap (λ (xs : List QueuedFrame). woven ahead xs control) n in
+      ap (λ (xs : List QueuedFrame). woven ahead xs control) (sym same) ∙ is ∙ w ∙ sym (ap without_data w ∙ without_data-none control kept.control_only)
 
-  pub data_first : (s : Sent) (rest : List Sent) → frames ≡ s ∷ rest → Some s.word ≡ slice_get (filter is_data ws) 0
-  data_first s rest e = sym (ap (λ xs. slice_get xs 0) (data_of ahead frames control ws kept is ∙ ap (map (λ (x : Sent). x.word)) e))
+  pub data_first : (s : QueuedFrame) (rest : List QueuedFrame) → frames ≡ s ∷ rest → Some s.word ≡ slice_get (filter is_data ws) 0
+  data_first s rest e = sym (ap (λ xs. slice_get xs 0) (data_of ahead frames control ws kept is ∙ ap (map (λ (x : QueuedFrame). x.word)) e))
 
   pub data_none : length frames ≡ 0 → None ≡ slice_get (filter is_data ws) 0
-  data_none e = sym (ap (λ xs. slice_get xs 0) (data_of ahead frames control ws kept is ∙ ap (map (λ (x : Sent). x.word)) (no_length frames e)))
+  data_none e = sym (ap (λ xs. slice_get xs 0) (data_of ahead frames control ws kept is ∙ ap (map (λ (x : QueuedFrame). x.word)) (no_length frames e)))
 
-  pub frame_pushed : (w : Word) → is_control w ≡ false → (fs : List Sent) → fs ≡ frames ++ record { word = w; behind = 0 } ∷ [] →
+  pub frame_pushed : (w : LinkFrame) → is_control w ≡ false → (fs : List QueuedFrame) → fs ≡ frames ++ record { word = w; behind = 0 } ∷ [] →
       IsWoven ahead fs control × (woven ahead fs control ≡ ws ++ w ∷ [])
   frame_pushed w not_control fs e = rw e (kept', woven-frame ahead frames control w kept.counted ∙ ap (λ xs. xs ++ w ∷ []) is)
     where
-      new : Sent
+      new : QueuedFrame
       new = record { word = w; behind = 0 }
 
       kept' : IsWoven ahead (frames ++ record { word = w; behind = 0 } ∷ []) control
@@ -87,7 +87,7 @@ module _ (ahead : ℕ) (frames : List Sent) (control : List Word) (ws : List Wor
         counted = rw (all_behind-frame frames w) kept.counted;
       }
 
-  pub control_pushed : (w : Word) → is_control w ≡ true → (a : ℕ) (fs : List Sent) (ct : List Word) →
+  pub control_pushed : (w : LinkFrame) → is_control w ≡ true → (a : ℕ) (fs : List QueuedFrame) (ct : List LinkFrame) →
       a ≡ more_ahead ahead frames → fs ≡ more_behind frames → ct ≡ control ++ w ∷ [] → IsWoven a fs ct × (woven a fs ct ≡ ws ++ w ∷ [])
   control_pushed w is_one a fs ct e1 e2 e3 = rw (e1, e2, e3) (kept', woven-control ahead frames control w kept.counted ∙ ap (λ xs. xs ++ w ∷ []) is)
     where
@@ -102,7 +102,7 @@ module _ (ahead : ℕ) (frames : List Sent) (control : List Word) (ws : List Wor
   removed_only k = All-append IsControl (take k control) (drop (suc k) control) (All-take IsControl k control kept.control_only) (All-drop IsControl (suc k) control kept.control_only)
 
   -- one that stands ahead of the first data word goes
-  pub ahead_taken : (k : ℕ) (w : Word) → k < ahead → Some w ≡ slice_get control k → (ct : List Word) → ct ≡ remove control k →
+  pub ahead_taken : (k : ℕ) (w : LinkFrame) → k < ahead → Some w ≡ slice_get control k → (ct : List LinkFrame) → ct ≡ remove control k →
       IsWoven (ahead - 1) frames ct × (woven (ahead - 1) frames ct ≡ without_control ws k)
   ahead_taken k w low at ct e =
       let within : k < length control = slice_get_within control k w (sym at) in
@@ -118,7 +118,7 @@ module _ (ahead : ℕ) (frames : List Sent) (control : List Word) (ws : List Wor
       )
 
   -- one that stands behind a data word goes
-  pub behind_taken : (k : ℕ) (w : Word) → ahead ≤ k → Some w ≡ slice_get control k → (fs : List Sent) (ct : List Word) →
+  pub behind_taken : (k : ℕ) (w : LinkFrame) → ahead ≤ k → Some w ≡ slice_get control k → (fs : List QueuedFrame) (ct : List LinkFrame) →
       fs ≡ less_behind (k - ahead) frames → ct ≡ remove control k → IsWoven ahead fs ct × (woven ahead fs ct ≡ without_control ws k)
   behind_taken k w high at fs ct e1 e2 =
       let within : k < length control = slice_get_within control k w (sym at) in
@@ -136,25 +136,25 @@ module _ (ahead : ℕ) (frames : List Sent) (control : List Word) (ws : List Wor
       )
 
   -- there is none to go
-  pub none_taken : (k : ℕ) → None ≡ slice_get control k → (ct : List Word) → ct ≡ remove control k → woven ahead frames ct ≡ without_control ws k
+  pub none_taken : (k : ℕ) → None ≡ slice_get control k → (ct : List LinkFrame) → ct ≡ remove control k → woven ahead frames ct ≡ without_control ws k
   none_taken k at ct e =
       let past_end : length control ≤ k = slice_get-none control k (sym at) in
       let same : ct ≡ control = e ∙ rw (take_all k control past_end, drop_all (suc k) control (omega arith)) (append-nil control) in
       rw same (is ∙ sym (past_of k past_end))
 
   -- ---- the first data word goes
-  pub rest_fits : (s : Sent) (rest : List Sent) → frames ≡ s ∷ rest → ahead + s.behind ≤ length control
+  pub rest_fits : (s : QueuedFrame) (rest : List QueuedFrame) → frames ≡ s ∷ rest → ahead + s.behind ≤ length control
   unfolding all_behind
   rest_fits s rest e =
       let n : ahead + (s.behind + all_behind rest) ≡ length control = sym (ap (λ fs. ahead + all_behind fs) e) ∙ kept.counted in
       omega (arith, n)
 
-  pub frame_taken : (s : Sent) (rest : List Sent) → frames ≡ s ∷ rest → IsWoven (ahead + s.behind) rest control × (woven (ahead + s.behind) rest control ≡ without_data ws)
+  pub frame_taken : (s : QueuedFrame) (rest : List QueuedFrame) → frames ≡ s ∷ rest → IsWoven (ahead + s.behind) rest control × (woven (ahead + s.behind) rest control ≡ without_data ws)
   unfolding all_behind
   frame_taken s rest e =
       let n : ahead + (s.behind + all_behind rest) ≡ length control = sym (ap (λ fs. ahead + all_behind fs) e) ∙ kept.counted in
       let only : AllData (s ∷ rest) = subst AllData e kept.frames_only in
-      let was : woven ahead (s ∷ rest) control ≡ ws = ap (λ (fs : List Sent). woven ahead fs control) (sym e) ∙ is in (
+      let was : woven ahead (s ∷ rest) control ≡ ws = ap (λ (fs : List QueuedFrame). woven ahead fs control) (sym e) ∙ is in (
         record {
           frames_only = tail_of IsFrame s rest only;
           control_only = kept.control_only;
@@ -164,15 +164,15 @@ module _ (ahead : ℕ) (frames : List Sent) (control : List Word) (ws : List Wor
       )
 
 -- whether there is a word
-pub empty_with : (frames : List Sent) (control : List Word) (ws : List Word) (a : ℕ) → length frames ≡ 0 → IsWoven a frames control → woven a frames control ≡ ws →
+pub empty_with : (frames : List QueuedFrame) (control : List LinkFrame) (ws : List LinkFrame) (a : ℕ) → length frames ≡ 0 → IsWoven a frames control → woven a frames control ≡ ws →
     (n : ℕ) → n ≡ length control → ((n == 0) ≡ true → ws ≡ []) × (ws ≡ [] → (n == 0) ≡ true)
 empty_with frames control ws a none kept is n long = (
   λ z. sym is ∙ new_woven a frames control (no_length frames none) (no_length control (sym long ∙ eqb-true n 0 z)),
   λ e. eq-eqb n 0 (long ∙ sym (ap length (control_of a frames control ws kept is)) ∙ ap (λ xs. length (filter is_control xs)) e),
 )
 
-pub not_empty : (frames : List Sent) (control : List Word) (ws : List Word) (a : ℕ) → IsWoven a frames control → woven a frames control ≡ ws →
+pub not_empty : (frames : List QueuedFrame) (control : List LinkFrame) (ws : List LinkFrame) (a : ℕ) → IsWoven a frames control → woven a frames control ≡ ws →
     (n : ℕ) → n ≡ length frames → (n == 0) ≡ false → ws ≡ [] → ⊥
 not_empty frames control ws a kept is n long some e =
-    let h : n ≡ 0 = long ∙ sym (length-map frames (λ (s : Sent). s.word)) ∙ sym (ap length (data_of a frames control ws kept is)) ∙ ap (λ xs. length (filter is_data xs)) e in
+    let h : n ≡ 0 = long ∙ sym (length-map frames (λ (s : QueuedFrame). s.word)) ∙ sym (ap length (data_of a frames control ws kept is)) ∙ ap (λ xs. length (filter is_data xs)) e in
     cc (eq-eqb n 0 h)

@@ -1,3 +1,3 @@
-pub mod Words
+pub mod LinkFrames
 pub mod Queues
 pub mod Links

@@ -2,10 +2,10 @@
 ghost use Rattle.std.specs.Prelude.{◌≡◌, ℕ, ◌+◌, ◌<◌, ◌^◌, ◌↔◌, ◌++◌, ◌∷◌, [], length, IsTrue, OnOk, OnErr, IfErr, slice_get, filter, map};
 ghost use Rattle.std.specs.List.{remove};
 ghost use Rattle.std.specs.Option.{option_copied};
-ghost use Rattle.exb_link.specs.Words.{is_control, is_data, leading, without_data, without_control};
+ghost use Rattle.exb_link.specs.LinkFrames.{is_control, is_data, leading, without_data, without_control};
 ghost use Rattle.exb_link.specs.Queues.{all_behind, more_ahead, more_behind, less_behind, place_from};
 
-use crate::word::BoxedWord;
+use crate::link_frame::BoxedFrame;
 use std::alloc::Global;
 use std::collections::VecDeque;
 use std::marker::Model;
@@ -13,7 +13,7 @@ use std::marker::Model;
 /// A word that found no memory on its link, handed back.
 #[derive(Drop)]
 pub struct PushBack {
-    pub word: BoxedWord,
+    pub word: BoxedFrame,
 }
 
 /// How many data words and control words a link has.
@@ -25,16 +25,16 @@ pub struct Counts {
 
 /// A data word, and how many control words were sent after it and before the next data word.
 #[derive(Drop)]
-pub struct Sent {
-    word: BoxedWord,
+pub struct QueuedFrame {
+    word: BoxedFrame,
     behind: u64,
 }
 
 /// One direction of a link, seen as the list of its words in order of sending. Positions count its control
 /// words in that order, from 0.
 pub struct Link {
-    frames: VecDeque<Sent>,
-    control: VecDeque<BoxedWord>,
+    frames: VecDeque<QueuedFrame>,
+    control: VecDeque<BoxedFrame>,
     /// How many control words stand before the first data word.
     ahead: u64,
 }
@@ -51,10 +51,10 @@ impl Drop for Link {
 
 impl Model for Link {
     ghost use Rattle.std.specs.Prelude.{List};
-    ghost use Rattle.exb_link.specs.declared.word.Word.{Word};
+    ghost use Rattle.exb_link.specs.declared.link_frame.LinkFrame.{LinkFrame};
     ghost use Rattle.exb_link.specs.Queues.{woven, IsWoven};
 
-    ghost Value = { List Word };
+    ghost Value = { List LinkFrame };
 
     ghost view = { λ l. woven l.ahead l.frames.items l.control.items };
 
@@ -62,14 +62,14 @@ impl Model for Link {
 }
 
 #[inline(always)]
-fn push_frame(frames: &mut VecDeque<Sent>, word: BoxedWord) -> Result<(), PushBack>
+fn push_frame(frames: &mut VecDeque<QueuedFrame>, word: BoxedFrame) -> Result<(), PushBack>
     ensures ok { OnOk result (frames.new.items ≡ frames.old.items ++ record { word = word; behind = 0 } ∷ []) }
     ensures err { OnErr result (frames.new.items ≡ frames.old.items) }
     ensures back { IfErr result (λ e. e.word ≡ word) }
 {
     match frames.reserve(1) {
         Ok(()) => {
-            frames.push_back_reserved(Sent { word, behind: 0 });
+            frames.push_back_reserved(QueuedFrame { word, behind: 0 });
             Ok(())
         }
         Err(_) => Err(PushBack { word }),
@@ -77,7 +77,7 @@ fn push_frame(frames: &mut VecDeque<Sent>, word: BoxedWord) -> Result<(), PushBa
 }
 
 #[inline(always)]
-fn push_control(control: &mut VecDeque<BoxedWord>, word: BoxedWord) -> Result<(), PushBack>
+fn push_control(control: &mut VecDeque<BoxedFrame>, word: BoxedFrame) -> Result<(), PushBack>
     ensures ok { OnOk result (control.new.items ≡ control.old.items ++ word ∷ []) }
     ensures room { OnOk result (length control.old.items + 1 < 2 ^ 64) }
     ensures err { OnErr result (control.new.items ≡ control.old.items) }
@@ -94,7 +94,7 @@ fn push_control(control: &mut VecDeque<BoxedWord>, word: BoxedWord) -> Result<()
 
 // Takes out the word at a place among those of a queue.
 #[inline(always)]
-fn remove_at(words: &mut VecDeque<BoxedWord>, place: usize) -> Option<BoxedWord>
+fn remove_at(words: &mut VecDeque<BoxedFrame>, place: usize) -> Option<BoxedFrame>
     ensures word { result ≡ slice_get words.old.items place }
     ensures rest { words.new.items ≡ remove words.old.items place }
 {
@@ -105,13 +105,13 @@ fn remove_at(words: &mut VecDeque<BoxedWord>, place: usize) -> Option<BoxedWord>
     words.remove(place)
 }
 
-fn word_at(words: &VecDeque<BoxedWord>, place: usize) -> Option<&BoxedWord>
+fn word_at(words: &VecDeque<BoxedFrame>, place: usize) -> Option<&BoxedFrame>
     ensures { option_copied result ≡ slice_get words.now.items place }
 {
     words.get(place)
 }
 
-fn first_of(frames: &VecDeque<Sent>) -> Option<&BoxedWord>
+fn first_of(frames: &VecDeque<QueuedFrame>) -> Option<&BoxedFrame>
     ensures { option_copied result ≡ slice_get (map (λ s. s.word) frames.now.items) 0 }
 {
     match frames.front() {
@@ -124,7 +124,7 @@ fn first_of(frames: &VecDeque<Sent>) -> Option<&BoxedWord>
 // where there is none, one more stands ahead.
 #[cold]
 #[inline(never)]
-fn one_more_behind(ahead: u64, frames: &mut VecDeque<Sent>) -> u64
+fn one_more_behind(ahead: u64, frames: &mut VecDeque<QueuedFrame>) -> u64
     requires { ahead + all_behind frames.old.items + 1 < 2 ^ 64 }
     ensures ahead { result ≡ more_ahead ahead frames.old.items }
     ensures frames { frames.new.items ≡ more_behind frames.old.items }
@@ -140,7 +140,7 @@ fn one_more_behind(ahead: u64, frames: &mut VecDeque<Sent>) -> u64
 
 // The place of the data word behind which the control word stands that is number `at` of those behind
 // data words.
-fn place_behind(at: u64, frames: &VecDeque<Sent>) -> Option<usize>
+fn place_behind(at: u64, frames: &VecDeque<QueuedFrame>) -> Option<usize>
     ensures { result ≡ place_from at frames.now.items 0 }
 {
     let mut rest = at;
@@ -156,7 +156,7 @@ fn place_behind(at: u64, frames: &VecDeque<Sent>) -> Option<usize>
 }
 
 // Counts out the control word that is number `at` of those behind data words.
-fn one_less_behind(at: u64, frames: &mut VecDeque<Sent>)
+fn one_less_behind(at: u64, frames: &mut VecDeque<QueuedFrame>)
     ensures { frames.new.items ≡ less_behind at frames.old.items }
 {
     if let Some(place) = place_behind(at, frames) {
@@ -178,7 +178,7 @@ impl Link {
 
     /// Puts a word behind all others. The word comes back where there is no memory for it.
     #[inline(always)]
-    pub fn push(&mut self, word: BoxedWord) -> Result<(), PushBack>
+    pub fn push(&mut self, word: BoxedFrame) -> Result<(), PushBack>
         ensures ok { OnOk result (self.new ≡ self.old ++ word ∷ []) }
         ensures err { OnErr result (self.new ≡ self.old) }
         ensures back { IfErr result (λ e. e.word ≡ word) }
@@ -193,14 +193,14 @@ impl Link {
     }
 
     /// The first data word; None exactly where there is none.
-    pub fn first_data(&self) -> Option<&BoxedWord>
+    pub fn first_data(&self) -> Option<&BoxedFrame>
         ensures { option_copied result ≡ slice_get (filter is_data self.now) 0 }
     {
         first_of(&self.frames)
     }
 
     /// The control word at a position; None exactly where there is none.
-    pub fn control_at(&self, at: u64) -> Option<&BoxedWord>
+    pub fn control_at(&self, at: u64) -> Option<&BoxedFrame>
         ensures { option_copied result ≡ slice_get (filter is_control self.now) at }
     {
         word_at(&self.control, at as usize)
@@ -215,12 +215,12 @@ impl Link {
 
     /// Takes out the first data word; None exactly where there is none. Every other word stays.
     #[inline(always)]
-    pub fn take_data(&mut self) -> Option<BoxedWord>
+    pub fn take_data(&mut self) -> Option<BoxedFrame>
         ensures word { result ≡ slice_get (filter is_data self.old) 0 }
         ensures rest { self.new ≡ without_data self.old }
     {
         match self.frames.pop_front() {
-            Some(Sent { word, behind }) => {
+            Some(QueuedFrame { word, behind }) => {
                 self.ahead += behind;
                 Some(word)
             }
@@ -230,7 +230,7 @@ impl Link {
 
     /// Takes out the control word at a position; None exactly where there is none. Every other word stays.
     #[inline(always)]
-    pub fn take_control(&mut self, at: u64) -> Option<BoxedWord>
+    pub fn take_control(&mut self, at: u64) -> Option<BoxedFrame>
         ensures word { result ≡ slice_get (filter is_control self.old) at }
         ensures rest { self.new ≡ without_control self.old at }
     {

@@ -1,13 +1,13 @@
 //! The links of a network: two directions for each extender.
 ghost use Rattle.std.specs.Prelude.{◌≡◌, ◌↔◌, ℕ, ◌≤◌, ◌++◌, ◌∷◌, [], false, IfNone, IfOk, IfSome, OnOk, filter, slice_get};
 ghost use Rattle.std.specs.Option.{option_copied};
-ghost use Rattle.exb_link.specs.Words.{is_control, is_data, without_data, without_control};
+ghost use Rattle.exb_link.specs.LinkFrames.{is_control, is_data, without_data, without_control};
 ghost use Rattle.exb_model.specs.Tables.{at};
 ghost use Rattle.exb_link.specs.Links.{words_of, IsNextBusy};
 ghost use Rattle.exb_model.specs.DeviceSets.{number_in, IsNumber};
 
 use crate::link::Link;
-use crate::word::BoxedWord;
+use crate::link_frame::BoxedFrame;
 use exb_model::device_set::{first_in, has, meet, with_bit};
 use exb_model::memory::NoMemory;
 use exb_model::port::DEVICES;
@@ -15,45 +15,45 @@ use std::alloc::Global;
 use std::marker::Model;
 
 /// One direction of all links, by the number of the extender below.
-pub struct Direction {
+pub struct Links {
     links: Vec<Link>,
     /// The extenders on whose links a word is.
     busy: u64,
 }
 
-impl Drop for Direction {
+impl Drop for Links {
     fn drop(self) {
-        let Direction { links: _, busy: _ } = self;
+        let Links { links: _, busy: _ } = self;
     }
 }
 
-impl Model for Direction {
+impl Model for Links {
     ghost use Rattle.std.specs.Prelude.{List};
-    ghost use Rattle.exb_link.specs.declared.word.Word.{Word};
+    ghost use Rattle.exb_link.specs.declared.link_frame.LinkFrame.{LinkFrame};
     ghost use Rattle.exb_link.specs.Links.{IsNoted};
 
-    ghost Value = { List (List Word) };
+    ghost Value = { List (List LinkFrame) };
 
     ghost view = { λ d. d.links.items };
 
     ghost invariant = { λ d. IsNoted d.links.items d.busy };
 }
 
-impl Direction {
+impl Links {
     /// Nothing is on any link.
-    pub fn new(alloc: Global) -> Result<Direction, NoMemory>
+    pub fn new(alloc: Global) -> Result<Links, NoMemory>
         ensures { IfOk result (λ made. words_of made ≡ λ n. []) }
     {
         let mut links = Vec::new(alloc);
         for _ in 0..DEVICES {
             links.push(Link::new(alloc))?;
         }
-        Ok(Direction { links, busy: 0 })
+        Ok(Links { links, busy: 0 })
     }
 
     /// Puts a word behind all others on the link of an extender.
     #[inline(always)]
-    pub fn push(&mut self, extender: u8, word: BoxedWord) -> Result<(), NoMemory>
+    pub fn push(&mut self, extender: u8, word: BoxedFrame) -> Result<(), NoMemory>
         requires { IsNumber extender }
         ensures { OnOk result (words_of self.new ≡ at extender (words_of self.old extender ++ word ∷ []) (words_of self.old)) }
     {
@@ -69,7 +69,7 @@ impl Direction {
 
     /// Takes the first data word out.
     #[inline(always)]
-    pub fn take_data(&mut self, extender: u8) -> Option<BoxedWord>
+    pub fn take_data(&mut self, extender: u8) -> Option<BoxedFrame>
         requires { IsNumber extender }
         ensures word { result ≡ slice_get (filter is_data (words_of self.old extender)) 0 }
         ensures rest { words_of self.new ≡ at extender (without_data (words_of self.old extender)) (words_of self.old) }
@@ -83,7 +83,7 @@ impl Direction {
 
     /// Takes the control word at a position out.
     #[inline(always)]
-    pub fn take_control(&mut self, extender: u8, place: u64) -> Option<BoxedWord>
+    pub fn take_control(&mut self, extender: u8, place: u64) -> Option<BoxedFrame>
         requires { IsNumber extender }
         ensures word { result ≡ slice_get (filter is_control (words_of self.old extender)) place }
         ensures rest { words_of self.new ≡ at extender (without_control (words_of self.old extender) place) (words_of self.old) }
@@ -96,7 +96,7 @@ impl Direction {
     }
 
     /// The control word at a position.
-    pub fn control_at(&self, extender: u8, place: u64) -> Option<&BoxedWord>
+    pub fn control_at(&self, extender: u8, place: u64) -> Option<&BoxedFrame>
         requires { IsNumber extender }
         ensures { option_copied result ≡ slice_get (filter is_control (words_of self.now extender)) place }
     {

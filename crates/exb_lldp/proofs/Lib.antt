@@ -1,3 +1,3 @@
-pub mod Steps
-pub mod Spelled
-pub mod Longer
+pub mod TlvSteps
+pub mod RoundTrip
+pub mod TrailingBytes

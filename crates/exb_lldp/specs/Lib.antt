@@ -1,4 +1,4 @@
 pub mod Tlvs
-pub mod Spelling
-pub mod Announcing
-pub mod Readers
+pub mod Encoding
+pub mod Announcements
+pub mod ParsedValues

@@ -2,8 +2,8 @@
 use Rattle.std.specs.Prelude.{ℕ, zero, suc, ◌+◌, ◌/◌, ◌%◌, ◌==◌, ◌&&◌, Bool, List, [], ◌∷◌, length, Option, Some, None, nat_le, not, slice_index, take, drop, if◌then◌else◌}
 use Rattle.std.specs.Option.{option_or}
 use Rattle.exb_model.specs.Frames.{number_at}
-use Rattle.exb_lldp.specs.declared.tlv.Place.{Place}
-use Rattle.exb_lldp.specs.declared.tlv.Place.TheVariants.{ChassisId, PortId, TimeToLive, Later}
+use Rattle.exb_lldp.specs.declared.tlv.TlvPosition.{TlvPosition}
+use Rattle.exb_lldp.specs.declared.tlv.TlvPosition.TheVariants.{ChassisId, PortId, TimeToLive, Later}
 
 -- a TLV, and the offset of its header
 pub record Tlv : Type 0 where
@@ -42,20 +42,20 @@ unfoldable pub tlvs_from : List ℕ → ℕ → Tlvs
 tlvs_from frame at = tlvs_within (length frame) frame at
 
 -- whether a TLV may stand at a place: first a Chassis ID that is a MAC address, then a Port ID, then a Time To Live, and none of them later
-abbrev pub is_placed : Place → Tlv → Bool
+abbrev pub is_placed : TlvPosition → Tlv → Bool
 is_placed ChassisId t = t.kind == 1 && (length t.value == 7 && slice_index t.value 0 == 4)
 is_placed PortId t = t.kind == 2 && nat_le 2 (length t.value)
 is_placed TimeToLive t = t.kind == 3 && length t.value == 2
 is_placed Later t = not (nat_le 1 t.kind && nat_le t.kind 3)
 
-abbrev pub next_place : Place → Place
+abbrev pub next_place : TlvPosition → TlvPosition
 next_place ChassisId = PortId
 next_place PortId = TimeToLive
 next_place TimeToLive = Later
 next_place Later = Later
 
 -- the offset of the first TLV that may not stand at its place
-abbrev pub first_misplaced : Place → List Tlv → Option ℕ
+abbrev pub first_misplaced : TlvPosition → List Tlv → Option ℕ
 first_misplaced place [] = None
 first_misplaced place (t ∷ ts) = if is_placed place t then first_misplaced (next_place place) ts else Some t.at
 

@@ -1,8 +1,8 @@
 //! Laws over what frames announce.
 ghost use Rattle.std.specs.Prelude.{◌≡◌, ℕ, ◌++◌, List, length, Ok};
 ghost use Rattle.exb_lldp.specs.declared.announce.Announce.{Announce};
-ghost use Rattle.exb_lldp.specs.Announcing.{announced};
-ghost use Rattle.exb_lldp.specs.Spelling.{CanBeAnnounced, spelling};
+ghost use Rattle.exb_lldp.specs.Announcements.{announced};
+ghost use Rattle.exb_lldp.specs.Encoding.{CanBeAnnounced, spelling};
 
 /// A frame that announces something announces the same with any bytes after its End.
 pub fn bytes_after_the_end_are_ignored()

@@ -6,10 +6,10 @@
 
 mod announce;
 pub mod laws;
-mod reading;
+mod reader;
 mod tlv;
-mod writing;
+mod writer;
 
 pub use announce::{Announce, LldpFault};
-pub use reading::read;
-pub use writing::write;
+pub use reader::read;
+pub use writer::write;

@@ -2,7 +2,7 @@
 //! length, and a value.
 ghost use Rattle.std.specs.Prelude.{◌≡◌, ◌+◌, ◌≤◌, ◌<◌, drop, length, ◌^◌, Some, None, IfOk, MatchResult};
 ghost use Rattle.exb_lldp.specs.Tlvs.{tlv_in, end_at, is_placed, count_in};
-ghost use Rattle.exb_lldp.specs.Readers.{Gives, tlv_of, placed_in};
+ghost use Rattle.exb_lldp.specs.ParsedValues.{Gives, tlv_of, placed_in};
 
 use crate::announce::LldpFault;
 use exb_model::address::Mac;
@@ -26,7 +26,7 @@ pub const PORT_IS_LOCAL: u8 = 7;
 
 /// A place in the sequence of TLVs.
 #[derive(Clone, Copy)]
-pub enum Place {
+pub enum TlvPosition {
     ChassisId,
     PortId,
     TimeToLive,
@@ -66,7 +66,7 @@ pub fn tlv_at(frame: &[u8], at: usize) -> Result<Tlv<'_>, LldpFault>
 }
 
 /// The TLV at an offset, which has to fit its place: Cut is tried before Order.
-pub fn placed_at(frame: &[u8], at: usize, place: Place) -> Result<Tlv<'_>, LldpFault>
+pub fn placed_at(frame: &[u8], at: usize, place: TlvPosition) -> Result<Tlv<'_>, LldpFault>
     requires { at ≤ length frame.now }
     ensures which { Gives tlv_of result (placed_in place frame.now at) }
     ensures within { IfOk result (λ t. (t.at + 2 + length t.value.now ≡ end_at frame.now at) × (end_at frame.now at ≤ length frame.now)) }
@@ -88,16 +88,16 @@ impl Tlv<'_> {
     }
 
     /// Whether it may stand at this place.
-    pub fn may_stand(&self, place: Place) -> bool
+    pub fn may_stand(&self, place: TlvPosition) -> bool
         ensures { result ≡ is_placed place (tlv_of self.now) }
     {
         match place {
-            Place::ChassisId => {
+            TlvPosition::ChassisId => {
                 self.kind == CHASSIS_ID && self.value.len() == 7 && self.value[0] == CHASSIS_IS_MAC
             }
-            Place::PortId => self.kind == PORT_ID && self.value.len() >= 2,
-            Place::TimeToLive => self.kind == TIME_TO_LIVE && self.value.len() == 2,
-            Place::Later => !(CHASSIS_ID <= self.kind && self.kind <= TIME_TO_LIVE),
+            TlvPosition::PortId => self.kind == PORT_ID && self.value.len() >= 2,
+            TlvPosition::TimeToLive => self.kind == TIME_TO_LIVE && self.value.len() == 2,
+            TlvPosition::Later => !(CHASSIS_ID <= self.kind && self.kind <= TIME_TO_LIVE),
         }
     }
 

@@ -8,7 +8,7 @@ use Rattle.std.proofs.lemmas.Grind.{get_or-set_at}
 use Rattle.std.proofs.lemmas.Nat.{and_le_l}
 use Rattle.std.proofs.lemmas.Nat.Bits.{bit_at_and, bit_at_not, bit_at-lt, bit_at-zero}
 use Rattle.exb_model.specs.PortBits.{has_port}
-use Rattle.exb_model.proofs.Words.{get_or-same}
+use Rattle.exb_model.proofs.PortBits.{get_or-same}
 
 both_ones : (a b : ℕ) → a < 2 → b < 2 → (min a b == 1) ≡ (a == 1 && b == 1)
 both_ones a b low_a low_b = grind (arith, nat_tests)

@@ -4,7 +4,7 @@ use Rattle.std.specs.Prelude.{slice_index_or, replicate}
 use Rattle.std.proofs.lemmas.Bool.{cases_eq, ne_eqb}
 use Rattle.std.proofs.lemmas.List.{get_or-set_same, get_or-set_other, get_or_default}
 use mathlib.Core.Path.{fun_ext}
-use Rattle.exb_model.proofs.Words.{get_or-same}
+use Rattle.exb_model.proofs.PortBits.{get_or-same}
 use Rattle.exb_model.specs.Tables.{at}
 
 -- what a list has at a place, and d past its end

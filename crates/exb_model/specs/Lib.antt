@@ -14,7 +14,7 @@ pub mod History
 pub mod Learning
 pub mod Targets
 pub mod FlatBridge
-pub mod Numbering
+pub mod LowestFree
 pub mod Numbers
 pub mod Refusals
 pub mod Input

@@ -1,8 +1,8 @@
-pub mod Joined
+pub mod LoopTest
 pub mod Nets
 pub mod Size
-pub mod Names
-pub mod Files
-pub mod Steps
-pub mod Parts
-pub mod Turned
+pub mod FilePrefixes
+pub mod NetFiles
+pub mod LoopSteps
+pub mod EndNames
+pub mod Reversal

@@ -10,24 +10,24 @@ use Rattle.std.proofs.lemmas.List.Quantifiers.{all_pairs_push}
 use Rattle.std.proofs.lemmas.List.Folds.{list_any_at}
 use Rattle.exb_model.specs.Tree.{is_external}
 use Rattle.exb_model.specs.Setup.{IsValid, shape_of}
-use Rattle.exb_keys.specs.Faults.{Refusal, ◌>>=◌}
-use Rattle.exb_keys.specs.declared.faults.KeyFault.TheVariants as fault
-use Rattle.exb_keys.proofs.Went.{went}
-use Rattle.exb_nets.specs.declared.wires.End.{End}
-use Rattle.exb_nets.specs.declared.wires.Wire.{Wire}
-use Rattle.exb_nets.specs.Nets.{Net, IsNet, IsEnd, AreJoined, HaveNoLoop, ends_of, is_at}
-use Rattle.exb_topology.specs.Each.{each_ok, refuse}
-use Rattle.exb_topology.proofs.Checking.{refuse_ok}
-use Rattle.exb_net_file.specs.declared.words.EndName.{EndName}
-use Rattle.exb_net_file.specs.declared.rows.NetWire.{NetWire}
+use Rattle.exb_toml_keys.specs.Faults.{Refusal, ◌>>=◌}
+use Rattle.exb_toml_keys.specs.declared.faults.KeyFault.TheVariants as fault
+use Rattle.exb_toml_keys.proofs.PassedSteps.{went}
+use Rattle.exb_net_spec.specs.declared.wires.End.{End}
+use Rattle.exb_net_spec.specs.declared.wires.Wire.{Wire}
+use Rattle.exb_net_spec.specs.Nets.{Net, IsNet, IsEnd, AreJoined, HaveNoLoop, ends_of, is_at}
+use Rattle.exb_topology.specs.ElementChecks.{each_ok, refuse}
+use Rattle.exb_topology.proofs.ElementChecks.{refuse_ok}
+use Rattle.exb_net_file.specs.declared.end_names.EndName.{EndName}
+use Rattle.exb_net_file.specs.declared.elements.NetWire.{NetWire}
 use Rattle.exb_net_file.specs.declared.members.NetMember.{NetMember}
 use Rattle.exb_net_file.specs.Members.{tree_in, ports_together, files_ok}
 use Rattle.exb_net_file.specs.Wires.{member_from, is_taken, has_capture, port_free, end_of_member, end_in, are_joined, wire_key, wire_in, wires_from, wires_of}
 use Rattle.std.specs.Prelude.{IfOk}
-use Rattle.exb_keys.specs.declared.faults.TopoFault.{TopoFault}
-use Rattle.exb_keys.specs.Faults.{Gives}
-use Rattle.exb_net_file.specs.Sound.{AreValid, IsMadeOf, MakesNets}
-use Rattle.exb_net_file.proofs.Joined.{joined_tells}
+use Rattle.exb_toml_keys.specs.declared.faults.TopoFault.{TopoFault}
+use Rattle.exb_toml_keys.specs.Faults.{Gives}
+use Rattle.exb_net_file.specs.Soundness.{AreValid, IsMadeOf, MakesNets}
+use Rattle.exb_net_file.proofs.LoopTest.{joined_tells}
 
 ok_same : {A : Type 0} (x y : A) → ◌≡◌ {A = Result A Refusal} (Ok x) (Ok y) → x ≡ y
 ok_same x y e = cc

@@ -10,19 +10,19 @@ use Rattle.exb_model.specs.Input.{Given, given_by, tree_of}
 use Rattle.exb_model.specs.Ports.{below}
 use Rattle.exb_model.specs.Setup.{shape_of}
 use Rattle.exb_model.specs.Tree.{external_ports}
-use Rattle.exb_keys.specs.Faults.{Refusal}
-use Rattle.exb_keys.specs.declared.faults.KeyFault.TheVariants as fault
-use Rattle.exb_keys.proofs.Went.{went}
-use Rattle.exb_nets.specs.declared.wires.Wire.{Wire}
-use Rattle.exb_nets.specs.Nets.{Net, IsOfFile}
-use Rattle.exb_nets.specs.Order.{AreTimely}
-use Rattle.exb_topology.specs.Sound.{IsSound}
-use Rattle.exb_topology.proofs.Checking.{refuse_ok}
-use Rattle.exb_net_file.specs.declared.rows.NetWire.{NetWire}
+use Rattle.exb_toml_keys.specs.Faults.{Refusal}
+use Rattle.exb_toml_keys.specs.declared.faults.KeyFault.TheVariants as fault
+use Rattle.exb_toml_keys.proofs.PassedSteps.{went}
+use Rattle.exb_net_spec.specs.declared.wires.Wire.{Wire}
+use Rattle.exb_net_spec.specs.Nets.{Net, IsOfFile}
+use Rattle.exb_net_spec.specs.InputOrder.{AreTimely}
+use Rattle.exb_topology.specs.Soundness.{IsSound}
+use Rattle.exb_topology.proofs.ElementChecks.{refuse_ok}
+use Rattle.exb_net_file.specs.declared.elements.NetWire.{NetWire}
 use Rattle.exb_net_file.specs.declared.members.NetMember.{NetMember}
 use Rattle.exb_net_file.specs.Members.{tree_in, ports_together}
 use Rattle.exb_net_file.specs.Wires.{wire_in, wires_from, wires_of}
-use Rattle.exb_net_file.specs.Sound.{IsMadeOf}
+use Rattle.exb_net_file.specs.Soundness.{IsMadeOf}
 use Rattle.exb_net_file.proofs.Nets.{past, some_member}
 
 ok_same : {A : Type 0} (x y : A) → ◌≡◌ {A = Result A Refusal} (Ok x) (Ok y) → x ≡ y

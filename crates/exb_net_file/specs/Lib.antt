@@ -1,7 +1,7 @@
-pub mod Words
-pub mod Rows
-pub mod Files
+pub mod EndNames
+pub mod Elements
+pub mod NetFiles
 pub mod Members
 pub mod Wires
-pub mod Sound
-pub mod Apart
+pub mod Soundness
+pub mod SetupParts

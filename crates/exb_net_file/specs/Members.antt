@@ -4,10 +4,10 @@ use Rattle.std.specs.List.{list_any}
 use Rattle.std.specs.Str.{bytes_eq}
 use Rattle.exb_model.specs.Tree.{Shape, external_ports}
 use Rattle.exb_model.specs.Setup.{shape_of}
-use Rattle.exb_keys.specs.declared.faults.KeyFault.TheVariants as fault
-use Rattle.exb_keys.specs.Faults.{Refusal, in_element}
+use Rattle.exb_toml_keys.specs.declared.faults.KeyFault.TheVariants as fault
+use Rattle.exb_toml_keys.specs.Faults.{Refusal, in_element}
 use Rattle.exb_topology.specs.Checks.{output_names}
-use Rattle.exb_topology.specs.Each.{refuse}
+use Rattle.exb_topology.specs.ElementChecks.{refuse}
 use Rattle.exb_net_file.specs.declared.members.NetMember.{NetMember}
 
 abbrev pub tree_in : NetMember → Shape

@@ -3,14 +3,14 @@ use Rattle.std.specs.Prelude.{ℕ, ◌+◌, ◌==◌, ◌||◌, ◌&&◌, Bool, 
 use Rattle.std.specs.List.{list_any}
 use Rattle.std.specs.Str.{bytes_eq}
 use Rattle.exb_model.specs.Tree.{is_external}
-use Rattle.exb_keys.specs.declared.faults.KeyFault.TheVariants as fault
-use Rattle.exb_keys.specs.Faults.{Refusal, at, ◌>>=◌, in_element}
-use Rattle.exb_nets.specs.declared.wires.End.{End}
-use Rattle.exb_nets.specs.declared.wires.Wire.{Wire}
-use Rattle.exb_nets.specs.Nets.{ends_of, is_at}
-use Rattle.exb_topology.specs.Each.{each_ok, refuse}
-use Rattle.exb_net_file.specs.declared.words.EndName.{EndName}
-use Rattle.exb_net_file.specs.declared.rows.NetWire.{NetWire}
+use Rattle.exb_toml_keys.specs.declared.faults.KeyFault.TheVariants as fault
+use Rattle.exb_toml_keys.specs.Faults.{Refusal, at, ◌>>=◌, in_element}
+use Rattle.exb_net_spec.specs.declared.wires.End.{End}
+use Rattle.exb_net_spec.specs.declared.wires.Wire.{Wire}
+use Rattle.exb_net_spec.specs.Nets.{ends_of, is_at}
+use Rattle.exb_topology.specs.ElementChecks.{each_ok, refuse}
+use Rattle.exb_net_file.specs.declared.end_names.EndName.{EndName}
+use Rattle.exb_net_file.specs.declared.elements.NetWire.{NetWire}
 use Rattle.exb_net_file.specs.declared.members.NetMember.{NetMember}
 use Rattle.exb_net_file.specs.Members.{tree_in, ports_together, files_ok}
 

@@ -4,21 +4,21 @@ ghost use Rattle.std.specs.List.{list_any};
 ghost use Rattle.std.specs.Str.{bytes_eq};
 ghost use Rattle.exb_model.specs.Setup.{IsValid};
 ghost use Rattle.exb_model.specs.Tree.{external_ports, is_external};
-ghost use Rattle.exb_keys.specs.Faults.{Gives};
-ghost use Rattle.exb_keys.specs.declared.faults.KeyFault.TheVariants.{Range};
+ghost use Rattle.exb_toml_keys.specs.Faults.{Gives};
+ghost use Rattle.exb_toml_keys.specs.declared.faults.KeyFault.TheVariants.{Range};
 ghost use Rattle.exb_topology.specs.Checks.{output_names};
-ghost use Rattle.exb_topology.specs.Each.{each_ok, refuse};
+ghost use Rattle.exb_topology.specs.ElementChecks.{each_ok, refuse};
 ghost use Rattle.exb_net_file.specs.Members.{tree_in, ports_together, prefix_of, outputs_in, is_output_of_net, files_ok};
-ghost use Rattle.exb_net_file.specs.Sound.{AreValid};
+ghost use Rattle.exb_net_file.specs.Soundness.{AreValid};
 
-use crate::rows::refuse_table;
-use exb_keys::faults::{KeyFault, TopoFault};
-use exb_keys::place::Place;
+use crate::elements::refuse_table;
 use exb_model::list::List;
 use exb_model::memory::NoMemory;
 use exb_model::port::PortId;
 use exb_model::text::Text;
 use exb_model::tree::Tree;
+use exb_toml_keys::faults::{KeyFault, TopoFault};
+use exb_toml_keys::key_path::KeyPath;
 use exb_topology::{Named, Topology, is_output, output_names, refuse};
 use std::alloc::Global;
 
@@ -176,7 +176,7 @@ fn check_file(
     requires { ends.now ≡ map (λ m. output_names [] (tree_in m)) members.now }
     ensures { Gives result (files_ok members.now [] index member.now) }
 {
-    let place = Place::Element {
+    let place = KeyPath::Element {
         table: "bridge",
         index,
     };

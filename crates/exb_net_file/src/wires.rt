@@ -2,24 +2,24 @@
 ghost use Rattle.std.specs.Prelude.{◌≡◌, ◌==◌, ◌≤◌, ◌<◌, ◌++◌, ◌∷◌, ℕ, IfOk, IfSome, OnOk, Ok, Some, List, [], length, map, option_map, if◌then◌else◌, slice_index};
 ghost use Rattle.std.specs.Str.{bytes_eq};
 ghost use Rattle.exb_model.specs.Setup.{IsValid};
-ghost use Rattle.exb_keys.specs.Faults.{Gives, place_text};
-ghost use Rattle.exb_nets.specs.Nets.{ends_of};
-ghost use Rattle.exb_topology.specs.Each.{refuse};
+ghost use Rattle.exb_toml_keys.specs.Faults.{Gives, place_text};
+ghost use Rattle.exb_net_spec.specs.Nets.{ends_of};
+ghost use Rattle.exb_topology.specs.ElementChecks.{refuse};
 ghost use Rattle.exb_model.specs.Tree.{is_external};
 ghost use Rattle.exb_net_file.specs.Members.{tree_in};
 ghost use Rattle.exb_net_file.specs.Wires.{member_from, is_taken, has_capture, port_free, end_in, are_joined, wire_in, wires_from, wires_of};
-ghost use Rattle.exb_net_file.specs.Sound.{AreValid, MakesNets};
+ghost use Rattle.exb_net_file.specs.Soundness.{AreValid, MakesNets};
 
+use crate::elements::NetWire;
+use crate::end_names::EndName;
 use crate::members::{NetMember, check_files, check_ports};
-use crate::rows::NetWire;
-use crate::words::EndName;
-use exb_keys::faults::{KeyFault, TopoFault};
-use exb_keys::place::Place;
 use exb_model::list::List;
 use exb_model::memory::NoMemory;
 use exb_model::port::PortId;
 use exb_model::tree::Tree;
-use exb_nets::wires::{End, Wire};
+use exb_net_spec::wires::{End, Wire};
+use exb_toml_keys::faults::{KeyFault, TopoFault};
+use exb_toml_keys::key_path::KeyPath;
 use exb_topology::refuse;
 use std::alloc::Global;
 
@@ -84,7 +84,7 @@ fn check_free(
     alloc: Global,
     member: &NetMember,
     taken: &[End],
-    place: Place,
+    place: KeyPath,
     key: &str,
     end: End,
 ) -> Result<(), TopoFault>
@@ -103,7 +103,7 @@ fn end_in(
     alloc: Global,
     members: &[NetMember],
     taken: &[End],
-    place: Place,
+    place: KeyPath,
     key: &str,
     named: &EndName,
 ) -> Result<End, TopoFault>
@@ -126,7 +126,7 @@ fn next_end(
     alloc: Global,
     members: &[NetMember],
     ends: &mut List<End>,
-    place: Place,
+    place: KeyPath,
     key: &str,
     named: &EndName,
 ) -> Result<End, TopoFault>
@@ -207,7 +207,7 @@ fn wire_in(
     ensures value { Gives result (wire_in members.now before.now index wire.now) }
     ensures ends { IfOk result (λ x. ends.new ≡ ends_of (before.now ++ x ∷ [])) }
 {
-    let place = Place::Element {
+    let place = KeyPath::Element {
         table: "wire",
         index,
     };

@@ -1,8 +1,8 @@
-pub mod Lowest
-pub mod Kept
-pub mod Rising
-pub mod Places
-pub mod Ordered
-pub mod Keys
-pub mod Apart
-pub mod Built
+pub mod LowestInRange
+pub mod ChannelTables
+pub mod RisingPlaces
+pub mod GroupPlaces
+pub mod GroupTables
+pub mod SetKeys
+pub mod Uniqueness
+pub mod SpacesByPort

@@ -1,7 +1,7 @@
 -- The channels of a space, as the list of the port of each, from channel 0 on, which is of none.
 use Rattle.std.specs.Prelude.{◌≡◌, ℕ, ◌-◌, ◌<◌, ◌≤◌, Bool, true, false, List, Option, Some, None, is_some, find, length, slice_index_or}
 use Rattle.std.specs.List.{range_with_len}
-use Rattle.exb_model.specs.Numbering.{lowest_free, is_port}
+use Rattle.exb_model.specs.LowestFree.{lowest_free, is_port}
 
 -- the port of a channel
 abbrev pub holder : List (Option ℕ) → ℕ → Option ℕ

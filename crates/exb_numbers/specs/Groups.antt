@@ -4,7 +4,7 @@ use Rattle.std.specs.List.{range_with_len}
 use Rattle.exb_model.specs.declared.port_set.PortSet.{PortSet}
 use Rattle.exb_model.specs.Ports.{ports_of}
 use Rattle.exb_model.specs.Refusals.{is_empty_set}
-use Rattle.exb_model.specs.Numbering.{lowest_free}
+use Rattle.exb_model.specs.LowestFree.{lowest_free}
 
 -- how many groups there are, and the ports of each in order, from number 4096 on; a free one has none
 pub record Groups : Type 0 where

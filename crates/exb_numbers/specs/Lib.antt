@@ -1,5 +1,5 @@
 pub mod Channels
 pub mod Groups
-pub mod Order
+pub mod GroupOrder
 pub mod Spaces
-pub mod Lent
+pub mod BorrowedSpaces

@@ -3,7 +3,7 @@ ghost use Rattle.std.specs.Prelude.{◌≡◌, ◌≢◌, ℕ, ◌+◌, ◌==◌
 ghost use Rattle.exb_model.specs.Ports.{ports_of};
 ghost use Rattle.exb_model.specs.Refusals.{is_empty_set};
 ghost use Rattle.exb_numbers.specs.Groups.{set_of, sets_of, is_used, group_of, lowest_group};
-ghost use Rattle.exb_numbers.specs.Order.{compared, ranks_at, rank_of, mixed, joined, key_of, is_held, put_at, put_key_at, IsRising, IsAt, SplitsAt, IsEntered, IsLeft, HaveKeys};
+ghost use Rattle.exb_numbers.specs.GroupOrder.{compared, ranks_at, rank_of, mixed, joined, key_of, is_held, put_at, put_key_at, IsRising, IsAt, SplitsAt, IsEntered, IsLeft, HaveKeys};
 
 use exb_model::memory::NoMemory;
 use exb_model::port_set::PortSet;
@@ -47,7 +47,7 @@ impl Model for Groups {
     ghost Value = { Groups };
 
     ghost use Rattle.exb_numbers.specs.Groups.{sets_of};
-    ghost use Rattle.exb_numbers.specs.Order.{AreOrdered, HaveKeys};
+    ghost use Rattle.exb_numbers.specs.GroupOrder.{AreOrdered, HaveKeys};
 
     ghost view = { λ g. record { limit = g.limit; sets = sets_of g.sets.items } };
 
@@ -75,7 +75,7 @@ fn are_same(one: &PortSet, other: &PortSet) -> bool
 }
 
 // The key with a word more.
-#[tactic(auto, unfolding(crate::specs::Order::mixed))]
+#[tactic(auto, unfolding(crate::specs::GroupOrder::mixed))]
 #[inline(always)]
 fn mixed(key: u64, word: u64) -> u64
     ensures { result ≡ mixed key word }
@@ -84,7 +84,7 @@ fn mixed(key: u64, word: u64) -> u64
 }
 
 // The number of a piece behind that of the pieces before it.
-#[tactic(auto, unfolding(crate::specs::Order::joined))]
+#[tactic(auto, unfolding(crate::specs::GroupOrder::joined))]
 #[inline(always)]
 fn joined(key: u64, piece: u64) -> u64
     ensures { result ≡ joined key piece }
@@ -93,7 +93,7 @@ fn joined(key: u64, piece: u64) -> u64
 }
 
 // The key of a set, by which most sets are told apart. The digits of one piece wait for each other, and those of four go side by side.
-#[tactic(auto, unfolding(crate::specs::Order::key_of))]
+#[tactic(auto, unfolding(crate::specs::GroupOrder::key_of))]
 #[inline(always)]
 fn key_of(set: &PortSet) -> u64
     ensures { result ≡ key_of set.now.words }

@@ -54,7 +54,7 @@ fn granted(is_cascade: bool, count: u16) -> u16
 }
 
 impl Spaces {
-    ghost use Rattle.exb_numbers.specs.Lent.{LendsChannels, LendsGroups};
+    ghost use Rattle.exb_numbers.specs.BorrowedSpaces.{LendsChannels, LendsGroups};
 
     /// A space for each cascade port of the bridge, with so many channels and groups, all free.
     pub fn new(alloc: Global, tree: &Tree, channels: u16, groups: u16) -> Result<Spaces, NoMemory>

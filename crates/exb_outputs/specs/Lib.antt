@@ -1,7 +1,11 @@
 pub mod Manifests
-pub mod Order
-pub mod Shelving
-pub mod Writing
-pub mod Sent
-pub mod Apart
-pub mod Names
+pub mod CreationOrder
+pub mod ShelfEffects
+pub mod WrittenTexts
+pub mod CaptureSizes
+pub mod InputsApart
+pub mod OutputNames
+pub mod KindTexts
+pub mod Counts
+pub mod SentFrames
+pub mod TextUpdates

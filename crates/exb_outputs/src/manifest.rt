@@ -2,22 +2,22 @@
 ghost use Rattle.std.specs.Prelude.{◌≡◌, ◌<◌, ◌≤◌, ◌+◌, ◌++◌, ◌∷◌, [], if◌then◌else◌, IfOk, OnOk};
 ghost use Rattle.exb_model.specs.Setup.{IsValid, shape_of};
 ghost use Rattle.exb_model.specs.Tree.{IsTree};
-ghost use Rattle.exb_words.specs.Kinds.{place_behind};
+ghost use Rattle.exb_cli.specs.Kinds.{place_behind};
 ghost use Rattle.exb_outputs.specs.Manifests.{ArePlaced, kind_at, output_count, place_in, port_at, port_count};
 
+use exb_cli::{Options, OutputKinds};
+use exb_journal::OutputKind;
 use exb_model::memory::NoMemory;
 use exb_model::port::{PORTS, PortId};
 use exb_model::setup::Setup;
 use exb_model::text::Text;
 use exb_model::tree::Tree;
-use exb_text::Output;
-use exb_words::{Kinds, Options};
 use std::alloc::Global;
 use std::marker::Model;
 
 /// The external ports of a tree, and the place of each among them.
 #[derive(Drop)]
-struct Places {
+struct PortIndex {
     /// The external ports, in port order.
     ports: Vec<PortId>,
     /// How many of them come before a port, by its number.
@@ -28,11 +28,11 @@ struct Places {
 /// their order.
 pub struct Manifest {
     tree: Tree,
-    places: Places,
+    places: PortIndex,
     /// What each name of a file begins with.
     prefix: Text,
     /// What is asked for, and the kinds behind the captures.
-    kinds: Kinds,
+    kinds: OutputKinds,
 }
 
 impl Drop for Manifest {
@@ -67,7 +67,7 @@ fn put_if(ports: &mut Vec<PortId>, wanted: bool, port: PortId) -> Result<(), NoM
 }
 
 /// The external ports of a tree with their places.
-fn places_of(alloc: Global, tree: &Tree) -> Result<Places, NoMemory>
+fn places_of(alloc: Global, tree: &Tree) -> Result<PortIndex, NoMemory>
     ensures { IfOk result (λ p. ArePlaced tree.now p.ports.items p.places.items) }
 {
     let mut ports = Vec::new(alloc);
@@ -77,7 +77,7 @@ fn places_of(alloc: Global, tree: &Tree) -> Result<Places, NoMemory>
         places.push(ports.len() as u16)?;
         put_if(&mut ports, tree.is_external(port), port)?;
     }
-    Ok(Places { ports, places })
+    Ok(PortIndex { ports, places })
 }
 
 impl Manifest {
@@ -96,7 +96,7 @@ impl Manifest {
         let tree = Tree::new(alloc, setup)?;
         let places = places_of(alloc, &tree)?;
         let prefix = Text::from_str(alloc, prefix)?;
-        let kinds = Kinds::new(alloc, options)?;
+        let kinds = OutputKinds::new(alloc, options)?;
         Ok(Manifest {
             tree,
             places,
@@ -113,7 +113,7 @@ impl Manifest {
     }
 
     /// How many captures there are, at most 4,160.
-    #[tactic(auto, using(crate::proofs::Places::few_external))]
+    #[tactic(auto, using(crate::proofs::PortPlaces::few_external))]
     pub fn count(&self) -> u16
         ensures value { result ≡ port_count self.now }
         ensures range { result ≤ 4160 }
@@ -137,13 +137,13 @@ impl Manifest {
     }
 
     /// The kind of file `at`, counted from 0.
-    pub(crate) fn kind(&self, at: u16) -> Output
+    pub(crate) fn kind(&self, at: u16) -> OutputKind
         requires { at < output_count self.now }
         ensures { result ≡ kind_at self.now at }
     {
         let count = self.count();
         if at < count {
-            Output::Capture(self.port(at))
+            OutputKind::Capture(self.port(at))
         } else {
             self.kinds.kind(at - count)
         }
@@ -151,7 +151,7 @@ impl Manifest {
 
     /// The place of the file of a kind that is no capture.
     #[inline(always)]
-    pub(crate) fn place_behind(&self, kind: Output) -> u16
+    pub(crate) fn place_behind(&self, kind: OutputKind) -> u16
         ensures value { result ≡ port_count self.now + place_behind self.now.options kind }
         ensures range { result ≤ 4416 }
     {

@@ -2,26 +2,26 @@
 ghost use Rattle.std.specs.Prelude.{◌≡◌, ◌≢◌, true, ◌≤◌, ◌<◌, ◌+◌, ◌^◌, ◌++◌, ℕ, List, [], length, None, IfOk, OnOk, OnErr, IfErr, string_bytes, ◌∷◌, ◌⊎◌};
 ghost use Rattle.exb_shelf.specs.Files.{Files, SameFiles, Puts, Adds, AddsFront, Filled};
 ghost use Rattle.exb_shelf.specs.Shelf.{IsWriting, Opens, writing};
-ghost use Rattle.exb_words.specs.Kinds.{is_asked, port_of};
+ghost use Rattle.exb_cli.specs.Kinds.{is_asked, port_of};
 ghost use Rattle.exb_outputs.specs.Manifests.{Listed, kind_at, output_count, output_name, port_at, port_count};
-ghost use Rattle.exb_outputs.specs.Order.{MakesFile, MakesInOrder};
-ghost use Rattle.exb_inputs.specs.Shelving.{CountsFaults};
-ghost use Rattle.exb_outputs.specs.Shelving.{CountsWrites, IsOfWriting, OnlyMakes, OnlyWrites, WritesListed};
+ghost use Rattle.exb_outputs.specs.CreationOrder.{MakesFile, MakesInOrder};
+ghost use Rattle.exb_inputs.specs.ShelfEffects.{CountsFaults};
+ghost use Rattle.exb_outputs.specs.ShelfEffects.{CountsWrites, IsOfWriting, OnlyMakes, OnlyWrites, WritesListed};
 ghost use Rattle.exb_model.specs.FlatBridge.{Sent};
 ghost use Rattle.exb_model.specs.Tree.{is_external};
-ghost use Rattle.exb_text.specs.declared.output.Output.{Output};
-ghost use Rattle.exb_text.specs.declared.output.Output.TheVariants as output;
-ghost use Rattle.exb_outputs.specs.Sent.{GrowsAt, HasSent, SameCaptures, frames_at, records_of, sent_more, size_at, sizes_of};
-ghost use Rattle.exb_outputs.specs.Writing.{ids_of, pieces_of, AreCut, HasTexts, IsReady, first_text, with_more};
+ghost use Rattle.exb_journal.specs.declared.file_names.OutputKind.{OutputKind};
+ghost use Rattle.exb_journal.specs.declared.file_names.OutputKind.TheVariants as output;
+ghost use Rattle.exb_outputs.specs.CaptureSizes.{GrowsAt, HasSent, SameCaptures, frames_at, records_of, sent_more, size_at, sizes_of};
+ghost use Rattle.exb_outputs.specs.WrittenTexts.{ids_of, pieces_of, AreCut, HasTexts, IsReady, first_text, with_more};
 
 use crate::manifest::Manifest;
 use exb_capture::header_text;
 use exb_inputs::Fault;
+use exb_journal::laws::file_names_differ;
+use exb_journal::{OutputKind, file_name};
 use exb_model::memory::NoMemory;
 use exb_model::port::PortId;
 use exb_shelf::{PIECE, Shelf, ShelfFault, write_text};
-use exb_text::laws::file_names_differ;
-use exb_text::{Output, file_name};
 use std::alloc::Global;
 
 /// How many bytes a piece first has room for, where it gets any.
@@ -32,7 +32,7 @@ const WHOLE: usize = 67_584;
 
 /// An output while it is written.
 #[derive(Drop)]
-struct Unfinished {
+struct OpenOutput {
     /// The id of its file.
     id: u32,
     /// What of its text is not written yet.
@@ -45,7 +45,7 @@ struct Unfinished {
 
 /// The outputs in the order in which they are made.
 pub struct Outputs {
-    files: Vec<Unfinished>,
+    files: Vec<OpenOutput>,
 }
 
 impl Drop for Outputs {
@@ -75,7 +75,7 @@ fn first_piece(alloc: Global, manifest: &Manifest, at: u16) -> Result<Vec<u8>, N
     ensures { IfOk result (λ piece. piece.items ≡ first_text (kind_at manifest.now at)) }
 {
     match manifest.kind(at) {
-        Output::Capture(_) => Ok(header_text().to_vec(alloc)?),
+        OutputKind::Capture(_) => Ok(header_text().to_vec(alloc)?),
         _ => Ok(Vec::new(alloc)),
     }
 }
@@ -107,7 +107,7 @@ fn create_one<S: Shelf>(
     let name = output_name(alloc, manifest, at)?;
     let piece = first_piece(alloc, manifest, at)?;
     let id = shelf.create(name.as_str())?;
-    let file = Unfinished {
+    let file = OpenOutput {
         id,
         piece,
         written: 0,
@@ -128,7 +128,7 @@ pub fn create_all<S: Shelf>(
     ensures ready { IfOk result (λ outputs. IsReady manifest.now (S.ids shelf.new) outputs) }
     ensures texts { S.tells → IfOk result (λ outputs. HasTexts manifest.now (pieces_of outputs) (S.file shelf.old) (S.file shelf.new) first_text) }
     ensures sent { IfOk result (λ outputs. HasSent manifest.now outputs (λ q. [])) }
-    ensures cut { S.tells → OnErr result ((text : Output → List ℕ) → AreCut manifest.now (S.file shelf.old) (S.file shelf.new) text) }
+    ensures cut { S.tells → OnErr result ((text : OutputKind → List ℕ) → AreCut manifest.now (S.file shelf.old) (S.file shelf.new) text) }
     ensures only { OnlyMakes S.tells manifest.now (S.file shelf.old) (S.file shelf.new) (S.ids shelf.old) (S.ids shelf.new) }
     ensures made { MakesInOrder manifest.now result (S.ids shelf.old) (S.ids shelf.new) }
     ensures causes { IfErr result IsOfWriting }
@@ -147,7 +147,7 @@ pub fn create_all<S: Shelf>(
 /// Writes what is not written yet of one output.
 #[cold]
 #[inline(never)]
-fn flush<S: Shelf>(shelf: &mut S, file: &mut Unfinished) -> Result<(), ShelfFault>
+fn flush<S: Shelf>(shelf: &mut S, file: &mut OpenOutput) -> Result<(), ShelfFault>
     requires { IsWriting (S.ids shelf.old file.old.id) }
     ensures written { S.tells → OnOk result (Adds (S.file shelf.old) (S.file shelf.new) (S.ids shelf.old file.old.id).name file.old.piece.items) }
     ensures front { S.tells → OnErr result (AddsFront (S.file shelf.old) (S.file shelf.new) (S.ids shelf.old file.old.id).name file.old.piece.items) }
@@ -192,7 +192,7 @@ fn see_to_room(piece: &mut Vec<u8>, more: usize)
 
 /// Puts bytes behind a piece, and writes the piece where it is full.
 #[inline(always)]
-fn add<S: Shelf>(shelf: &mut S, file: &mut Unfinished, bytes: &[u8]) -> Result<(), ShelfFault>
+fn add<S: Shelf>(shelf: &mut S, file: &mut OpenOutput, bytes: &[u8]) -> Result<(), ShelfFault>
     requires { IsWriting (S.ids shelf.old file.old.id) }
     ensures kept_or_written { S.tells → OnOk result (
         (SameFiles (S.file shelf.old) (S.file shelf.new) × (file.new.piece.items ≡ file.old.piece.items ++ bytes.now))
@@ -220,7 +220,7 @@ fn add<S: Shelf>(shelf: &mut S, file: &mut Unfinished, bytes: &[u8]) -> Result<(
 #[inline(always)]
 fn add_record<S: Shelf>(
     shelf: &mut S,
-    file: &mut Unfinished,
+    file: &mut OpenOutput,
     head: &[u8; 16],
     bytes: &[u8],
 ) -> Result<(), ShelfFault>
@@ -259,9 +259,9 @@ impl Outputs {
         requires external { is_external manifest.now.tree port ≡ true }
         requires low { port < 4160 }
         ensures ready { IsReady manifest.now (S.ids shelf.new) self.new }
-        ensures texts { S.tells → OnOk result ((orig : Files) (text : Output → List ℕ) → HasTexts manifest.now (pieces_of self.old) orig (S.file shelf.old) text
+        ensures texts { S.tells → OnOk result ((orig : Files) (text : OutputKind → List ℕ) → HasTexts manifest.now (pieces_of self.old) orig (S.file shelf.old) text
             → HasTexts manifest.now (pieces_of self.new) orig (S.file shelf.new) (with_more text (output.Capture port) (head.now ++ bytes.now))) }
-        ensures cut { S.tells → OnErr result ((orig : Files) (text : Output → List ℕ) → HasTexts manifest.now (pieces_of self.old) orig (S.file shelf.old) text
+        ensures cut { S.tells → OnErr result ((orig : Files) (text : OutputKind → List ℕ) → HasTexts manifest.now (pieces_of self.old) orig (S.file shelf.old) text
             → AreCut manifest.now orig (S.file shelf.new) (with_more text (output.Capture port) (head.now ++ bytes.now))) }
         ensures sent { OnOk result ((moment : ℕ) (sent : ℕ → List Sent) → HasSent manifest.now self.old sent → HasSent manifest.now self.new (sent_more sent port (moment, bytes.now))) }
         ensures only { OnlyWrites S.tells manifest.now (S.file shelf.old) (S.file shelf.new) (S.ids shelf.old) (S.ids shelf.new) }
@@ -277,9 +277,9 @@ impl Outputs {
     /// Writes all that is not written yet.
     pub fn finish<S: Shelf>(&mut self, shelf: &mut S, manifest: &Manifest) -> Result<(), ShelfFault>
         requires ready { IsReady manifest.now (S.ids shelf.old) self.old }
-        ensures texts { S.tells → OnOk result ((orig : Files) (text : Output → List ℕ) → HasTexts manifest.now (pieces_of self.old) orig (S.file shelf.old) text
+        ensures texts { S.tells → OnOk result ((orig : Files) (text : OutputKind → List ℕ) → HasTexts manifest.now (pieces_of self.old) orig (S.file shelf.old) text
             → Filled orig (S.file shelf.new) (output_count manifest.now) (output_name manifest.now) (λ j bytes. bytes ≡ text (kind_at manifest.now j))) }
-        ensures cut { S.tells → OnErr result ((orig : Files) (text : Output → List ℕ) → HasTexts manifest.now (pieces_of self.old) orig (S.file shelf.old) text
+        ensures cut { S.tells → OnErr result ((orig : Files) (text : OutputKind → List ℕ) → HasTexts manifest.now (pieces_of self.old) orig (S.file shelf.old) text
             → AreCut manifest.now orig (S.file shelf.new) text) }
         ensures only { OnlyWrites S.tells manifest.now (S.file shelf.old) (S.file shelf.new) (S.ids shelf.old) (S.ids shelf.new) }
         ensures faults { CountsWrites result (S.faults shelf.old) (S.faults shelf.new) }
@@ -297,16 +297,16 @@ impl Outputs {
         &mut self,
         shelf: &mut S,
         manifest: &Manifest,
-        kind: Output,
+        kind: OutputKind,
         bytes: &[u8],
     ) -> Result<(), ShelfFault>
         requires asked { is_asked manifest.now.options kind ≡ true }
         requires behind { port_of kind ≡ None }
         requires ready { IsReady manifest.now (S.ids shelf.old) self.old }
         ensures ready { IsReady manifest.now (S.ids shelf.new) self.new }
-        ensures texts { S.tells → OnOk result ((orig : Files) (text : Output → List ℕ) → HasTexts manifest.now (pieces_of self.old) orig (S.file shelf.old) text
+        ensures texts { S.tells → OnOk result ((orig : Files) (text : OutputKind → List ℕ) → HasTexts manifest.now (pieces_of self.old) orig (S.file shelf.old) text
             → HasTexts manifest.now (pieces_of self.new) orig (S.file shelf.new) (with_more text kind bytes.now)) }
-        ensures cut { S.tells → OnErr result ((orig : Files) (text : Output → List ℕ) → HasTexts manifest.now (pieces_of self.old) orig (S.file shelf.old) text
+        ensures cut { S.tells → OnErr result ((orig : Files) (text : OutputKind → List ℕ) → HasTexts manifest.now (pieces_of self.old) orig (S.file shelf.old) text
             → AreCut manifest.now orig (S.file shelf.new) (with_more text kind bytes.now)) }
         ensures same { OnOk result (SameCaptures manifest.now self.old self.new) }
         ensures only { OnlyWrites S.tells manifest.now (S.file shelf.old) (S.file shelf.new) (S.ids shelf.old) (S.ids shelf.new) }
@@ -350,9 +350,9 @@ impl Outputs {
         requires ready { IsReady manifest.now (S.ids shelf.old) self.old }
         requires within { at < output_count manifest.now }
         ensures ready { IsReady manifest.now (S.ids shelf.new) self.new }
-        ensures texts { S.tells → OnOk result ((orig : Files) (text : Output → List ℕ) → HasTexts manifest.now (pieces_of self.old) orig (S.file shelf.old) text
+        ensures texts { S.tells → OnOk result ((orig : Files) (text : OutputKind → List ℕ) → HasTexts manifest.now (pieces_of self.old) orig (S.file shelf.old) text
             → HasTexts manifest.now (pieces_of self.new) orig (S.file shelf.new) (with_more text (kind_at manifest.now at) bytes.now)) }
-        ensures cut { S.tells → OnErr result ((orig : Files) (text : Output → List ℕ) → HasTexts manifest.now (pieces_of self.old) orig (S.file shelf.old) text
+        ensures cut { S.tells → OnErr result ((orig : Files) (text : OutputKind → List ℕ) → HasTexts manifest.now (pieces_of self.old) orig (S.file shelf.old) text
             → AreCut manifest.now orig (S.file shelf.new) (with_more text (kind_at manifest.now at) bytes.now)) }
         ensures grows { OnOk result (GrowsAt at (length bytes.now) self.old self.new) }
         ensures only { OnlyWrites S.tells manifest.now (S.file shelf.old) (S.file shelf.new) (S.ids shelf.old) (S.ids shelf.new) }

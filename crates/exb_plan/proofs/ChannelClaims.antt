@@ -6,15 +6,15 @@ use Rattle.exb_model.specs.Tree.{Shape, IsTree, device, trunk, is_under}
 use Rattle.exb_model.specs.Setup.{Limits}
 use Rattle.exb_model.specs.Configuration.{Bridge}
 use Rattle.exb_model.specs.Refusals.{channels_short}
-use Rattle.exb_model.specs.Numbering.{lowest_free}
+use Rattle.exb_model.specs.LowestFree.{lowest_free}
 use Rattle.exb_numbers.specs.Spaces.{Spaces}
-use Rattle.exb_changing.specs.Plans.Held.{Held, HoldsNeeded, channel_in, channel_used}
-use Rattle.exb_changing.specs.Plans.Between.{goes_up, trunk_of}
-use Rattle.exb_plan.specs.Spaces.{held_by, HasSpaces}
-use Rattle.exb_plan.specs.Working.{CanClaimUp, CanClaimChannel, SpacesOf, channel_limit}
-use Rattle.exb_changing.proofs.Plans.Counting.{IsLowest}
-use Rattle.exb_changing.proofs.Plans.Trunks.{extended_extender, home_low, home_cascade}
-use Rattle.exb_changing.proofs.Plans.Channels.{Rises, rises_is, goes_up_rises, no_cascade_under, free_there}
+use Rattle.exb_control_spec.specs.Plans.HeldNumbers.{Held, HoldsNeeded, channel_in, channel_used}
+use Rattle.exb_control_spec.specs.Plans.Differences.{goes_up, trunk_of}
+use Rattle.exb_plan.specs.SpaceContents.{held_by, HasSpaces}
+use Rattle.exb_plan.specs.PlanValues.{CanClaimUp, CanClaimChannel, SpacesOf, channel_limit}
+use Rattle.exb_control_spec.proofs.Plans.UsedNumbers.{IsLowest}
+use Rattle.exb_control_spec.proofs.Plans.Trunks.{extended_extender, home_low, home_cascade}
+use Rattle.exb_control_spec.proofs.Plans.Channels.{Rises, rises_is, goes_up_rises, no_cascade_under, free_there}
 
 module _ (t : Shape) (valid : IsTree t) (old : Bridge) (h : Held) (needed : HoldsNeeded t old h) where
   can_up : (v : Spaces) (l : Limits) (new : Bridge) (p : ℕ) → held_by v ≡ h → SpacesOf t v → HasSpaces t l v → Rises t old new p →

@@ -2,11 +2,11 @@
 use Rattle.std.proofs.Common.{◌≡◌, ℕ, ◌-◌, List, [], ◌∷◌, ◌++◌, refl, sym, ◌∙◌, ap, subst}
 use Rattle.std.proofs.lemmas.List.{append-nil, append_assoc}
 use Rattle.exb_numbers.specs.Spaces.{Spaces, groups_at}
-use Rattle.exb_changing.specs.Plans.Sets.{PortsAt}
-use Rattle.exb_changing.specs.Plans.Held.{Held, Group, group_for, numbered, give, give_all}
-use Rattle.exb_plan.specs.Spaces.{held_by}
-use Rattle.exb_plan.specs.Working.{IsPlaced, ArePlaced, AreLimited, IsAlike, CanClaim, AreClaimed}
-use Rattle.exb_changing.specs.Plans.Making.{AreFresh}
+use Rattle.exb_control_spec.specs.Plans.Sets.{PortsAt}
+use Rattle.exb_control_spec.specs.Plans.HeldNumbers.{Held, Group, group_for, numbered, give, give_all}
+use Rattle.exb_plan.specs.SpaceContents.{held_by}
+use Rattle.exb_plan.specs.PlanValues.{IsPlaced, ArePlaced, AreLimited, IsAlike, CanClaim, AreClaimed}
+use Rattle.exb_control_spec.specs.Plans.FreshSets.{AreFresh}
 
 -- what was given, with what the rest gets, is what all get
 pub record IsClaiming (groups : ℕ) (h : Held) (all : List PortsAt) (v : Spaces) (rest : List PortsAt) (given : List Group) : Type 0 where

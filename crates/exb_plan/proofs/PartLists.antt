@@ -16,10 +16,10 @@ use Rattle.exb_model.specs.Configuration.{Bridge}
 use Rattle.exb_model.specs.Refusals.{Source, part, without_isolated, is_kind, is_empty_set}
 use Rattle.exb_model.proofs.PortLemmas.{below-more}
 use Rattle.exb_plan.specs.declared.branches.Branches.{Branches}
-use Rattle.exb_changing.specs.declared.planning.set_at.SetAt.{SetAt}
+use Rattle.exb_control_spec.specs.declared.plan.set_at.SetAt.{SetAt}
 use Rattle.exb_plan.specs.Branches.{AreBranches, IsPart, IsAmong}
 use Rattle.exb_plan.specs.Parts.{has_ports, some_parts, Adds}
-use Rattle.exb_changing.specs.Plans.Sets.{PortsAt, parts_of, parts_below, seen}
+use Rattle.exb_control_spec.specs.Plans.Sets.{PortsAt, parts_of, parts_below, seen}
 use Rattle.exb_plan.proofs.SetPorts.{ports_are, ports_by}
 use Rattle.exb_plan.proofs.BranchLemmas.{under_is}
 

@@ -5,8 +5,8 @@ use Rattle.exb_model.specs.declared.command.Command.{Command}
 use Rattle.exb_model.specs.declared.command.Command.TheVariants as command
 use Rattle.exb_model.specs.Tree.{Shape, is_extended}
 use Rattle.exb_model.specs.Configuration.{Bridge, after}
-use Rattle.exb_changing.specs.Plans.Between.{rises, goes_up, goes_down}
-use Rattle.exb_plan.proofs.Finding.{goes_up_found, goes_up_none}
+use Rattle.exb_control_spec.specs.Plans.Differences.{rises, goes_up, goes_down}
+use Rattle.exb_plan.proofs.FirstPorts.{goes_up_found, goes_up_none}
 
 -- ---- where only one port can rise
 module _ (t : Shape) (old new : Bridge) where

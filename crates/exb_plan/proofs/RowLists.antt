@@ -6,8 +6,8 @@ use Rattle.std.proofs.lemmas.List.{take_more, append-nil}
 use Rattle.std.proofs.lemmas.List.Elements.{filter_map-append}
 use Rattle.exb_model.specs.Tree.{Shape, by_depth}
 use Rattle.exb_model.specs.TreeSets.{mask_of}
-use Rattle.exb_changing.specs.declared.planning.row.Row.{Row}
-use Rattle.exb_changing.specs.Plans.Rows.{row_of, rows_of}
+use Rattle.exb_control_spec.specs.declared.plan.row.Row.{Row}
+use Rattle.exb_control_spec.specs.Plans.Rows.{row_of, rows_of}
 
 pub rows_are : (t : Shape) (set : ℕ → Bool) → rows_of t set ≡ filter_map (row_of t set) (by_depth t)
 unfolding rows_of

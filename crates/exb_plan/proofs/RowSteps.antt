@@ -14,18 +14,18 @@ use Rattle.exb_model.specs.TreeSets.{covers, mask_of}
 use Rattle.exb_model.proofs.MaskLemmas.{bits_of-same}
 use Rattle.exb_model.proofs.PortLemmas.{any_below-true}
 use Rattle.exb_csp.specs.declared.group_rows.GroupRow.{GroupRow}
-use Rattle.exb_changing.specs.Plans.Sets.{PortsAt}
+use Rattle.exb_control_spec.specs.Plans.Sets.{PortsAt}
 use Rattle.exb_plan.proofs.SetPorts.{ports_are, past_ports}
 use Rattle.exb_csp.specs.declared.ask_at.AskAt.{AskAt}
-use Rattle.exb_changing.specs.declared.planning.step.Step.{Step}
-use Rattle.exb_changing.specs.declared.planning.group_at.GroupAt.{GroupAt}
-use Rattle.exb_plan.specs.declared.group_asks.Covered.{Covered}
-use Rattle.exb_changing.specs.Plans.Held.{Held, Group}
-use Rattle.exb_changing.specs.Plans.Between.{gone_at, gone_groups}
+use Rattle.exb_control_spec.specs.declared.plan.row_action.RowAction.{RowAction}
+use Rattle.exb_control_spec.specs.declared.plan.group_at.GroupAt.{GroupAt}
+use Rattle.exb_plan.specs.declared.group_requests.Covered.{Covered}
+use Rattle.exb_control_spec.specs.Plans.HeldNumbers.{Held, Group}
+use Rattle.exb_control_spec.specs.Plans.Differences.{gone_at, gone_groups}
 use Rattle.exb_model.specs.Lists.{is_listed}
-use Rattle.exb_changing.specs.Plans.Asks.{row_by, row_at, rows_at, asks_with, group_asks}
-use Rattle.exb_changing.specs.Plans.Making.{seen_group}
-use Rattle.exb_plan.specs.Working.{row_of_covered, rows_of_covered}
+use Rattle.exb_control_spec.specs.Plans.ChangeRequests.{row_by, row_at, rows_at, asks_with, group_asks}
+use Rattle.exb_control_spec.specs.Plans.FreshSets.{seen_group}
+use Rattle.exb_plan.specs.PlanValues.{row_of_covered, rows_of_covered}
 
 -- ---- the list of a set's ports as a test
 listed_filter : (test : ℕ → Bool) (q : ℕ) (xs : List ℕ) → is_listed (filter test xs) q ≡ (is_listed xs q && test q)
@@ -88,7 +88,7 @@ rows_none n xs c old is before =
     before ∙ (sym (append-nil (rows_of_covered xs n))
     ∙ (ap (λ (o : Option GroupRow). rows_of_covered xs n ++ filter_map (λ (y : Option GroupRow). y) (o ∷ [])) (sym is) ∙ sym (filter_map-append (row_of_covered n) xs (c ∷ []))))
 
-pub all_asks : (t : Shape) (step : Step) (groups : List Group) (covered : List Covered) → ((n : ℕ) → rows_of_covered covered n ≡ rows_at t groups n) →
+pub all_asks : (t : Shape) (step : RowAction) (groups : List Group) (covered : List Covered) → ((n : ℕ) → rows_of_covered covered n ≡ rows_at t groups n) →
     flat_map (λ (n : ℕ). asks_with step (rows_of_covered covered n) n) (by_depth t) ≡ group_asks step t groups
 unfolding group_asks
 all_asks t step groups covered is = ap (λ (f : ℕ → List AskAt). flat_map f (by_depth t)) (fun_ext (λ n. ap (λ (rows : List GroupRow). asks_with step rows n) (is n)))

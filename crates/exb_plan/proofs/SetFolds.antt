@@ -14,9 +14,9 @@ use Rattle.exb_model.specs.Configuration.{Bridge, is_known}
 use Rattle.exb_model.specs.declared.rules.StaticAt.{StaticAt}
 use Rattle.exb_model.specs.Refusals.{Source, sources, all_vids, both_kinds, part, is_kind, is_empty_set, bridge_ports}
 use Rattle.exb_model.proofs.PortLemmas.{range-more, any_below-true, filter_below-agree, filter_below-none}
-use Rattle.exb_changing.specs.declared.planning.set_at.SetAt.{SetAt}
+use Rattle.exb_control_spec.specs.declared.plan.set_at.SetAt.{SetAt}
 use Rattle.exb_plan.specs.Parts.{has_ports, some_parts, Adds}
-use Rattle.exb_changing.specs.Plans.Sets.{PortsAt, parts_of, parts_below, is_same_set, with_set_at, sets_of, seen}
+use Rattle.exb_control_spec.specs.Plans.Sets.{PortsAt, parts_of, parts_below, is_same_set, with_set_at, sets_of, seen}
 use Rattle.exb_plan.proofs.PartLists.{part_is}
 
 -- ---- one set

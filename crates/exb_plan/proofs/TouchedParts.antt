@@ -3,10 +3,10 @@ use Rattle.std.proofs.Common.{◌≡◌, ◌∙◌, ◌++◌, List, [], filter, 
 use Rattle.exb_model.specs.declared.command.Command.{Command}
 use Rattle.exb_model.specs.Tree.{Shape}
 use Rattle.exb_model.specs.Configuration.{Bridge, after}
-use Rattle.exb_changing.specs.declared.planning.set_at.SetAt.{SetAt}
+use Rattle.exb_control_spec.specs.declared.plan.set_at.SetAt.{SetAt}
 use Rattle.exb_plan.specs.Parts.{has_ports, some_parts, Adds}
-use Rattle.exb_changing.specs.Plans.Sets.{seen}
-use Rattle.exb_changing.specs.Plans.Touched.{touched_before, touched_after, parts_before, parts_after}
+use Rattle.exb_control_spec.specs.Plans.Sets.{seen}
+use Rattle.exb_control_spec.specs.Plans.TouchedParts.{touched_before, touched_after, parts_before, parts_after}
 
 pub before_is : (t : Shape) (c : Command) (b : Bridge) (old new : List SetAt) → old ≡ [] → Adds t b (touched_before c b) old new → map seen new ≡ filter has_ports (parts_before t c b)
 unfolding some_parts parts_before

@@ -9,23 +9,23 @@ use Rattle.exb_model.specs.Tree.{Shape, IsTree}
 use Rattle.exb_model.specs.Configuration.{Bridge, after}
 use Rattle.exb_model.specs.Refusals.{is_empty_set}
 use Rattle.exb_numbers.specs.Spaces.{Spaces}
-use Rattle.exb_changing.specs.declared.planning.set_at.SetAt.{SetAt}
-use Rattle.exb_changing.specs.Plans.Sets.{PortsAt, is_same_set, with_set_at, sets_of, parts_below, seen}
-use Rattle.exb_changing.specs.Plans.Held.{Held, HoldsNeeded}
-use Rattle.exb_changing.specs.Plans.Between.{has_set, fresh_sets}
-use Rattle.exb_plan.specs.Working.{IsPlaced, SpacesOf}
-use Rattle.exb_changing.specs.Plans.Making.{has_group}
-use Rattle.exb_changing.proofs.Plans.Each.{Each, filter_each}
-use Rattle.exb_changing.proofs.Plans.SetFacts.{IsBelow, sets_below, has_at}
-use Rattle.exb_changing.proofs.Plans.Claiming.{set_is, set_itself, is_none}
-use Rattle.exb_changing.specs.Plans.Touched.{uses_in, uses_of, parts_of_all, parts_before, parts_after}
-use Rattle.exb_changing.proofs.Plans.Tests.{count-cons, count-append, any_counts, filter-both}
-use Rattle.exb_changing.proofs.Plans.Putting.{some-fold}
-use Rattle.exb_changing.proofs.Plans.Differing.{Differ, none, kept, goes, comes}
-use Rattle.exb_changing.proofs.Plans.Commands.{command_differs}
-use Rattle.exb_changing.proofs.Plans.Covered.{each_there}
-use Rattle.exb_changing.proofs.Plans.Uses.{sets_are_used}
-use Rattle.exb_changing.proofs.Plans.Coming.{fresh_are_touched}
+use Rattle.exb_control_spec.specs.declared.plan.set_at.SetAt.{SetAt}
+use Rattle.exb_control_spec.specs.Plans.Sets.{PortsAt, is_same_set, with_set_at, sets_of, parts_below, seen}
+use Rattle.exb_control_spec.specs.Plans.HeldNumbers.{Held, HoldsNeeded}
+use Rattle.exb_control_spec.specs.Plans.Differences.{has_set, fresh_sets}
+use Rattle.exb_plan.specs.PlanValues.{IsPlaced, SpacesOf}
+use Rattle.exb_control_spec.specs.Plans.FreshSets.{has_group}
+use Rattle.exb_control_spec.proofs.Plans.EachElement.{Each, filter_each}
+use Rattle.exb_control_spec.proofs.Plans.SetFacts.{IsBelow, sets_below, has_at}
+use Rattle.exb_control_spec.proofs.Plans.GroupClaims.{set_is, set_itself, is_none}
+use Rattle.exb_control_spec.specs.Plans.TouchedParts.{uses_in, uses_of, parts_of_all, parts_before, parts_after}
+use Rattle.exb_control_spec.proofs.Plans.ListTests.{count-cons, count-append, any_counts, filter-both}
+use Rattle.exb_control_spec.proofs.Plans.DistinctInsertion.{some-fold}
+use Rattle.exb_control_spec.proofs.Plans.ListDifferences.{Differ, none, kept, goes, comes}
+use Rattle.exb_control_spec.proofs.Plans.Commands.{command_differs}
+use Rattle.exb_control_spec.proofs.Plans.ListCovers.{each_there}
+use Rattle.exb_control_spec.proofs.Plans.SetUses.{sets_are_used}
+use Rattle.exb_control_spec.proofs.Plans.CommandFreshSets.{fresh_are_touched}
 use Rattle.exb_plan.specs.Parts.{has_ports}
 
 -- ---- what goes and comes is of the lists

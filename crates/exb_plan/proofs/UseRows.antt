@@ -7,9 +7,9 @@ use Rattle.std.proofs.lemmas.List.{get_or_past, get_or_push, get_or_append_left,
 use Rattle.std.proofs.lemmas.Grind.{get_or_default_zero}
 use Rattle.std.proofs.lemmas.List.Sums.{sum_by-cons, sum_by-append, sum_by-set}
 use Rattle.std.proofs.lemmas.List.Folds.{sum_by-replicate}
-use Rattle.exb_model.proofs.Words.{get_or-same}
+use Rattle.exb_model.proofs.PortBits.{get_or-same}
 use Rattle.exb_model.specs.Tree.{Shape, is_cascade}
-use Rattle.exb_plan.specs.Counted.{padded, count_in, count_at, used_in}
+use Rattle.exb_plan.specs.UseCounts.{padded, count_in, count_at, used_in}
 
 -- ---- how many have a use
 abbrev one_if : (ℕ → Bool) → ℕ → ℕ

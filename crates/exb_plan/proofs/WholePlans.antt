@@ -6,18 +6,18 @@ use Rattle.exb_model.specs.Tree.{Shape, IsTree, trunk}
 use Rattle.exb_model.specs.Setup.{Limits}
 use Rattle.exb_model.specs.Configuration.{Bridge}
 use Rattle.exb_numbers.specs.Spaces.{Spaces}
-use Rattle.exb_changing.specs.Plans.Sets.{PortsAt, sets_of}
-use Rattle.exb_changing.specs.declared.planning.change.Decision.TheVariants.{Refused, Ready}
-use Rattle.exb_changing.specs.Plans.Held.{Held, Group, HoldsNeeded, channel_used}
-use Rattle.exb_plan.specs.Spaces.{held_by, HasSpaces}
-use Rattle.exb_changing.specs.Plans.Between.{goes_up, goes_down, refusal_between, fresh_sets, gone_groups}
-use Rattle.exb_changing.specs.Plans.Plans.{with_channel, fresh_groups, prepare_of, cleanup_of, claimed, change_of, decision, decision_by, held_after, held_by_cause}
-use Rattle.exb_plan.specs.Working.{AreLimited, IsAlike, CanClaim, CanClaimUp, HasUp, SpacesOf, AreClaimed, IsLaterBy, AreGiven, claimed_by, change_by, change_with}
-use Rattle.exb_changing.specs.Plans.Making.{AreFresh, refusal_by}
-use Rattle.exb_changing.proofs.Plans.Fresh.{fresh_can}
-use Rattle.exb_changing.proofs.Plans.NotShort.{refusal_is, none_short, fresh_with}
+use Rattle.exb_control_spec.specs.Plans.Sets.{PortsAt, sets_of}
+use Rattle.exb_control_spec.specs.declared.plan.change.Decision.TheVariants.{Refused, Ready}
+use Rattle.exb_control_spec.specs.Plans.HeldNumbers.{Held, Group, HoldsNeeded, channel_used}
+use Rattle.exb_plan.specs.SpaceContents.{held_by, HasSpaces}
+use Rattle.exb_control_spec.specs.Plans.Differences.{goes_up, goes_down, refusal_between, fresh_sets, gone_groups}
+use Rattle.exb_control_spec.specs.Plans.Plans.{with_channel, fresh_groups, prepare_of, cleanup_of, claimed, change_of, decision, decision_by, held_after, held_by_cause}
+use Rattle.exb_plan.specs.PlanValues.{AreLimited, IsAlike, CanClaim, CanClaimUp, HasUp, SpacesOf, AreClaimed, IsLaterBy, AreGiven, claimed_by, change_by, change_with}
+use Rattle.exb_control_spec.specs.Plans.FreshSets.{AreFresh, refusal_by}
+use Rattle.exb_control_spec.proofs.Plans.FreshSets.{fresh_can}
+use Rattle.exb_control_spec.proofs.Plans.Sufficiency.{refusal_is, none_short, fresh_with}
 use Rattle.exb_plan.proofs.ChannelClaims.{can_claim_up}
-use Rattle.exb_plan.proofs.Placing.{placed_fresh, are_given}
+use Rattle.exb_plan.proofs.FreshGroups.{placed_fresh, are_given}
 use Rattle.exb_plan.proofs.ClaimLoop.{alike_limited, alike_placed}
 
 -- ---- the spaces

@@ -1,10 +1,10 @@
 pub mod Branches
 pub mod Parts
-pub mod Spaces
-pub mod Working
-pub mod Counted
+pub mod SpaceContents
+pub mod PlanValues
+pub mod UseCounts
 pub mod TouchedSources
-pub mod Rising
+pub mod RisingNumbers
 pub mod Recount
 pub mod LostUses
 pub mod Decisions

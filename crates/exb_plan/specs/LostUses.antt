@@ -1,10 +1,10 @@
 -- Groups that lose their last use.
 use Rattle.std.specs.Prelude.{◌≡◌, ℕ, ◌<◌, ◌≤◌, ◌==◌, ◌&&◌, Bool, true, List, nat_lt}
-use Rattle.exb_changing.specs.Plans.Held.{Held, group_used}
-use Rattle.exb_changing.specs.Plans.Between.{is_gone}
-use Rattle.exb_changing.specs.Plans.Sets.{PortsAt}
-use Rattle.exb_plan.specs.Counted.{count_at}
-use Rattle.exb_plan.specs.Rising.{is_among}
+use Rattle.exb_control_spec.specs.Plans.HeldNumbers.{Held, group_used}
+use Rattle.exb_control_spec.specs.Plans.Differences.{is_gone}
+use Rattle.exb_control_spec.specs.Plans.Sets.{PortsAt}
+use Rattle.exb_plan.specs.UseCounts.{count_at}
+use Rattle.exb_plan.specs.RisingNumbers.{is_among}
 use Rattle.exb_plan.specs.Recount.{parts_at}
 
 -- one of the parts is the set of group g at bridge port k, from 0, and it has no use any more

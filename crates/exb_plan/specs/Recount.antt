@@ -2,11 +2,11 @@
 use Rattle.std.specs.Prelude.{◌≡◌, ℕ, ◌+◌, ◌-◌, ◌<◌, ◌≤◌, true, List, [], Some, length, slice_index_or, if◌then◌else◌}
 use Rattle.exb_model.specs.Refusals.{is_empty_set}
 use Rattle.exb_numbers.specs.Spaces.{Spaces, has_space}
-use Rattle.exb_changing.specs.Plans.Sets.{PortsAt}
-use Rattle.exb_changing.specs.Plans.Held.{Held, group_in, group_used}
-use Rattle.exb_plan.specs.Spaces.{held_by}
-use Rattle.exb_changing.specs.Plans.Touched.{uses_in}
-use Rattle.exb_plan.specs.Counted.{count_at}
+use Rattle.exb_control_spec.specs.Plans.Sets.{PortsAt}
+use Rattle.exb_control_spec.specs.Plans.HeldNumbers.{Held, group_in, group_used}
+use Rattle.exb_plan.specs.SpaceContents.{held_by}
+use Rattle.exb_control_spec.specs.Plans.TouchedParts.{uses_in}
+use Rattle.exb_plan.specs.UseCounts.{count_at}
 
 -- how often the set of group g at bridge port k, from 0, stands among parts; that of a free group doesn't
 abbrev pub parts_at : Held → List PortsAt → ℕ → ℕ → ℕ

@@ -4,11 +4,11 @@ use Rattle.exb_model.specs.declared.command.Command.{Command}
 use Rattle.exb_model.specs.Tree.{Shape}
 use Rattle.exb_model.specs.Configuration.{Bridge, after}
 use Rattle.exb_plan.specs.Parts.{has_ports}
-use Rattle.exb_changing.specs.Plans.Sets.{seen}
-use Rattle.exb_changing.specs.Plans.Held.{Held}
-use Rattle.exb_changing.specs.Plans.Between.{fresh_sets}
-use Rattle.exb_changing.specs.Plans.Making.{has_group}
-use Rattle.exb_changing.specs.Plans.Touched.{parts_before, parts_after}
+use Rattle.exb_control_spec.specs.Plans.Sets.{seen}
+use Rattle.exb_control_spec.specs.Plans.HeldNumbers.{Held}
+use Rattle.exb_control_spec.specs.Plans.Differences.{fresh_sets}
+use Rattle.exb_control_spec.specs.Plans.FreshSets.{has_group}
+use Rattle.exb_control_spec.specs.Plans.TouchedParts.{parts_before, parts_after}
 use Rattle.exb_plan.specs.declared.touched_sets.TouchedSets.{TouchedSets}
 
 -- the parts with a port before the command and after it, those of the latter without a group, and the sets that the

@@ -5,7 +5,7 @@ use Rattle.exb_model.specs.declared.command.Command.{Command}
 use Rattle.exb_model.specs.declared.command.Command.TheVariants as command
 use Rattle.exb_model.specs.Configuration.{Bridge, is_for}
 use Rattle.exb_model.specs.Refusals.{Source, all_vids, both_kinds}
-use Rattle.exb_changing.specs.Plans.Touched.{has_port, sources_of_entry}
+use Rattle.exb_control_spec.specs.Plans.TouchedParts.{has_port, sources_of_entry}
 
 -- ---- touched sources of a command that neither puts nor removes an entry, or of the entry that it removes
 unfoldable pub sources_of_vlans : List Source

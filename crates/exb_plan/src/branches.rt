@@ -3,7 +3,7 @@ ghost use Rattle.std.specs.Prelude.{◌≡◌, ◌≢◌, ◌<◌, ◌==◌, ◌
 ghost use Rattle.exb_model.specs.Ports.{port_in};
 ghost use Rattle.exb_plan.specs.Branches.{AreTrunks, AreBranches};
 
-use crate::view::View;
+use crate::config_view::View;
 use exb_model::port::DEVICES;
 use exb_model::port_set::PortSet;
 use exb_model::tree::Tree;

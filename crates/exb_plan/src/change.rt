@@ -1,16 +1,16 @@
 //! The plan of a change.
 ghost use Rattle.std.specs.Prelude.{◌≡◌, map, IfOk, OnOk, OnErr};
 ghost use Rattle.exb_model.specs.Setup.{Limits};
-ghost use Rattle.exb_changing.specs.Plans.Sets.{seen};
-ghost use Rattle.exb_plan.specs.Spaces.{held_by, HasSpaces};
-ghost use Rattle.exb_changing.specs.Plans.Plans.{own_channel, new_channel, with_channel, without_channel, freed_channel, number_of, prepare_with, cleanup_with};
-ghost use Rattle.exb_changing.specs.Plans.Making.{seen_group, IsAnyExtended};
-ghost use Rattle.exb_plan.specs.Working.{IsAlike, CanClaim, CanClaimUp, HasUp, SpacesOf, prepare_by, claimed_by, change_with};
+ghost use Rattle.exb_control_spec.specs.Plans.Sets.{seen};
+ghost use Rattle.exb_plan.specs.SpaceContents.{held_by, HasSpaces};
+ghost use Rattle.exb_control_spec.specs.Plans.Plans.{own_channel, new_channel, with_channel, without_channel, freed_channel, number_of, prepare_with, cleanup_with};
+ghost use Rattle.exb_control_spec.specs.Plans.FreshSets.{seen_group, IsAnyExtended};
+ghost use Rattle.exb_plan.specs.PlanValues.{IsAlike, CanClaim, CanClaimUp, HasUp, SpacesOf, prepare_by, claimed_by, change_with};
 
-use crate::asks::{put_create, put_delete};
 use crate::claims::{claim_channel, claim_groups, free_channel, free_groups};
-use crate::group_asks::put_groups;
-use exb_changing::{Change, GroupAt, Number, SetAt, Step};
+use crate::group_requests::put_groups;
+use crate::request_messages::{put_create, put_delete};
+use exb_control_spec::{Change, GroupAt, Number, RowAction, SetAt};
 use exb_csp::AskAt;
 use exb_model::list::List;
 use exb_model::memory::NoMemory;
@@ -80,7 +80,7 @@ pub(crate) fn cleanup(
     ensures { IfOk result (λ made. made ≡ cleanup_with tree.now channel down.now (map seen_group gone.now)) }
 {
     let mut asks = List::new(alloc);
-    put_groups(alloc, tree, Step::Clear, gone, &mut asks)?;
+    put_groups(alloc, tree, RowAction::Clear, gone, &mut asks)?;
     if let Some(port) = down {
         put_delete(alloc, tree, *port, channel, &mut asks)?;
     }
@@ -101,7 +101,7 @@ pub(crate) fn prepare(
     if let Some(port) = up {
         put_create(alloc, tree, *port, false, channel, &mut asks)?;
     }
-    put_groups(alloc, tree, Step::Lay, fresh, &mut asks)?;
+    put_groups(alloc, tree, RowAction::Lay, fresh, &mut asks)?;
     Ok(asks)
 }
 

@@ -2,13 +2,13 @@
 ghost use Rattle.std.specs.Prelude.{◌≡◌, ℕ, ◌-◌, ◌/◌, ◌≤◌, [], true, None, map, length, vec_capacity};
 ghost use Rattle.exb_model.specs.Tree.{trunk, is_extender};
 ghost use Rattle.exb_numbers.specs.Spaces.{has_space, groups_at};
-ghost use Rattle.exb_changing.specs.Plans.Sets.{seen};
-ghost use Rattle.exb_changing.specs.Plans.Held.{Held, group_for, group_used, give, take_back, free_channel, channel_used, give_channel, free_port_of};
-ghost use Rattle.exb_plan.specs.Spaces.{held_by};
-ghost use Rattle.exb_changing.specs.Plans.Making.{seen_group, IsFresh};
-ghost use Rattle.exb_plan.specs.Working.{IsPlaced, CanClaim, AreLimited, AreClaimed, IsLaterBy, IsAlike, CanClaimChannel, channel_limit};
+ghost use Rattle.exb_control_spec.specs.Plans.Sets.{seen};
+ghost use Rattle.exb_control_spec.specs.Plans.HeldNumbers.{Held, group_for, group_used, give, take_back, free_channel, channel_used, give_channel, free_port_of};
+ghost use Rattle.exb_plan.specs.SpaceContents.{held_by};
+ghost use Rattle.exb_control_spec.specs.Plans.FreshSets.{seen_group, IsFresh};
+ghost use Rattle.exb_plan.specs.PlanValues.{IsPlaced, CanClaim, AreLimited, AreClaimed, IsLaterBy, IsAlike, CanClaimChannel, channel_limit};
 
-use exb_changing::{GroupAt, SetAt};
+use exb_control_spec::{GroupAt, SetAt};
 use exb_model::port::PortId;
 use exb_model::tree::Tree;
 use exb_numbers::Spaces;

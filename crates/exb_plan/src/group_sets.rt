@@ -5,12 +5,12 @@ ghost use Rattle.exb_model.specs.Tree.{Shape};
 ghost use Rattle.exb_model.specs.Refusals.{all_vids, both_kinds};
 ghost use Rattle.exb_config.specs.Tables.{bridge_of};
 ghost use Rattle.exb_plan.specs.Branches.{AreBranches, IsAmong};
-ghost use Rattle.exb_changing.specs.Plans.Sets.{with_set_at, parts_below, sets_of, seen};
+ghost use Rattle.exb_control_spec.specs.Plans.Sets.{with_set_at, parts_below, sets_of, seen};
 
 use crate::branches::Branches;
 use crate::parts::put_kinds;
-use exb_changing::SetAt;
 use exb_config::Config;
+use exb_control_spec::SetAt;
 use exb_model::memory::NoMemory;
 use exb_model::port_set::PortSet;
 use exb_model::tree::Tree;

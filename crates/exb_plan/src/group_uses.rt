@@ -1,9 +1,9 @@
 //! How often the set of each group is a part of a configuration.
 ghost use Rattle.std.specs.Prelude.{◌≡◌, ◌^◌, ℕ, ◌+◌, ◌-◌, ◌<◌, ◌≤◌, ◌==◌, ◌&&◌, ◌++◌, true, [], length, replicate, slice_index_or, slice_set, vec_capacity, if◌then◌else◌, IfOk, IsOk, OnOk, OnErr};
 ghost use Rattle.exb_model.specs.Tree.{is_cascade};
-ghost use Rattle.exb_plan.specs.Counted.{count_in, count_at, used_in, used_at};
+ghost use Rattle.exb_plan.specs.UseCounts.{count_in, count_at, used_in, used_at};
 
-use crate::groups::is_cascade;
+use crate::cascade_ports::is_cascade;
 use exb_model::memory::NoMemory;
 use exb_model::tree::Tree;
 use std::alloc::Global;
@@ -36,7 +36,7 @@ struct SpaceUses {
 
 impl Model for SpaceUses {
     ghost use Rattle.std.specs.Prelude.{◌≡◌, ℕ, ◌≤◌, List, length, count_by, nat_lt, vec_capacity};
-    ghost use Rattle.exb_plan.specs.Counted.{padded};
+    ghost use Rattle.exb_plan.specs.UseCounts.{padded};
 
     ghost Value = { List ℕ };
 

@@ -7,11 +7,11 @@ ghost use Rattle.exb_model.specs.Configuration.{Bridge};
 ghost use Rattle.exb_model.specs.Refusals.{Source, both_kinds};
 ghost use Rattle.exb_plan.specs.Branches.{AreBranches, IsPart, IsAmong};
 ghost use Rattle.exb_plan.specs.Parts.{has_ports, Adds};
-ghost use Rattle.exb_changing.specs.Plans.Sets.{parts_of, seen};
+ghost use Rattle.exb_control_spec.specs.Plans.Sets.{parts_of, seen};
 
 use crate::branches::Branches;
-use crate::view::View;
-use exb_changing::SetAt;
+use crate::config_view::View;
+use exb_control_spec::SetAt;
 use exb_model::memory::NoMemory;
 use exb_model::port_set::PortSet;
 use exb_model::vlan::{Kind, Vid};

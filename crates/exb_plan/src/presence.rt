@@ -3,7 +3,7 @@ ghost use Rattle.std.specs.Prelude.{◌≡◌};
 ghost use Rattle.exb_model.specs.declared.command.Command.TheVariants as command;
 ghost use Rattle.exb_model.specs.Configuration.{after};
 ghost use Rattle.exb_config.specs.Tables.{bridge_of};
-ghost use Rattle.exb_changing.specs.Plans.Between.{goes_up, goes_down};
+ghost use Rattle.exb_control_spec.specs.Plans.Differences.{goes_up, goes_down};
 
 use exb_config::Config;
 use exb_model::command::Command;

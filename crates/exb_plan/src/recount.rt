@@ -1,16 +1,16 @@
 //! How the uses of groups follow the parts that go and come.
 ghost use Rattle.std.specs.Prelude.{◌≡◌, ◌^◌, ℕ, ◌-◌, ◌<◌, [], ◌∷◌, Some, map, IsOk, OnOk};
 ghost use Rattle.std.specs.List.{All};
-ghost use Rattle.exb_changing.specs.Plans.Sets.{seen};
-ghost use Rattle.exb_plan.specs.Spaces.{held_by};
-ghost use Rattle.exb_changing.specs.Plans.Held.{group_in};
-ghost use Rattle.exb_plan.specs.Working.{IsPlaced};
-ghost use Rattle.exb_plan.specs.Counted.{count_at};
+ghost use Rattle.exb_control_spec.specs.Plans.Sets.{seen};
+ghost use Rattle.exb_plan.specs.SpaceContents.{held_by};
+ghost use Rattle.exb_control_spec.specs.Plans.HeldNumbers.{group_in};
+ghost use Rattle.exb_plan.specs.PlanValues.{IsPlaced};
+ghost use Rattle.exb_plan.specs.UseCounts.{count_at};
 ghost use Rattle.exb_plan.specs.Recount.{AreOwn, HavePlaces, HaveRowsOf, AreRaised, AreLowered, AreEnough, AreUnused};
 
+use crate::group_guesses::Guesses;
 use crate::group_uses::GroupUses;
-use crate::guesses::Guesses;
-use exb_changing::SetAt;
+use exb_control_spec::SetAt;
 use exb_model::memory::NoMemory;
 use exb_numbers::Spaces;
 

@@ -5,9 +5,9 @@ ghost use Rattle.exb_model.specs.Setup.{Limits};
 ghost use Rattle.exb_model.specs.Refusals.{present_under, channels_short};
 ghost use Rattle.exb_config.specs.Tables.{bridge_of};
 ghost use Rattle.exb_numbers.specs.Spaces.{has_space};
-ghost use Rattle.exb_plan.specs.Spaces.{HasSpaces};
+ghost use Rattle.exb_plan.specs.SpaceContents.{HasSpaces};
 
-use crate::below::{cascades_under, is_under};
+use crate::ports_below::{cascades_under, is_under};
 use exb_config::Config;
 use exb_model::event::Cause;
 use exb_model::port::{PORTS, PortId};

@@ -1,9 +1,9 @@
 //! The rows of a set of ports.
 ghost use Rattle.std.specs.Prelude.{◌≡◌, IfOk};
 ghost use Rattle.exb_model.specs.Ports.{port_in};
-ghost use Rattle.exb_changing.specs.Plans.Rows.{rows_of};
+ghost use Rattle.exb_control_spec.specs.Plans.Rows.{rows_of};
 
-use exb_changing::Row;
+use exb_control_spec::Row;
 use exb_model::memory::NoMemory;
 use exb_model::port_set::PortSet;
 use exb_model::tree::Tree;

@@ -3,14 +3,14 @@ ghost use Rattle.std.specs.Prelude.{◌≡◌, ◌^◌, ℕ, ◌+◌, ◌-◌, �
 ghost use Rattle.exb_model.specs.Tree.{is_cascade};
 ghost use Rattle.exb_model.specs.Setup.{Limits};
 ghost use Rattle.exb_numbers.specs.Spaces.{has_space};
-ghost use Rattle.exb_changing.specs.Plans.Sets.{PortsAt, seen};
-ghost use Rattle.exb_plan.specs.Working.{AreLimited};
-ghost use Rattle.exb_changing.specs.Plans.Making.{how_many, is_at, short_by, short_at};
-ghost use Rattle.exb_plan.specs.Counted.{used_at};
+ghost use Rattle.exb_control_spec.specs.Plans.Sets.{PortsAt, seen};
+ghost use Rattle.exb_plan.specs.PlanValues.{AreLimited};
+ghost use Rattle.exb_control_spec.specs.Plans.FreshSets.{how_many, is_at, short_by, short_at};
+ghost use Rattle.exb_plan.specs.UseCounts.{used_at};
 
+use crate::cascade_ports::is_cascade;
 use crate::group_uses::GroupUses;
-use crate::groups::is_cascade;
-use exb_changing::SetAt;
+use exb_control_spec::SetAt;
 use exb_model::event::Cause;
 use exb_model::tree::Tree;
 use exb_numbers::Spaces;

@@ -2,18 +2,18 @@
 ghost use Rattle.std.specs.Prelude.{◌≡◌, not, filter, map, IfOk};
 ghost use Rattle.std.specs.List.{All};
 ghost use Rattle.exb_config.specs.Tables.{bridge_of};
-ghost use Rattle.exb_changing.specs.Plans.Sets.{seen};
-ghost use Rattle.exb_plan.specs.Spaces.{held_by};
-ghost use Rattle.exb_changing.specs.Plans.Held.{HoldsNeeded};
-ghost use Rattle.exb_plan.specs.Working.{IsPlaced, SpacesOf};
-ghost use Rattle.exb_changing.specs.Plans.Making.{has_group};
+ghost use Rattle.exb_control_spec.specs.Plans.Sets.{seen};
+ghost use Rattle.exb_plan.specs.SpaceContents.{held_by};
+ghost use Rattle.exb_control_spec.specs.Plans.HeldNumbers.{HoldsNeeded};
+ghost use Rattle.exb_plan.specs.PlanValues.{IsPlaced, SpacesOf};
+ghost use Rattle.exb_control_spec.specs.Plans.FreshSets.{has_group};
 ghost use Rattle.exb_plan.specs.TouchedSets.{AreTouched};
 
+use crate::group_guesses::Guesses;
 use crate::group_sets::each_once;
-use crate::guesses::Guesses;
-use crate::touched::parts_around;
-use exb_changing::SetAt;
+use crate::touched_parts::parts_around;
 use exb_config::Config;
+use exb_control_spec::SetAt;
 use exb_model::command::Command;
 use exb_model::memory::NoMemory;
 use exb_model::tree::Tree;

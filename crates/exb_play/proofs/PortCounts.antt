@@ -3,24 +3,24 @@ use Rattle.std.proofs.Common.{ℕ, ◌^◌, ◌<◌, ◌≤◌, List, length, ap
 use Rattle.exb_model.specs.declared.event.Event.{Event}
 use Rattle.exb_model.specs.Input.{Input, Mode, Segment}
 use Rattle.exb_counters.specs.Counters.{octets_of}
-use Rattle.exb_counters.specs.Counting.{FitsCounts, nothing, plus_events}
-use Rattle.exb_machine.specs.Runs.Passed.{StepsTellPassed}
-use Rattle.exb_machine.specs.Stepping.{Stepped}
-use Rattle.exb_machine.specs.Worlds.{Left as Leaving, left_at}
-use Rattle.exb_boxes.specs.declared.log.Log.{Log}
-use Rattle.exb_network.specs.Networks.{Network}
-use Rattle.exb_bridge.specs.Worlds.{all_left}
-use Rattle.exb_motion.specs.Runs.Playing.{RunsAreFew, RunsAreUnderWay, arrivals_in}
-use Rattle.exb_play.specs.Playing.{HasTold, Told, ◌with◌}
-use Rattle.exb_text.specs.Tallies.{counts_of, nothing_counted}
-use Rattle.exb_writers.specs.declared.counted.Counted.{Counted}
-use Rattle.exb_writers.specs.Counts.{CanCount, GoTogether, IsCounted}
+use Rattle.exb_counters.specs.CounterUpdates.{FitsCounts, nothing, plus_events}
+use Rattle.exb_world_spec.specs.Runs.PassedFrames.{StepsTellPassed}
+use Rattle.exb_world_spec.specs.Steps.{Stepped}
+use Rattle.exb_world_spec.specs.Worlds.{Left as Leaving, left_at}
+use Rattle.exb_outbox.specs.declared.log.Log.{Log}
+use Rattle.exb_world.specs.WorldContracts.{Network}
+use Rattle.exb_bridge.specs.BridgeWorlds.{all_left}
+use Rattle.exb_world_laws.specs.Runs.SegmentRuns.{RunsAreFew, RunsAreUnderWay, arrivals_in}
+use Rattle.exb_play.specs.BridgeRuns.{HasTold, Told, ◌with◌}
+use Rattle.exb_journal.specs.Tallies.{counts_of, nothing_counted}
+use Rattle.exb_outputs.specs.declared.run_counts.RunCounts.{RunCounts}
+use Rattle.exb_outputs.specs.Counts.{CanCount, GoTogether, IsCounted}
 use Rattle.exb_outputs.specs.Manifests.{Listed}
-use Rattle.exb_outputs.specs.Sent.{capture_size}
-use Rattle.exb_play.specs.UnderWay.{CanFollow}
-use Rattle.exb_writers.proofs.Counting.{count_events}
-use Rattle.exb_play.proofs.Telling.{tally-fits}
-use Rattle.exb_writers.proofs.PortCounts.{run_together, relayed_few, ignored_few, drops_few, octets_few, ports-can}
+use Rattle.exb_outputs.specs.CaptureSizes.{capture_size}
+use Rattle.exb_play.specs.RunInvariants.{CanFollow}
+use Rattle.exb_outputs.proofs.HistoryCounts.{count_events}
+use Rattle.exb_play.proofs.ToldSegments.{tally-fits}
+use Rattle.exb_outputs.proofs.PortCounts.{run_together, relayed_few, ignored_few, drops_few, octets_few, ports-can}
 
 pub played_together : StepsTellPassed → (m : Mode) (i : Input) (so_far : List Segment) (n : Network) (t : Told) →
     HasTold m i so_far n t → GoTogether t.events t.passed
@@ -61,7 +61,7 @@ sizes-fit m i so_far n t law way arrivals p q =
     let bytes = ap (λ (xs : List Leaving). octets_of (left_at q xs)) p.gone in
     omega (arith, at, bytes, short, frames, arrivals)
 
-pub can-count : (m : Mode) (i : Input) (manifest : Listed) (so_far : List Segment) (n : Network) (c : Counted) (t : Told) (log : Log) → StepsTellPassed → RunsAreFew → CanFollow i so_far →
+pub can-count : (m : Mode) (i : Input) (manifest : Listed) (so_far : List Segment) (n : Network) (c : RunCounts) (t : Told) (log : Log) → StepsTellPassed → RunsAreFew → CanFollow i so_far →
     HasTold m i so_far n (t with log) → IsCounted manifest c t.events t.passed t.left → GoTogether t.events t.passed → CanCount c log.events log.passed (length (all_left log.left))
 can-count m i manifest so_far n c t log steps few follows played are together = record {
   tally = tally-fits m i so_far n t log (counts_of c.tally) few follows played are.tally;

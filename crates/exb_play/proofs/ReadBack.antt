@@ -16,11 +16,11 @@ use Rattle.exb_model.specs.Refusals.{refusal}
 use Rattle.exb_model.specs.Setup.{Limits}
 use Rattle.exb_model.specs.Tree.{Shape, opening_ports}
 use Rattle.exb_model.proofs.LegalPlays.{all_arrivals}
-use Rattle.exb_legal.specs.Inputs.{IsInTime, RelayFits}
-use Rattle.exb_legal.specs.Reading.{Each}
-use Rattle.exb_legal.specs.TextLaws.{IsOfNumbers}
-use Rattle.exb_motion.specs.Runs.Playing.{arrivals_in}
-use Rattle.exb_play.specs.Playing.{CanBeKept}
+use Rattle.exb_trace_spec.specs.InputFrames.{IsInTime, RelayFits}
+use Rattle.exb_trace_spec.specs.Traversals.{Each}
+use Rattle.exb_trace_spec.specs.RoundTrips.{IsOfNumbers}
+use Rattle.exb_world_laws.specs.Runs.SegmentRuns.{arrivals_in}
+use Rattle.exb_play.specs.BridgeRuns.{CanBeKept}
 
 -- ---- numbers
 numbers-behind : (h : History) (es : List Event) → All IsOfNumbers h → All IsOfNumbers es → All IsOfNumbers (h then es)

@@ -1,6 +1,6 @@
 -- What a shelf means, as one value, and what calls may touch of it.
 use Rattle.std.specs.Prelude.{◌≡◌, ◌≢◌, ◌<◌, ℕ, List}
-use Rattle.exb_merge.specs.Replays.{ReadsOn}
+use Rattle.exb_timeline.specs.CaptureMerges.{ReadsOn}
 use Rattle.exb_outputs.specs.Manifests.{Listed, output_count, output_name}
 use Rattle.exb_shelf.specs.Files.{Files}
 use Rattle.exb_shelf.specs.Shelf.{Faults, Id, NoFewer}

@@ -1,8 +1,8 @@
 pub mod Disks
 pub mod Faults
-pub mod Playing
-pub mod Here
-pub mod UnderWay
-pub mod Shelving
+pub mod BridgeRuns
+pub mod PlayerViews
+pub mod RunInvariants
+pub mod ShelfEffects
 pub mod Outputs
-pub mod Parts
+pub mod PartialOutputs

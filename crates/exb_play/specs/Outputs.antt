@@ -8,13 +8,13 @@ use Rattle.exb_model.specs.Setup.{IsValid}
 use Rattle.exb_model.specs.Texts.{summary}
 use Rattle.exb_model.specs.Traces.{TraceLine}
 use Rattle.exb_shelf.specs.Files.{Files, Filled}
-use Rattle.exb_legal.specs.LegalTrace.{LegalTrace}
-use Rattle.exb_legal.specs.Inputs.{RelayFits, frames_in, frames_out}
-use Rattle.exb_legal.specs.Spelled.{HasBytes}
-use Rattle.exb_legal.specs.TextLaws.{IsOfNumbers}
-use Rattle.exb_legal.specs.Entries.{journal_of}
+use Rattle.exb_trace_spec.specs.LegalTrace.{LegalTrace}
+use Rattle.exb_trace_spec.specs.InputFrames.{RelayFits, frames_in, frames_out}
+use Rattle.exb_trace_spec.specs.WritableLines.{HasBytes}
+use Rattle.exb_trace_spec.specs.RoundTrips.{IsOfNumbers}
+use Rattle.exb_trace_spec.specs.JournalLines.{journal_of}
 use Rattle.exb_outputs.specs.Manifests.{Listed, kind_at, output_count, output_name}
-use Rattle.exb_writers.specs.Texts.{output_text}
+use Rattle.exb_outputs.specs.KindTexts.{output_text}
 
 -- a legal trace of a history, of the frames of the captures, and of those that the one flat bridge sends
 abbrev pub IsTraceOf : Input → History → List TraceLine → Type 0

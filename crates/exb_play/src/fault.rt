@@ -1,8 +1,8 @@
 //! Why playing ends before its end.
 ghost use Rattle.std.specs.Prelude.{◌≡◌};
 
-use exb_merge::CaptureFault;
 use exb_shelf::ShelfFault;
+use exb_timeline::CaptureFault;
 
 /// Why playing ends before its end.
 #[derive(Clone, Copy)]

@@ -1,21 +1,21 @@
 //! What comes in one segment: one event, or all of one second.
 ghost use Rattle.std.specs.Prelude.{◌≡◌, ◌++◌, ◌∷◌, [], true, false, IfOk, OnOk, IfErr, IfSome, IfNone};
 ghost use Rattle.exb_play.specs.Disks.{disk};
-ghost use Rattle.exb_play.specs.Playing.{mode_of};
-ghost use Rattle.exb_play.specs.UnderWay.{CanFeed, HasTakenSecond, IsGathered, IsTaken, NoMoreIn, NothingIsLeft, ReadsAgain};
+ghost use Rattle.exb_play.specs.BridgeRuns.{mode_of};
+ghost use Rattle.exb_play.specs.RunInvariants.{CanFeed, HasTakenSecond, IsGathered, IsTaken, NoMoreIn, NothingIsLeft, ReadsAgain};
 
 use crate::script::Schedule;
-use exb_merge::{CaptureFault, Next, Programme};
 use exb_model::arrival::Arrival;
 use exb_model::moment::SECOND;
 use exb_shelf::Shelf;
+use exb_timeline::{CaptureFault, Next, Timeline};
 use std::alloc::Global;
 use std::mem;
 
 /// What is still to come, what came of it for one segment, and what came for the one before, of which the buffers are used again.
 #[derive(Drop)]
 pub(crate) struct Feed<'a> {
-    pub(crate) programme: Programme<'a>,
+    pub(crate) programme: Timeline<'a>,
     pub(crate) gathered: Vec<Arrival>,
     pub(crate) played: Vec<Arrival>,
 }

@@ -7,15 +7,15 @@
 //! written of it and counted), `script` (what is played, and how).
 #![tactic(auto)]
 
+mod bridge_player;
 mod fault;
 mod feed;
-mod game;
-mod playing;
-mod run;
+mod ghost_run;
+mod input_fault;
 mod script;
-mod whole;
+mod segments;
 
 pub use fault::PlayFault;
-pub use playing::play;
-pub use run::OfRun;
+pub use ghost_run::OfRun;
 pub use script::{Schedule, Script};
+pub use segments::play;

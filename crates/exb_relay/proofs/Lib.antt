@@ -1,14 +1,14 @@
 mod Lists
-pub mod Under
-mod Choosing
-mod Sets
-pub mod Words
-mod Leaving
-mod Flat
-mod Each
-mod Steps
-mod Relaying
-mod BelowWords
-mod Ways
-mod Hearing
-mod Passing
+pub mod PortsBelow
+mod TargetChoice
+mod FrameSets
+pub mod TaggedFrames
+mod TreeEgress
+mod FlatOutput
+mod EachSend
+mod PortSends
+mod RelayParts
+mod HearersBelow
+mod BridgePortBits
+mod PassedHearers
+mod IngressSteps

@@ -14,13 +14,13 @@ use Rattle.exb_model.specs.FlatBridge.{sent_by}
 use Rattle.exb_config.specs.Pvids.{HasPvids}
 use Rattle.exb_frame.specs.declared.etag.ETag.{ETag}
 use Rattle.exb_frame.specs.TagValues.{tag_of}
-use Rattle.exb_relay.specs.declared.choice.Choice.TheVariants.{Learned}
+use Rattle.exb_relay.specs.declared.choice.EgressChoice.TheVariants.{Learned}
 use Rattle.exb_relay.specs.declared.send.SendTo.{SendTo}
 use Rattle.exb_model.specs.Numbers.{Numbers, IsReady, IsNumbering, has_set}
 use Rattle.exb_relay.specs.Choices.{choice, is_chosen_in}
 use Rattle.exb_relay.specs.Sends.{ingress_at, channel_word, sends_of, pcp_of, dei_of}
 use Rattle.exb_model.specs.Carriage.{Carries}
-use Rattle.exb_relay.specs.Leaving.{all_leaving}
+use Rattle.exb_relay.specs.TreeEgress.{all_leaving}
 
 -- ---- the choice is that of the one bridge
 abbrev pub ChoiceIsTheBridges : Type 0

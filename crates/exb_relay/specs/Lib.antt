@@ -1,6 +1,6 @@
 pub mod Choices
 pub mod Sends
-pub mod Words
+pub mod SendsBySource
 pub mod Spaces
-pub mod Leaving
+pub mod TreeEgress
 pub mod Laws

@@ -14,8 +14,8 @@ use Rattle.exb_model.specs.Learning.{Look, passes}
 use Rattle.exb_model.specs.Targets.{target}
 use Rattle.exb_model.specs.Refusals.{part, without_isolated, is_empty_set, bridge_ports}
 use Rattle.exb_frame.specs.declared.etag.ETag.{ETag}
-use Rattle.exb_relay.specs.declared.choice.Choice.{Choice}
-use Rattle.exb_relay.specs.declared.choice.Choice.TheVariants.{All, Listed, Learned}
+use Rattle.exb_relay.specs.declared.choice.EgressChoice.{EgressChoice}
+use Rattle.exb_relay.specs.declared.choice.EgressChoice.TheVariants.{All, Listed, Learned}
 use Rattle.exb_relay.specs.declared.send.Ingress.{Ingress}
 use Rattle.exb_relay.specs.declared.send.Ingress.TheVariants as ingress
 use Rattle.exb_relay.specs.declared.send.SendTo.{SendTo}
@@ -86,7 +86,7 @@ channel_word t m p f k r None = []
 channel_word t m p f k r (Some kind) = words_to t m p f k kind (m.channel k r)
 
 -- the words that go down at bridge port k
-abbrev pub words_down : Shape → Bridge → Look → Numbers → ℕ → List ℕ → ℕ → Choice → ℕ → List SendTo
+abbrev pub words_down : Shape → Bridge → Look → Numbers → ℕ → List ℕ → ℕ → EgressChoice → ℕ → List SendTo
 words_down t b look m p f v All k = group_words t b m p f v (λ q. true) k
 words_down t b look m p f v (Listed ports) k = group_words t b m p f v (port_in ports) k
 words_down t b look m p f v (Learned r) k = if is_under t k r then channel_word t m p f k r (target b look p f r) else []

@@ -12,7 +12,7 @@ use exb_model::vlan::Vid;
 /// The ports of which the targets of a frame are taken (IEEE 802.1Q, clause 8.6): those of a static entry, else
 /// the learned port of its destination, else all. Contracts speak of it; no frame makes one.
 #[derive(Clone, Copy)]
-pub enum Choice {
+pub enum EgressChoice {
     All,
     Listed(PortSet),
     Learned(PortId),

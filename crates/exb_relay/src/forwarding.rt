@@ -9,15 +9,15 @@ ghost use Rattle.exb_config.specs.Tables.{bridge_of};
 ghost use Rattle.exb_learn.specs.Entries.{look_of};
 ghost use Rattle.exb_relay.specs.Spaces.{numbers_of, HasSpaces, AreExternal};
 ghost use Rattle.exb_relay.specs.Sends.{pcp_of, dei_of, ingress_at, ingress_of, sends_in, sends_of};
-ghost use Rattle.exb_relay.specs.Words.{AreMembers, IsSource, is_hearer, ingress_for, set_below, set_word, kind_at, member_in, member_sends, member_list, port_sends, learned_sends};
+ghost use Rattle.exb_relay.specs.SendsBySource.{AreMembers, IsSource, is_hearer, ingress_for, set_below, set_word, kind_at, member_in, member_sends, member_list, port_sends, learned_sends};
 
-use crate::below::{below, has_below, ways};
 use crate::choice::learned_port;
 use crate::hearers::Hearers;
+use crate::hearers_below::{below, has_below, ways};
 use crate::ingress::{admit, claimed, dei_of, pcp_of};
 use crate::members::{every_port, kind_at};
 use crate::send::{Ingress, SendTo};
-use crate::sending::{send_at_once, send_word};
+use crate::send_list::{send_at_once, send_word};
 use crate::source::{Passed, Source, Uplink};
 use arrayvec::ArrayVec;
 use exb_config::Config;

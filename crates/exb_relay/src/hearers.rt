@@ -1,7 +1,7 @@
 //! The ports to which a frame may go.
 ghost use Rattle.std.specs.Prelude.{◌≡◌, ◌+◌, ◌*◌, ◌<◌, ◌==◌, if◌then◌else◌, None};
 ghost use Rattle.exb_model.specs.Masks.{bits_of};
-ghost use Rattle.exb_relay.specs.Words.{is_hearer, kind_among};
+ghost use Rattle.exb_relay.specs.SendsBySource.{is_hearer, kind_among};
 
 use exb_config::Config;
 use exb_config::members::Members;

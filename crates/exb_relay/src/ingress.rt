@@ -4,7 +4,7 @@ ghost use Rattle.exb_model.specs.Configuration.{kind_in};
 ghost use Rattle.exb_model.specs.Learning.{accepts_tagged, accepts_untagged};
 ghost use Rattle.exb_config.specs.Tables.{bridge_of};
 ghost use Rattle.exb_relay.specs.Sends.{pcp_of, dei_of};
-ghost use Rattle.exb_relay.specs.Words.{claimed, is_let_in, AreMembers};
+ghost use Rattle.exb_relay.specs.SendsBySource.{claimed, is_let_in, AreMembers};
 
 use exb_config::Config;
 use exb_config::members::Members;

@@ -5,17 +5,17 @@
 //! `exb_frame` and `exb_model`. It takes no memory.
 #![tactic(auto)]
 
-mod below;
 pub mod choice;
 pub mod forwarding;
 mod hearers;
+mod hearers_below;
 mod ingress;
 pub mod laws;
 mod members;
 pub mod send;
-mod sending;
+mod send_list;
 mod source;
 
-pub use choice::Choice;
+pub use choice::EgressChoice;
 pub use forwarding::relay;
 pub use send::{Ingress, SendTo};

@@ -2,7 +2,7 @@
 ghost use Rattle.std.specs.Prelude.{◌≡◌, ℕ, ◌<◌, true};
 ghost use Rattle.exb_model.specs.Ports.{port_in};
 ghost use Rattle.exb_config.specs.Tables.{bridge_of};
-ghost use Rattle.exb_relay.specs.Words.{kind_at, AreMembers};
+ghost use Rattle.exb_relay.specs.SendsBySource.{kind_at, AreMembers};
 
 use crate::source::Passed;
 use exb_config::Config;

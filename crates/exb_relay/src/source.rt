@@ -1,6 +1,6 @@
 //! Where a frame comes from.
 ghost use Rattle.std.specs.Prelude.{◌≡◌, ◌<◌};
-ghost use Rattle.exb_relay.specs.Words.{ingress_for};
+ghost use Rattle.exb_relay.specs.SendsBySource.{ingress_for};
 
 use exb_config::members::Members;
 use exb_model::port::PortId;

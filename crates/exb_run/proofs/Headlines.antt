@@ -1,16 +1,16 @@
 -- The headlines, from what is done.
 use Rattle.std.proofs.Common.{◌≡◌, ◌++◌, ◌∙◌, ℕ, Bool, List, Option, Some, ap, subst}
 use Rattle.exb_shelf.specs.Files.{Files}
-use Rattle.exb_words.specs.declared.asked.Options.{Options}
-use Rattle.exb_words.specs.Words.{Ask, Run, Net}
+use Rattle.exb_cli.specs.declared.invocations.Options.{Options}
+use Rattle.exb_cli.specs.CommandLines.{Ask, Run, Net}
 use Rattle.exb_counters.specs.Counters.{count_text}
 use Rattle.exb_model.specs.Input.{tree_of}
 use Rattle.exb_model.specs.Tree.{is_external}
-use Rattle.exb_nets.specs.NetHistory.{basis_in}
+use Rattle.exb_net_spec.specs.NetHistory.{basis_in}
 use Rattle.exb_net_file.specs.declared.members.NetMember.{NetMember}
-use Rattle.exb_net_run.specs.Answers.{NetPlayed}
-use Rattle.exb_net_run.specs.Headline.{NetHeadline}
-use Rattle.exb_net_run.specs.Nets.{input_in, net_of}
+use Rattle.exb_net.specs.Answers.{NetPlayed}
+use Rattle.exb_net.specs.Headline.{NetHeadline}
+use Rattle.exb_net.specs.Nets.{input_in, net_of}
 use Rattle.exb_run.specs.Answers.{IsDone, Played, mode_for}
 use Rattle.exb_run.specs.Headline.{Headline}
 

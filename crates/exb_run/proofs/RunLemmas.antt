@@ -1,37 +1,37 @@
 -- The parts of what is asked for make the whole.
 use Rattle.std.proofs.Common.{◌≡◌, ◌⊎◌, inl, inr, ℕ, List, Option, Some, None, Ok, Err, ap, sym, refl, subst}
 use Rattle.std.specs.Prelude.{IfOk, IfErr, IsErrOf, string_bytes}
-use Rattle.exb_made.specs.Made.{made}
+use Rattle.exb_make.specs.GeneratedInputs.{made}
 use Rattle.exb_model.specs.Input.{Eager}
 use Rattle.exb_model.specs.Setup.{shape_of, limits_of}
 use Rattle.exb_model.specs.Tree.{Shape}
-use Rattle.exb_needs.specs.Lines.{lines_of}
-use Rattle.exb_needs.specs.Needed.{needs_of}
+use Rattle.exb_capacity.specs.Lines.{lines_of}
+use Rattle.exb_capacity.specs.NeededNumbers.{needs_of}
 use Rattle.exb_shelf.specs.Files.{Files, SameFiles}
 use Rattle.exb_topology.specs.declared.topology.Topology.{Topology}
-use Rattle.exb_words.specs.declared.asked.Options.{Options}
-use Rattle.exb_words.specs.Words.{Run, Check, Make, Audit}
+use Rattle.exb_cli.specs.declared.invocations.Options.{Options}
+use Rattle.exb_cli.specs.CommandLines.{Run, Check, Make, Audit}
 use Rattle.exb_inputs.specs.declared.fault.Fault.{Fault}
 use Rattle.exb_inputs.specs.declared.fault.Fault.TheVariants.{Usage, Read, Write, Memory}
 use Rattle.exb_inputs.specs.Inputs.{input_of}
 use Rattle.exb_run.specs.Outputs.{AreFrontsOf, IsPlayed}
-use Rattle.exb_outputs.specs.Names.{OnlyOutputs}
-use Rattle.exb_inputs.specs.Checks.{AreAllGood, FirstFault}
-use Rattle.exb_inputs.specs.Reading.{IsOfAudit, IsOfTopology, IsOfPlaying, IsOfPlay}
-use Rattle.exb_run.specs.Parts.{LeavesParts}
+use Rattle.exb_outputs.specs.OutputNames.{OnlyOutputs}
+use Rattle.exb_inputs.specs.CaptureChecks.{AreAllGood, FirstFault}
+use Rattle.exb_inputs.specs.FaultPhases.{IsOfAudit, IsOfTopology, IsOfPlaying, IsOfPlay}
+use Rattle.exb_run.specs.PartialOutputs.{LeavesParts}
 use Rattle.exb_run.specs.Answers.{AreFrontsIn, IsDone, IsFailure, OnlyAsked, Stops, eager_summary, mode_for}
 use Rattle.exb_inputs.specs.Answers.{HoldsTopology, IsRefused}
-use Rattle.exb_auditing.specs.Audits.{IsFoundLegal, StopsAudit}
-use Rattle.exb_auditing.specs.Scopes.{scope_of}
-use Rattle.exb_auditing.proofs.Once.{legal_not, stops_once}
+use Rattle.exb_audit_files.specs.Audits.{IsFoundLegal, StopsAudit}
+use Rattle.exb_audit_files.specs.Scopes.{scope_of}
+use Rattle.exb_audit_files.proofs.UniqueEnd.{legal_not, stops_once}
 use Rattle.exb_run.specs.Outcomes.{CameOut, IsOfMaking}
-use Rattle.exb_run.specs.Saying.{IsLegalLine}
-use Rattle.exb_writers.specs.Counts.{IsSummary}
-use Rattle.exb_inputs.proofs.Asking.{holds_once, shape_same, prefix_same}
+use Rattle.exb_run.specs.SuccessLines.{IsLegalLine}
+use Rattle.exb_outputs.specs.Counts.{IsSummary}
+use Rattle.exb_inputs.proofs.UniqueTopology.{holds_once, shape_same, prefix_same}
 use Rattle.exb_inputs.proofs.Outcomes.{Outcome}
-use Rattle.exb_run.proofs.Reporting.{run_makes}
-use Rattle.exb_run.proofs.Stopping.{stops_of}
-use Rattle.exb_inputs.proofs.Refused.{refused_once, held_not, first_of}
+use Rattle.exb_run.proofs.Reports.{run_makes}
+use Rattle.exb_run.proofs.UniqueFault.{stops_of}
+use Rattle.exb_inputs.proofs.UniqueRefusal.{refused_once, held_not, first_of}
 
 -- ---- the words are not accepted
 pub came_unaccepted : (tells : Type 0) (f : Files) → CameOut tells None (Err Usage) f f

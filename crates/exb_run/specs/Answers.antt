@@ -5,25 +5,25 @@ use Rattle.exb_model.specs.EagerHistory.{eager}
 use Rattle.exb_model.specs.Input.{Input, Mode, Eager, Seeded, basis_of, tree_of}
 use Rattle.exb_model.specs.Setup.{shape_of, limits_of}
 use Rattle.exb_model.specs.Texts.{summary}
-use Rattle.exb_made.specs.Made.{made}
-use Rattle.exb_needs.specs.Lines.{lines_of}
-use Rattle.exb_needs.specs.Needed.{needs_of}
+use Rattle.exb_make.specs.GeneratedInputs.{made}
+use Rattle.exb_capacity.specs.Lines.{lines_of}
+use Rattle.exb_capacity.specs.NeededNumbers.{needs_of}
 use Rattle.exb_shelf.specs.Files.{Files, SameFiles}
 use Rattle.exb_shelf.specs.Shelf.{Faults, Rose}
 use Rattle.exb_topology.specs.declared.topology.Topology.{Topology}
-use Rattle.exb_words.specs.declared.asked.Options.{Options}
-use Rattle.exb_words.specs.Words.{Ask, Run, Check, Make, Audit, Net, words_of}
+use Rattle.exb_cli.specs.declared.invocations.Options.{Options}
+use Rattle.exb_cli.specs.CommandLines.{Ask, Run, Check, Make, Audit, Net, words_of}
 use Rattle.exb_inputs.specs.declared.fault.Fault.{Fault}
 use Rattle.exb_inputs.specs.declared.fault.Fault.TheVariants.{Usage, Read, Write, Memory}
 use Rattle.exb_inputs.specs.Inputs.{input_of}
-use Rattle.exb_legal.specs.Rules.{IsLegal}
-use Rattle.exb_auditing.specs.Audits.{IsFoundLegal, IsSeen, Seen, StopsAudit, evidence_of}
-use Rattle.exb_auditing.specs.Scopes.{scope_of}
+use Rattle.exb_trace_spec.specs.Rules.{IsLegal}
+use Rattle.exb_audit_files.specs.Audits.{IsFoundLegal, IsSeen, Seen, StopsAudit, evidence_of}
+use Rattle.exb_audit_files.specs.Scopes.{scope_of}
 use Rattle.exb_run.specs.Outputs.{AreFrontsOf, IsPlayed}
-use Rattle.exb_outputs.specs.Names.{OnlyOutputs}
-use Rattle.exb_inputs.specs.Checks.{AreAllGood}
+use Rattle.exb_outputs.specs.OutputNames.{OnlyOutputs}
+use Rattle.exb_inputs.specs.CaptureChecks.{AreAllGood}
 use Rattle.exb_inputs.specs.Answers.{CaptureFaulty, HoldsTopology, IsRefused, fault_line, fault_status}
-use Rattle.exb_net_run.specs.Answers.{AreFrontsOfNet, CanNetBeDone, IsNetFailure, IsNetStatus, NetPlayed, NetStops, OnlyNetAsked}
+use Rattle.exb_net.specs.Answers.{AreFrontsOfNet, CanNetBeDone, IsNetFailure, IsNetStatus, NetPlayed, NetStops, OnlyNetAsked}
 
 -- ---- what is asked for
 -- what words ask for, where they are accepted

@@ -1,7 +1,7 @@
 -- The headline: what status 0 of a run says.
 use Rattle.std.specs.Prelude.{◌≡◌, ◌++◌, ℕ, true, List, None, Some, Ok}
 use Rattle.exb_counters.specs.Counters.{count_text}
-use Rattle.exb_inputs.specs.Checks.{AreAllGood}
+use Rattle.exb_inputs.specs.CaptureChecks.{AreAllGood}
 use Rattle.exb_inputs.specs.Inputs.{input_of}
 use Rattle.exb_model.specs.EagerHistory.{eager as eager_history}
 use Rattle.exb_model.specs.FlatBridge.{flat}
@@ -13,14 +13,14 @@ use Rattle.exb_model.specs.Texts.{capture_text, journal_text, summary}
 use Rattle.exb_model.specs.Traces.{TraceLine, trace_text}
 use Rattle.exb_model.specs.Tree.{is_external}
 use Rattle.exb_shelf.specs.Files.{Files}
-use Rattle.exb_text.specs.Names.{capture_name, counters_name, journal_name, trace_name}
+use Rattle.exb_journal.specs.FileNames.{capture_name, counters_name, journal_name, trace_name}
 use Rattle.exb_topology.specs.declared.topology.Topology.{Topology}
 use Rattle.exb_topology.specs.Topologies.{topology_of, topology_view}
-use Rattle.exb_words.specs.declared.asked.Options.{Options}
+use Rattle.exb_cli.specs.declared.invocations.Options.{Options}
 use Rattle.exb_run.specs.Answers.{mode_for}
 use Rattle.exb_play.specs.Outputs.{IsTraceOf}
-use Rattle.exb_outputs.specs.Names.{AreWhole, OnlyOutputs}
-use Rattle.exb_writers.specs.Texts.{output_text}
+use Rattle.exb_outputs.specs.OutputNames.{AreWhole, OnlyOutputs}
+use Rattle.exb_outputs.specs.KindTexts.{output_text}
 
 -- The file of this name holds a topology, and each capture that it names can be played. There is a history that this input allows,
 -- which without a seed is its eager history; the file of each external port holds what one VLAN bridge that owns all the ports sends

@@ -2,14 +2,14 @@
 use Rattle.std.specs.Prelude.{◌≡◌, ◌⊎◌, Option, Some, None, Result, IfOk, IfErr, IsErrOf, String, string_bytes}
 use Rattle.std.specs.declared.alloc.Global.{Global}
 use Rattle.exb_shelf.specs.Files.{Files, SameFiles}
-use Rattle.exb_words.specs.Words.{Ask, Run, Check, Make, Audit, Net}
+use Rattle.exb_cli.specs.CommandLines.{Ask, Run, Check, Make, Audit, Net}
 use Rattle.exb_inputs.specs.declared.fault.Fault.{Fault}
 use Rattle.exb_inputs.specs.declared.fault.Fault.TheVariants.{Usage, Read, Memory}
 use Rattle.exb_run.specs.Answers.{AreFronts, IsDone, IsFailure, IsRun, OnlyAsked, Stops}
-use Rattle.exb_run.specs.Parts.{AreParts}
-use Rattle.exb_inputs.specs.Reading.{IsOfAudit, IsOfTopology, IsOfPlaying, IsOfPlay}
-use Rattle.exb_run.specs.Saying.{SaysDone}
-use Rattle.exb_net_run.specs.Answers.{IsOfNet, IsOfNetPlay}
+use Rattle.exb_run.specs.PartialOutputs.{AreParts}
+use Rattle.exb_inputs.specs.FaultPhases.{IsOfAudit, IsOfTopology, IsOfPlaying, IsOfPlay}
+use Rattle.exb_run.specs.SuccessLines.{SaysDone}
+use Rattle.exb_net.specs.Answers.{IsOfNet, IsOfNetPlay}
 
 -- a fault that can come where this is asked for
 abbrev pub CanCome : Option Ask → Fault → Type 0

@@ -10,12 +10,12 @@ use Rattle.exb_model.specs.Texts.{capture_text, journal_text, summary}
 use Rattle.exb_model.specs.Traces.{TraceLine, trace_text}
 use Rattle.exb_model.specs.Tree.{is_external}
 use Rattle.exb_shelf.specs.Files.{Files}
-use Rattle.exb_text.specs.Names.{capture_name, counters_name, journal_name, trace_name}
+use Rattle.exb_journal.specs.FileNames.{capture_name, counters_name, journal_name, trace_name}
 use Rattle.exb_counters.specs.Counters.{count_text}
-use Rattle.exb_words.specs.declared.asked.Options.{Options}
-use Rattle.exb_legal.specs.Spelled.{HasBytes}
-use Rattle.exb_outputs.specs.Names.{AreWhole, OnlyOutputs, IsCut}
-use Rattle.exb_writers.specs.Texts.{output_text}
+use Rattle.exb_cli.specs.declared.invocations.Options.{Options}
+use Rattle.exb_trace_spec.specs.WritableLines.{HasBytes}
+use Rattle.exb_outputs.specs.OutputNames.{AreWhole, OnlyOutputs, IsCut}
+use Rattle.exb_outputs.specs.KindTexts.{output_text}
 use Rattle.exb_play.specs.Outputs.{IsTraceOf, CanBeReadBack}
 
 -- a file holds such a trace, whose frames are bytes

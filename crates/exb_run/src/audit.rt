@@ -1,12 +1,12 @@
 //! Judging what a run wrote.
 ghost use Rattle.std.specs.Prelude.{Some};
-ghost use Rattle.exb_words.specs.Words.{Audit};
+ghost use Rattle.exb_cli.specs.CommandLines.{Audit};
 ghost use Rattle.exb_inputs.specs.Answers.{status_of};
-ghost use Rattle.exb_inputs.specs.Shelving.{CountsFaults};
-ghost use Rattle.exb_run.specs.Opening.{OpensBy};
+ghost use Rattle.exb_inputs.specs.ShelfEffects.{CountsFaults};
+ghost use Rattle.exb_run.specs.OpenedFiles.{OpensBy};
 ghost use Rattle.exb_run.specs.Outcomes.{CameOut};
 
-use exb_auditing::audit;
+use exb_audit_files::audit;
 use exb_inputs::{Fault, read_topology};
 use exb_shelf::Shelf;
 use std::alloc::Global;

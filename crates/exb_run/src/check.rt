@@ -1,17 +1,17 @@
 //! What a topology needs.
 ghost use Rattle.std.specs.Prelude.{◌≡◌, Some, IfOk, IfErr, string_bytes};
 ghost use Rattle.exb_model.specs.Setup.{IsValid, limits_of};
-ghost use Rattle.exb_needs.specs.Lines.{lines_of};
-ghost use Rattle.exb_needs.specs.Needed.{needs_of};
-ghost use Rattle.exb_words.specs.Words.{Check};
+ghost use Rattle.exb_capacity.specs.Lines.{lines_of};
+ghost use Rattle.exb_capacity.specs.NeededNumbers.{needs_of};
+ghost use Rattle.exb_cli.specs.CommandLines.{Check};
 ghost use Rattle.exb_inputs.specs.Answers.{status_of};
-ghost use Rattle.exb_run.specs.Opening.{OpensBy};
+ghost use Rattle.exb_run.specs.OpenedFiles.{OpensBy};
 ghost use Rattle.exb_run.specs.Outcomes.{CameOut};
-ghost use Rattle.exb_inputs.specs.Shelving.{CountsFaults};
+ghost use Rattle.exb_inputs.specs.ShelfEffects.{CountsFaults};
 
+use exb_capacity::Needs;
 use exb_inputs::{Fault, read_topology};
 use exb_model::setup::Setup;
-use exb_needs::Needs;
 use exb_shelf::Shelf;
 use std::alloc::Global;
 

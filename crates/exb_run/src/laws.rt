@@ -1,8 +1,8 @@
 //! What the outputs of a run say together, and what an audit says of them. A law is a function that does nothing and ensures it.
-ghost use Rattle.exb_run.specs.AfterRuns.{AuditsFollowRuns};
+ghost use Rattle.exb_run.specs.AuditsAfterRuns.{AuditsFollowRuns};
 ghost use Rattle.exb_run.specs.Laws.{CountersSumUp};
 
-use exb_auditing::laws::runs_are_found_legal;
+use exb_audit_files::audit_laws::runs_are_found_legal;
 use exb_counters::laws::counts_of_inputs_are_the_summary;
 use exb_topology::laws::read_is_sound;
 

@@ -6,8 +6,8 @@
 mod audit;
 mod check;
 mod fates;
+mod generated_run;
 pub mod laws;
-mod making;
 mod net;
 mod top;
 

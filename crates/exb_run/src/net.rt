@@ -1,14 +1,14 @@
 //! Playing the captures of all bridges of a net.
 ghost use Rattle.std.specs.Prelude.{◌<◌, ◌≤◌, ◌^◌, Some, All, length};
-ghost use Rattle.exb_words.specs.Words.{Net};
+ghost use Rattle.exb_cli.specs.CommandLines.{Net};
 ghost use Rattle.exb_inputs.specs.Answers.{status_of};
-ghost use Rattle.exb_inputs.specs.Shelving.{CountsFaults};
-ghost use Rattle.exb_run.specs.Opening.{OpensBy, OpensInOrder};
+ghost use Rattle.exb_inputs.specs.ShelfEffects.{CountsFaults};
+ghost use Rattle.exb_run.specs.OpenedFiles.{OpensBy, OpensInOrder};
 ghost use Rattle.exb_run.specs.Outcomes.{CameOut};
 
 use exb_fate::Fate;
 use exb_inputs::Fault;
-use exb_net_run::play_net;
+use exb_net::play_net;
 use exb_shelf::Shelf;
 use std::alloc::Global;
 

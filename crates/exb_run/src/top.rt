@@ -1,46 +1,46 @@
 //! The top call.
 ghost use Rattle.std.specs.Prelude.{◌≡◌, ◌≢◌, ◌<◌, ◌≤◌, ◌+◌, ◌++◌, ◌⊎◌, ◌^◌, ℕ, Bool, true, List, All, length, Some, None, string_bytes, IfOk, IfErr, IsErrOf};
-ghost use Rattle.exb_made.specs.Made.{made};
+ghost use Rattle.exb_make.specs.GeneratedInputs.{made};
 ghost use Rattle.exb_model.specs.Input.{Eager};
 ghost use Rattle.exb_model.specs.Setup.{IsValid, shape_of};
 ghost use Rattle.exb_shelf.specs.Files.{SameFiles, AppendsFront};
 ghost use Rattle.exb_shelf.specs.Shelf.{Opens, Rose};
-ghost use Rattle.exb_topology.specs.Sound.{IsSound};
-ghost use Rattle.exb_words.specs.declared.asked.Options.{Options};
-ghost use Rattle.exb_words.specs.Words.{Run, Make, Net};
+ghost use Rattle.exb_topology.specs.Soundness.{IsSound};
+ghost use Rattle.exb_cli.specs.declared.invocations.Options.{Options};
+ghost use Rattle.exb_cli.specs.CommandLines.{Run, Make, Net};
 ghost use Rattle.exb_inputs.specs.declared.fault.Fault.{Fault};
-ghost use Rattle.exb_inputs.specs.declared.fault.Flaw.{Flaw};
+ghost use Rattle.exb_inputs.specs.declared.fault.InputFlaw.{InputFlaw};
 ghost use Rattle.exb_inputs.specs.Inputs.{input_of, is_named};
 ghost use Rattle.exb_run.specs.Outputs.{AreFrontsOf, IsPlayed};
-ghost use Rattle.exb_outputs.specs.Names.{OnlyOutputs};
-ghost use Rattle.exb_inputs.specs.Checks.{AreAllGood, FirstFault};
-ghost use Rattle.exb_inputs.specs.Shelving.{ReadsBelow, ReadsCapture, CountsFaults};
-ghost use Rattle.exb_outputs.specs.Order.{MakesInOrder};
-ghost use Rattle.exb_run.specs.Opening.{IsFileOf, IsOpenedFor, MadeBehind, OpenedInOrder, OpensBy, OpensInOrder, manifest_for};
-ghost use Rattle.exb_inputs.specs.Reading.{IsOfPlay, IsOfPlaying};
+ghost use Rattle.exb_outputs.specs.OutputNames.{OnlyOutputs};
+ghost use Rattle.exb_inputs.specs.CaptureChecks.{AreAllGood, FirstFault};
+ghost use Rattle.exb_inputs.specs.ShelfEffects.{ReadsBelow, ReadsCapture, CountsFaults};
+ghost use Rattle.exb_outputs.specs.CreationOrder.{MakesInOrder};
+ghost use Rattle.exb_run.specs.OpenedFiles.{IsFileOf, IsOpenedFor, MadeBehind, OpenedInOrder, OpensBy, OpensInOrder, manifest_for};
+ghost use Rattle.exb_inputs.specs.FaultPhases.{IsOfPlay, IsOfPlaying};
 ghost use Rattle.exb_run.specs.Answers.{asked, mode_for, AreFronts, eager_summary, IsDone, IsRun, CanBeDone, OnlyAsked, Stops, StopsWith, IsText, IsOfInput, RoseBy, IsStatus};
 ghost use Rattle.exb_inputs.specs.Answers.{fault_status, status_of, fault_line, SaysBy};
-ghost use Rattle.exb_run.specs.ByStatus.{CountedBy};
-ghost use Rattle.exb_net_run.specs.Headline.{NetHeadline};
+ghost use Rattle.exb_run.specs.StatusCounts.{CountedBy};
+ghost use Rattle.exb_net.specs.Headline.{NetHeadline};
 ghost use Rattle.exb_run.specs.Headline.{Headline};
-ghost use Rattle.exb_run.specs.Nets.{NetOpenedInOrder};
+ghost use Rattle.exb_run.specs.OpenedNetFiles.{NetOpenedInOrder};
 ghost use Rattle.exb_run.specs.Outcomes.{CameOut};
-ghost use Rattle.exb_run.specs.Parts.{AreParts, LeavesParts};
-ghost use Rattle.exb_play.specs.Playing.{mode_of};
-ghost use Rattle.exb_run.specs.Printing.{Prints};
-ghost use Rattle.exb_writers.specs.Counts.{IsSummary};
+ghost use Rattle.exb_run.specs.PartialOutputs.{AreParts, LeavesParts};
+ghost use Rattle.exb_play.specs.BridgeRuns.{mode_of};
+ghost use Rattle.exb_run.specs.PrintedLines.{Prints};
+ghost use Rattle.exb_outputs.specs.Counts.{IsSummary};
 
 use crate::audit::audit_topology;
 use crate::check::check_topology;
-use crate::making::make_input;
+use crate::generated_run::make_input;
 use crate::net::run_net;
+use exb_cli::{Invocation, Options, accept};
 use exb_fate::Fate;
 use exb_inputs::{Fault, check_captures, read_topology, report};
 use exb_outputs::Manifest;
 use exb_play::{Schedule, Script, play};
 use exb_shelf::{Shelf, Sink};
 use exb_topology::Topology;
-use exb_words::{Asked, Options, accept};
 use std::alloc::Global;
 
 /// Eager, or drawn from a seed.
@@ -91,7 +91,7 @@ fn play_topology<S: Shelf>(
     ensures made { MakesInOrder (manifest_for topology.now options) result (S.ids shelf.old) (S.ids shelf.new) }
     ensures behind { MadeBehind topology.now.captures (S.ids shelf.old) (S.ids shelf.new) }
     ensures port { IfErr result (λ fault. (p at : ℕ) → fault ≡ Fault.Changed p at → is_named topology.now.captures p ≡ true) }
-    ensures own { (p : ℕ) (flaw : Flaw) → IsErrOf result (Fault.Capture p flaw) → (is_named topology.now.captures p ≡ true)
+    ensures own { (p : ℕ) (flaw : InputFlaw) → IsErrOf result (Fault.Capture p flaw) → (is_named topology.now.captures p ≡ true)
         × Opens (ReadsBelow topology.now.captures (p + 1)) (S.ids shelf.old) (S.ids shelf.new) }
     ensures upto { S.tells → (p : ℕ) (fault : Fault) → FirstFault topology.now.captures (S.file shelf.old) p fault
         → Opens (ReadsBelow topology.now.captures (p + 1)) (S.ids shelf.old) (S.ids shelf.new) }
@@ -164,13 +164,15 @@ fn work<S: Shelf>(
 {
     match accept(words) {
         None => Err(Fault::Usage),
-        Some(Asked::Run { topology, options }) => {
+        Some(Invocation::Run { topology, options }) => {
             run_topology(alloc, shelf, topology, options, fate)
         }
-        Some(Asked::Check { topology }) => check_topology(alloc, shelf, topology),
-        Some(Asked::Make { number }) => make_input(alloc, number, fate),
-        Some(Asked::Audit { topology }) => audit_topology(alloc, shelf, topology),
-        Some(Asked::Net { file, counters }) => run_net(alloc, shelf, file, counters, fate, more),
+        Some(Invocation::Check { topology }) => check_topology(alloc, shelf, topology),
+        Some(Invocation::Make { number }) => make_input(alloc, number, fate),
+        Some(Invocation::Audit { topology }) => audit_topology(alloc, shelf, topology),
+        Some(Invocation::Net { file, counters }) => run_net(
+            alloc, shelf, file, counters, fate, more,
+        ),
     }
 }
 

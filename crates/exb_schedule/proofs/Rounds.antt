@@ -3,23 +3,23 @@ use Rattle.std.proofs.Common.{◌≡◌, ℕ, true, false, List, [], ◌∷◌, 
 use Rattle.exb_model.specs.declared.setup.Verdict.{Verdict}
 use Rattle.exb_model.specs.Tree.{Shape}
 use Rattle.exb_model.specs.Setup.{Limits}
-use Rattle.exb_link.specs.declared.word.Word.{Word}
-use Rattle.exb_link.specs.Words.{is_control}
-use Rattle.exb_machine.specs.Worlds.{World, Way, Up, Down, Beat, Step, Carry}
-use Rattle.exb_machine.specs.Stepping.{words_on, stepped, Stepped}
-use Rattle.exb_machine.specs.Settling.{before, Direction, direction, directions, followed_by, Gone, gone_through, next_place, nothing, Played, played_before, round, run, steps_for, through_all}
-use Rattle.exb_machine.proofs.Rounds.{run_then}
-use Rattle.exb_network.specs.Turns.{order_of}
+use Rattle.exb_link.specs.declared.link_frame.LinkFrame.{LinkFrame}
+use Rattle.exb_link.specs.LinkFrames.{is_control}
+use Rattle.exb_world_spec.specs.Worlds.{World, Way, Up, Down, Beat, Step, Carry}
+use Rattle.exb_world_spec.specs.Steps.{words_on, stepped, Stepped}
+use Rattle.exb_world_spec.specs.Settling.{before, Direction, direction, directions, followed_by, Gone, gone_through, next_place, nothing, Played, played_before, round, run, steps_for, through_all}
+use Rattle.exb_world_spec.proofs.Rounds.{run_then}
+use Rattle.exb_world.specs.LinkTurns.{order_of}
 use Rattle.exb_schedule.specs.Rounds.{goes_along, goes_on, goes_one_way}
-use Rattle.exb_schedule.proofs.Leading.{played_then}
+use Rattle.exb_schedule.proofs.StepSequences.{played_then}
 
 -- ---- one direction
-through_control : (n : ℕ) (way : Way) (k : ℕ) (x : Word) (xs : List Word) (v : Verdict) (vs : List Verdict) → is_control x ≡ true →
+through_control : (n : ℕ) (way : Way) (k : ℕ) (x : LinkFrame) (xs : List LinkFrame) (v : Verdict) (vs : List Verdict) → is_control x ≡ true →
     gone_through n way k (x ∷ xs) (v ∷ vs) ≡ before (steps_for n way k v) (gone_through n way (next_place k v) xs vs)
 unfolding gone_through
 through_control n way k x xs v vs e = rw e refl
 
-through_data : (n : ℕ) (way : Way) (k : ℕ) (x : Word) (xs : List Word) (vs : List Verdict) → is_control x ≡ false → gone_through n way k (x ∷ xs) vs ≡ before (Carry n way ∷ []) (gone_through n way k xs vs)
+through_data : (n : ℕ) (way : Way) (k : ℕ) (x : LinkFrame) (xs : List LinkFrame) (vs : List Verdict) → is_control x ≡ false → gone_through n way k (x ∷ xs) vs ≡ before (Carry n way ∷ []) (gone_through n way k xs vs)
 unfolding gone_through
 through_data n way k x xs vs e = rw e refl
 
@@ -31,11 +31,11 @@ module _ (t : Shape) (l : Limits) where
   run_before : (steps : List Step) (g : Gone) (w : World) → on_by (before steps g) w ≡ played_before (run t l steps w) (on_by g (run t l steps w).world)
   run_before steps g w = ap (λ (z : Stepped). record { done = z; verdicts = g.verdicts }) (run_then t l steps g.steps w)
 
-  pub next_control : (n : ℕ) (way : Way) (k : ℕ) (x : Word) (xs : List Word) (v : Verdict) (w : World) (vs : List Verdict) → is_control x ≡ true →
+  pub next_control : (n : ℕ) (way : Way) (k : ℕ) (x : LinkFrame) (xs : List LinkFrame) (v : Verdict) (w : World) (vs : List Verdict) → is_control x ≡ true →
       goes_on t l n way k (x ∷ xs) w (v ∷ vs) ≡ played_before (run t l (steps_for n way k v) w) (goes_on t l n way (next_place k v) xs (run t l (steps_for n way k v) w).world vs)
   next_control n way k x xs v w vs e = ap (λ (g : Gone). on_by g w) (through_control n way k x xs v vs e) ∙ run_before (steps_for n way k v) (gone_through n way (next_place k v) xs vs) w
 
-  pub next_data : (n : ℕ) (way : Way) (k : ℕ) (x : Word) (xs : List Word) (w : World) (vs : List Verdict) → is_control x ≡ false →
+  pub next_data : (n : ℕ) (way : Way) (k : ℕ) (x : LinkFrame) (xs : List LinkFrame) (w : World) (vs : List Verdict) → is_control x ≡ false →
       goes_on t l n way k (x ∷ xs) w vs ≡ played_before (run t l (Carry n way ∷ []) w) (goes_on t l n way k xs (run t l (Carry n way ∷ []) w).world vs)
   next_data n way k x xs w vs e = ap (λ (g : Gone). on_by g w) (through_data n way k x xs vs e) ∙ run_before (Carry n way ∷ []) (gone_through n way k xs vs) w
 

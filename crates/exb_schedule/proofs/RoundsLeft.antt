@@ -5,16 +5,16 @@ use Rattle.std.proofs.lemmas.Nat.{mul-le}
 use Rattle.exb_model.specs.declared.setup.Verdict.{Verdict}
 use Rattle.exb_model.specs.Tree.{Shape}
 use Rattle.exb_model.specs.Setup.{Limits}
-use Rattle.exb_link.specs.declared.word.Word.{Word}
-use Rattle.exb_link.specs.Words.{is_control}
-use Rattle.exb_machine.specs.Settling.{Direction, directions, gone_through, goes_through, is_settled, nothing, round, run, settled_within, through_all, Played, played_before}
-use Rattle.exb_machine.specs.Stepping.{words_on}
-use Rattle.exb_machine.specs.Worlds.{World, Way}
-use Rattle.exb_resting.specs.Costs.{costs}
-use Rattle.exb_resting.specs.Laws.{RoundsSpend, IsPassing}
+use Rattle.exb_link.specs.declared.link_frame.LinkFrame.{LinkFrame}
+use Rattle.exb_link.specs.LinkFrames.{is_control}
+use Rattle.exb_world_spec.specs.Settling.{Direction, directions, gone_through, goes_through, is_settled, nothing, round, run, settled_within, through_all, Played, played_before}
+use Rattle.exb_world_spec.specs.Steps.{words_on}
+use Rattle.exb_world_spec.specs.Worlds.{World, Way}
+use Rattle.exb_settling_laws.specs.SettlingBound.{costs}
+use Rattle.exb_settling_laws.specs.SettlingLaws.{RoundsSpend, IsPassing}
 use Rattle.exb_schedule.specs.Rounds.{rounds_made}
 
-no_verdicts : (n : ℕ) (way : Way) (k : ℕ) (xs : List Word) → (gone_through n way k xs []).verdicts ≡ []
+no_verdicts : (n : ℕ) (way : Way) (k : ℕ) (xs : List LinkFrame) → (gone_through n way k xs []).verdicts ≡ []
 unfolding gone_through
 no_verdicts n way k [] = refl
 no_verdicts n way k (x ∷ xs) = elim (cases_Bool (is_control x)) [ inl e ↦ rw e (no_verdicts n way k xs) | inr e ↦ rw e (no_verdicts n way k xs) ]

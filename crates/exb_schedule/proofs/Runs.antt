@@ -3,10 +3,10 @@ use Rattle.std.proofs.Common.{◌≡◌, ◌++◌, Bool, List, [], ◌∷◌, ap
 use Rattle.exb_model.specs.declared.event.Event.{Event}
 use Rattle.exb_model.specs.Setup.{Limits}
 use Rattle.exb_model.specs.Tree.{Shape}
-use Rattle.exb_machine.specs.Settling.{nothing, followed_by, run}
-use Rattle.exb_machine.specs.Stepping.{Stepped, stepped}
-use Rattle.exb_machine.specs.Worlds.{World, Step, Left, Line}
-use Rattle.exb_motion.specs.Runs.Settles.{MayTakeAll}
+use Rattle.exb_world_spec.specs.Settling.{nothing, followed_by, run}
+use Rattle.exb_world_spec.specs.Steps.{Stepped, stepped}
+use Rattle.exb_world_spec.specs.Worlds.{World, Step, Left, Line}
+use Rattle.exb_world_laws.specs.Runs.Settling.{MayTakeAll}
 
 pub then_nothing : (a : Stepped) → followed_by a (nothing a.world) ≡ a
 then_nothing a =

@@ -1,9 +1,9 @@
-pub mod Moves
-pub mod Reached
+pub mod StepSequences
+pub mod ReachedWorlds
 pub mod Rounds
-pub mod Playing
-pub mod Drawing
-pub mod Segments
-pub mod Laws
-pub mod Standing
-pub mod Lasting
+pub mod SegmentRuns
+pub mod SeededSegments
+pub mod PlayedSegments
+pub mod SegmentLaws
+pub mod OneBridge
+pub mod OneBridgeRuns

@@ -3,21 +3,21 @@ use Rattle.std.specs.Prelude.{◌≡◌, ℕ, zero, suc, ◌+◌, ◌-◌, ◌�
 use Rattle.exb_model.specs.declared.setup.Verdict.{Verdict}
 use Rattle.exb_model.specs.Setup.{Limits}
 use Rattle.exb_model.specs.Tree.{Shape}
-use Rattle.exb_link.specs.declared.word.Word.{Word}
-use Rattle.exb_link.specs.Words.{is_control, is_data}
-use Rattle.exb_machine.specs.Settling.{Direction, Played, direction, gone_through, goes_through, is_settled, next_place, played_before, round, run, settled_within, steps_for, through_all}
-use Rattle.exb_machine.specs.Stepping.{Stepped, words_on}
-use Rattle.exb_machine.specs.Worlds.{World, Way}
-use Rattle.exb_machine.specs.Runs.Sessions.{Each}
-use Rattle.exb_network.specs.Networks.{Network, world_of, tree_of, bounds_of}
-use Rattle.exb_network.specs.Turns.{order_of}
-use Rattle.exb_resting.specs.Costs.{cost_of, costs}
-use Rattle.exb_schedule.specs.declared.remaining.Remaining.{Remaining}
-use Rattle.exb_schedule.specs.Moves.{HasGone, HasRun}
+use Rattle.exb_link.specs.declared.link_frame.LinkFrame.{LinkFrame}
+use Rattle.exb_link.specs.LinkFrames.{is_control, is_data}
+use Rattle.exb_world_spec.specs.Settling.{Direction, Played, direction, gone_through, goes_through, is_settled, next_place, played_before, round, run, settled_within, steps_for, through_all}
+use Rattle.exb_world_spec.specs.Steps.{Stepped, words_on}
+use Rattle.exb_world_spec.specs.Worlds.{World, Way}
+use Rattle.exb_world_spec.specs.Runs.Sessions.{Each}
+use Rattle.exb_world.specs.WorldContracts.{Network, world_of, tree_of, bounds_of}
+use Rattle.exb_world.specs.LinkTurns.{order_of}
+use Rattle.exb_settling_laws.specs.SettlingBound.{cost_of, costs}
+use Rattle.exb_schedule.specs.declared.round_progress.RoundProgress.{RoundProgress}
+use Rattle.exb_schedule.specs.StepSequences.{HasGone, HasRun}
 
 -- ---- what is played, by the verdicts of a fate
 -- of a direction: these words, the next control word at that place
-abbrev pub goes_on : Shape → Limits → ℕ → Way → ℕ → List Word → World → List Verdict → Played
+abbrev pub goes_on : Shape → Limits → ℕ → Way → ℕ → List LinkFrame → World → List Verdict → Played
 goes_on t l n way k rest w vs = record { done = run t l (gone_through n way k rest vs).steps w; verdicts = (gone_through n way k rest vs).verdicts }
 
 -- the words that stand on a direction are gone through once
@@ -69,17 +69,17 @@ pub record Leads (whole rest : List Verdict → Played) (before left : ℕ) (old
 
 -- ---- a direction that is gone through
 -- So many data words and control words are next on a direction. The control words before them were looked at and stay.
-pub record AreNext (n : ℕ) (way : Way) (w : World) (left : Remaining) : Type 0 where
-  pub kept : List Word
-  pub rest : List Word
-  pub more : List Word
-  pub control_alone : Each (λ (x : Word). is_control x ≡ true) kept
+pub record AreNext (n : ℕ) (way : Way) (w : World) (left : RoundProgress) : Type 0 where
+  pub kept : List LinkFrame
+  pub rest : List LinkFrame
+  pub more : List LinkFrame
+  pub control_alone : Each (λ (x : LinkFrame). is_control x ≡ true) kept
   pub place : left.place ≡ length kept
   pub is : words_on n way w ≡ kept ++ (rest ++ more)
   pub frames : left.frames ≡ length (filter is_data rest)
   pub control : left.control ≡ length (filter is_control rest)
 
 -- Of a whole these words are still to be looked at.
-pub record GoesThrough (n : ℕ) (way : Way) (whole : List Verdict → Played) (before budget : ℕ) (old now : Network) (left : Remaining) : Type 0 where
+pub record GoesThrough (n : ℕ) (way : Way) (whole : List Verdict → Played) (before budget : ℕ) (old now : Network) (left : RoundProgress) : Type 0 where
   pub next : AreNext n way (world_of now) left
   pub leads : Leads whole (λ vs. goes_on (tree_of now) (bounds_of now) n way left.place next.rest (world_of now) vs) before budget old now

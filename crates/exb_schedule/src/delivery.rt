@@ -2,17 +2,17 @@
 ghost use Rattle.std.specs.Prelude.{⊤, ◌≡◌, ◌↔◌, ◌<◌, ◌≤◌, ◌+◌, ◌^◌, ℕ, List, true, IfOk, OnErr, OnOk};
 ghost use Rattle.exb_model.specs.declared.setup.Verdict.{Verdict};
 ghost use Rattle.exb_model.specs.Tree.{is_extender};
-ghost use Rattle.exb_link.specs.Words.{leading};
-ghost use Rattle.exb_machine.specs.Settling.{direction, round, Played};
-ghost use Rattle.exb_machine.specs.Stepping.{words_on};
-ghost use Rattle.exb_network.specs.Networks.{Network, world_of, tree_of, bounds_of};
-ghost use Rattle.exb_network.specs.Steps.{way_of};
+ghost use Rattle.exb_link.specs.LinkFrames.{leading};
+ghost use Rattle.exb_world_spec.specs.Settling.{direction, round, Played};
+ghost use Rattle.exb_world_spec.specs.Steps.{words_on};
+ghost use Rattle.exb_world.specs.WorldContracts.{Network, world_of, tree_of, bounds_of};
+ghost use Rattle.exb_world.specs.Steps.{way_of};
 ghost use Rattle.exb_schedule.specs.Rounds.{goes_along, goes_one_way, AreNext, GoesThrough, HasAsked, HasTaken};
 
-use crate::remaining::Remaining;
+use crate::round_progress::RoundProgress;
 use exb_fate::Fate;
 use exb_model::setup::Verdict;
-use exb_network::{Way, World, WorldFault};
+use exb_world::{Way, World, WorldFault};
 
 /// Asks the fate of a control word that is free, and does what it says: the word is delivered, lost, delivered and kept, or left.
 /// Answers the place of the next one.
@@ -57,7 +57,7 @@ fn take_next(
     fate: &mut dyn Fate,
     link: u8,
     way: Way,
-    rest: &mut Remaining,
+    rest: &mut RoundProgress,
 ) -> Result<(), WorldFault>
     requires there { is_extender (tree_of world.old) link ≡ true }
     requires next { AreNext link (way_of way) (world_of world.old) rest.old }
@@ -91,7 +91,7 @@ fn go_through(world: &mut World, fate: &mut dyn Fate, link: u8, way: Way) -> Res
     ensures falls { left fate.new ≤ left fate.old }
 {
     let counts = world.counts(link, way);
-    let mut rest = Remaining {
+    let mut rest = RoundProgress {
         frames: counts.frames,
         control: counts.control,
         place: 0,

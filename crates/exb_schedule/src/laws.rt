@@ -1,16 +1,16 @@
 //! What is true of each step, and of a run that has played its input. Each law is a function that does nothing and ensures it.
-ghost use Rattle.exb_schedule.specs.Lasting.{EventsGoOn, PlayedStands, RoundsAreWholeOn, RunsStayStanding, SettledOwes, SettlingCounts};
-ghost use Rattle.exb_schedule.specs.Laws.{PlayedIsUnderWay, PlayedSaysPassed, PlayedWritesEagerly, PlayedWritesLegally};
+ghost use Rattle.exb_schedule.specs.OneBridgeRuns.{EventsGoOn, PlayedStands, RoundsAreWholeOn, RunsStayStanding, SettledOwes, SettlingCounts};
+ghost use Rattle.exb_schedule.specs.SegmentLaws.{PlayedIsUnderWay, PlayedSaysPassed, PlayedWritesEagerly, PlayedWritesLegally};
 
-use exb_motion::laws::motion::{
-    begins_kept, kept_is_clean, kept_stands, setups_go_on, setups_may_start, stands_go_on,
-    stands_owes_nothing, steps_keep, steps_tell_so,
-};
-use exb_motion::laws::runs::{
+use exb_settling_laws::laws::rounds_are_whole;
+use exb_world_laws::laws::runs::{
     events_last, plays_stand, runs_are_under_way, runs_last, runs_say_passed, runs_stay_low,
     runs_write_eagerly, runs_write_legally,
 };
-use exb_resting::laws::rounds_are_whole;
+use exb_world_laws::laws::steps::{
+    begins_kept, kept_is_clean, kept_stands, setups_go_on, setups_may_start, stands_go_on,
+    stands_owes_nothing, steps_keep, steps_tell_so,
+};
 
 /// Of a network that has played the opening and some segments of an input the next index of each port, the number of commands and
 /// the clock follow what was played, and each frame that has left is a copy of one of its arrivals.

@@ -2,22 +2,22 @@
 ghost use Rattle.std.specs.Prelude.{◌≡◌, [], ◌↔◌, ◌+◌, ◌<◌, ◌≤◌, ◌^◌, true, false, IfOk, OnErr, OnOk, length};
 ghost use Rattle.exb_model.specs.Input.{Input, Mode, Eager};
 ghost use Rattle.exb_model.specs.Setup.{IsValid, limits_of, shape_of};
-ghost use Rattle.exb_machine.specs.Allowing.{Can, IsSettled};
-ghost use Rattle.exb_machine.specs.Worlds.{Mark, Order};
-ghost use Rattle.exb_network.specs.Networks.{world_of, tree_of, bounds_of, IsSame, IsStepped};
-ghost use Rattle.exb_bridge.specs.Worlds.{all_left};
-ghost use Rattle.exb_motion.specs.Runs.Settles.{MayTake};
-ghost use Rattle.exb_schedule.specs.Moves.{HasEnded, HasRun};
-ghost use Rattle.exb_schedule.specs.Playing.{gives, letters_in, orders, CanAll, HasPlayed, PlaysOn};
-ghost use Rattle.exb_schedule.specs.Segments.{IsPlayedOut};
+ghost use Rattle.exb_world_spec.specs.AllowedSteps.{Can, IsSettled};
+ghost use Rattle.exb_world_spec.specs.Worlds.{Mark, Order};
+ghost use Rattle.exb_world.specs.WorldContracts.{world_of, tree_of, bounds_of, IsSame, IsStepped};
+ghost use Rattle.exb_bridge.specs.BridgeWorlds.{all_left};
+ghost use Rattle.exb_world_laws.specs.Runs.Settling.{MayTake};
+ghost use Rattle.exb_schedule.specs.StepSequences.{HasEnded, HasRun};
+ghost use Rattle.exb_schedule.specs.SegmentRuns.{gives, letters_in, orders, CanAll, HasPlayed, PlaysOn};
+ghost use Rattle.exb_schedule.specs.PlayedSegments.{IsPlayedOut};
 
-use crate::arriving::{let_arrive, let_pass};
+use crate::segment_input::{let_arrive, let_pass};
 use crate::settling::settle;
 use exb_fate::Fate;
 use exb_model::arrival::Arrival;
 use exb_model::memory::NoMemory;
 use exb_model::setup::{Setup, Timed, Verdict};
-use exb_network::{World, WorldFault};
+use exb_world::{World, WorldFault};
 use std::alloc::Global;
 
 /// Marks what is settled.

@@ -1,16 +1,16 @@
 //! Settling.
 ghost use Rattle.std.specs.Prelude.{◌≡◌, ◌↔◌, ◌<◌, ◌≤◌, ◌^◌, true, IfOk, OnErr, OnOk};
 ghost use Rattle.exb_model.specs.Rounds.{rounds};
-ghost use Rattle.exb_machine.specs.Allowing.{IsSettled};
-ghost use Rattle.exb_machine.specs.Settling.{planned_in};
-ghost use Rattle.exb_network.specs.Networks.{world_of, tree_of, bounds_of};
+ghost use Rattle.exb_world_spec.specs.AllowedSteps.{IsSettled};
+ghost use Rattle.exb_world_spec.specs.Settling.{planned_in};
+ghost use Rattle.exb_world.specs.WorldContracts.{world_of, tree_of, bounds_of};
 ghost use Rattle.exb_schedule.specs.Rounds.{HasSettled};
 
 use crate::delivery::round;
 use exb_fate::Fate;
-use exb_motion::laws::runs::settles;
-use exb_network::{World, WorldFault};
-use exb_resting::laws::rounds_spend;
+use exb_settling_laws::laws::rounds_spend;
+use exb_world::{World, WorldFault};
+use exb_world_laws::laws::runs::settles;
 
 /// Makes rounds until nothing is left to be done, and answers how many, a number that stays at 2^64 - 1: at most 64 for each verdict
 /// other than Pass that the fate may still give, for each exchange that is planned, and for one more.

@@ -5,6 +5,6 @@
 #[cfg(test)]
 mod steps;
 #[cfg(test)]
-mod words;
+mod world_driver;
 #[cfg(test)]
 mod worlds;

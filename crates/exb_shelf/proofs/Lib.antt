@@ -1,7 +1,7 @@
-pub mod EntryLemmas
+pub mod OpenFileLemmas
 pub mod FileLemmas
 pub mod PieceLemmas
-pub mod MemoryLemmas
+pub mod ScratchLemmas
 pub mod IdLemmas
-pub mod CountLemmas
-pub mod ReadingLemmas
+pub mod FaultCountLemmas
+pub mod ReadFaultLemmas

@@ -1,7 +1,7 @@
 pub mod Files
 pub mod Shelf
-pub mod Counting
-pub mod Entries
-pub mod Memory
-pub mod System
-pub mod Reading
+pub mod FaultCounts
+pub mod OpenFiles
+pub mod ScratchFiles
+pub mod SystemFiles
+pub mod ReadFaults

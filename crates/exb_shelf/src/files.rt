@@ -1,10 +1,10 @@
 //! The system's files and standard output. What they hold is not told.
 ghost use Rattle.std.specs.Prelude.{◌≡◌, ◌<◌, ◌≤◌, ℕ, [], None, length, IfOk, IfSome};
 ghost use Rattle.exb_shelf.specs.Shelf.{Faults, no_id};
-ghost use Rattle.exb_shelf.specs.System.{system_ids, system_faults, sink_faults};
+ghost use Rattle.exb_shelf.specs.SystemFiles.{system_ids, system_faults, sink_faults};
 
-use crate::entries::{Entry, advance, give};
-use crate::known::Known;
+use crate::open_files::{OpenFile, advance, give};
+use crate::protected_files::ProtectedFiles;
 use crate::{OpenFault, Shelf, ShelfFault, Sink};
 use std::alloc::{AllocError, Global};
 use std::fs::{File, Metadata, OpenOptions};
@@ -26,8 +26,8 @@ use std::{fs, io};
 pub struct FileShelf {
     rt: HostRuntime,
     alloc: Global,
-    entries: Vec<Entry>,
-    known: Known,
+    entries: Vec<OpenFile>,
+    known: ProtectedFiles,
     // Of each id how much was written.
     written: Vec<u64>,
     // The first id whose file is not emptied yet.
@@ -47,7 +47,7 @@ impl FileShelf {
             rt,
             alloc,
             entries: Vec::new(alloc),
-            known: Known::new(alloc),
+            known: ProtectedFiles::new(alloc),
             written: Vec::new(alloc),
             full: 0,
             missing: 0,
@@ -84,7 +84,7 @@ fn open_to_read(rt: &HostRuntime, name: &str) -> io::Result<Metadata> {
 }
 
 // Opens a file to be written, and leaves what it holds.
-fn open_to_make(rt: &HostRuntime, known: &Known, name: &str) -> io::Result<Metadata> {
+fn open_to_make(rt: &HostRuntime, known: &ProtectedFiles, name: &str) -> io::Result<Metadata> {
     match fs::metadata(rt, name) {
         Ok(there) if !known.allows(rt, name, &there) => return Err(refused()),
         Err(e) if e.kind() != ErrorKind::NotFound => return Err(e),
@@ -116,7 +116,7 @@ fn empty(rt: &HostRuntime, name: &str) -> io::Result<()> {
 
 // Empties the files that were made, from this id on. What can't be emptied fails when it is written,
 // since it holds more than was written.
-fn empty_made(rt: &HostRuntime, entries: &[Entry], full: &mut usize) {
+fn empty_made(rt: &HostRuntime, entries: &[OpenFile], full: &mut usize) {
     for entry in entries.iter().skip(*full) {
         if !entry.reads {
             let _ = empty(rt, entry.name.as_str());
@@ -191,7 +191,7 @@ fn sync_folder(rt: &HostRuntime, folder: &str) {
 }
 
 // Whether the file before this one was made in the same folder.
-fn follows(entries: &[Entry], at: usize) -> bool
+fn follows(entries: &[OpenFile], at: usize) -> bool
     requires { at < length entries.now }
 {
     let own = folder_of(entries[at].name.as_str());
@@ -201,7 +201,7 @@ fn follows(entries: &[Entry], at: usize) -> bool
     }
 }
 
-fn sync_all(rt: &HostRuntime, entries: &[Entry], written: &[u64]) -> io::Result<()> {
+fn sync_all(rt: &HostRuntime, entries: &[OpenFile], written: &[u64]) -> io::Result<()> {
     for (at, entry) in entries.iter().enumerate() {
         if !entry.reads {
             let name = entry.name.as_str();
@@ -225,7 +225,7 @@ fn written_from(written: &mut Vec<u64>, next: usize) -> Result<(), AllocError> {
 // file or of a fault ends here, and not where a shelf's clauses are shown.
 fn opened(
     rt: &HostRuntime,
-    known: &mut Known,
+    known: &mut ProtectedFiles,
     written: &mut Vec<u64>,
     next: usize,
     name: &str,
@@ -243,13 +243,17 @@ fn opened(
 }
 
 // Makes room for a file that is made.
-fn room_for(known: &mut Known, written: &mut Vec<u64>, next: usize) -> Result<(), AllocError> {
+fn room_for(
+    known: &mut ProtectedFiles,
+    written: &mut Vec<u64>,
+    next: usize,
+) -> Result<(), AllocError> {
     known.reserve()?;
     written_from(written, next)
 }
 
 // Opens a file to be written, and keeps which it is.
-fn made(rt: &HostRuntime, known: &mut Known, name: &str) -> Result<(), ShelfFault> {
+fn made(rt: &HostRuntime, known: &mut ProtectedFiles, name: &str) -> Result<(), ShelfFault> {
     match open_to_make(rt, known, name) {
         Ok(file) if known.add(&file).is_ok() => Ok(()),
         Ok(_) => Err(ShelfFault::Memory),
@@ -279,7 +283,7 @@ impl Shelf for FileShelf {
 
     ghost faults = { system_faults };
 
-    #[tactic(auto, using(crate::proofs::EntryLemmas::entries))]
+    #[tactic(auto, using(crate::proofs::OpenFileLemmas::entries))]
     fn open(&mut self, name: &str) -> Result<u32, OpenFault> {
         empty_made(&self.rt, self.entries.as_slice(), &mut self.full);
         let next = self.entries.len();
@@ -300,7 +304,7 @@ impl Shelf for FileShelf {
         }
     }
 
-    #[tactic(auto, using(crate::proofs::EntryLemmas::entries))]
+    #[tactic(auto, using(crate::proofs::OpenFileLemmas::entries))]
     fn read(&mut self, id: u32, into: &mut [u8]) -> Result<usize, ShelfFault> {
         empty_made(&self.rt, self.entries.as_slice(), &mut self.full);
         let entry = &self.entries[id as usize];
@@ -317,7 +321,7 @@ impl Shelf for FileShelf {
         }
     }
 
-    #[tactic(auto, using(crate::proofs::EntryLemmas::entries))]
+    #[tactic(auto, using(crate::proofs::OpenFileLemmas::entries))]
     fn create(&mut self, name: &str) -> Result<u32, ShelfFault> {
         let given = self.entries.len();
         if room_for(&mut self.known, &mut self.written, given).is_err() {
@@ -340,7 +344,7 @@ impl Shelf for FileShelf {
         }
     }
 
-    #[tactic(auto, using(crate::proofs::EntryLemmas::entries))]
+    #[tactic(auto, using(crate::proofs::OpenFileLemmas::entries))]
     fn write(&mut self, id: u32, bytes: &[u8]) -> Result<usize, ShelfFault> {
         empty_made(&self.rt, self.entries.as_slice(), &mut self.full);
         if bytes.is_empty() {

@@ -4,14 +4,14 @@
 //! are not; and whole files and texts, read and written in pieces. It stands on `exb_model` and `std`.
 #![tactic(auto)]
 
-mod entries;
 mod files;
-mod known;
-pub mod pieces;
+mod open_files;
+mod protected_files;
 mod scratch;
 mod shelf;
+pub mod whole_files;
 
 pub use files::{FileShelf, OutSink};
-pub use pieces::{PIECE, ReadFault, print_text, read_file, room, write_text};
 pub use scratch::ScratchShelf;
 pub use shelf::{OpenFault, Shelf, ShelfFault, Sink};
+pub use whole_files::{PIECE, ReadFault, print_text, read_file, room, write_text};

@@ -3,9 +3,9 @@ ghost use Rattle.std.specs.Prelude.{◌≡◌, ◌<◌, ◌≤◌, ◌+◌, ◌^
 ghost use Rattle.std.specs.Option.{option_copied};
 ghost use Rattle.exb_shelf.specs.Files.{SameFiles, Puts, bytes_of};
 ghost use Rattle.exb_shelf.specs.Shelf.{no_id};
-ghost use Rattle.exb_shelf.specs.Memory.{file_in, scratch_files, scratch_ids, scratch_faults};
+ghost use Rattle.exb_shelf.specs.ScratchFiles.{file_in, scratch_files, scratch_ids, scratch_faults};
 
-use crate::entries::{Entry, advance, give};
+use crate::open_files::{OpenFile, advance, give};
 use crate::{OpenFault, Shelf, ShelfFault};
 use exb_model::bytes::are_bytes;
 use exb_model::memory::NoMemory;
@@ -17,7 +17,7 @@ use std::collections::BTreeMap;
 pub struct ScratchShelf {
     alloc: Global,
     files: BTreeMap<String, Vec<u8>>,
-    entries: Vec<Entry>,
+    entries: Vec<OpenFile>,
     missing: u64,
 }
 
@@ -116,7 +116,7 @@ impl Shelf for ScratchShelf {
 
     ghost faults = { scratch_faults };
 
-    #[tactic(auto, using(crate::proofs::EntryLemmas::entries))]
+    #[tactic(auto, using(crate::proofs::OpenFileLemmas::entries))]
     fn open(&mut self, name: &str) -> Result<u32, OpenFault> {
         let Some(bytes) = self.files.get(name) else {
             self.missing = self.missing.saturating_add(1);
@@ -129,7 +129,7 @@ impl Shelf for ScratchShelf {
         }
     }
 
-    #[tactic(auto, using(crate::proofs::EntryLemmas::entries))]
+    #[tactic(auto, using(crate::proofs::OpenFileLemmas::entries))]
     fn read(&mut self, id: u32, into: &mut [u8]) -> Result<usize, ShelfFault> {
         let entry = &self.entries[id as usize];
         let Some(bytes) = self.files.get(entry.name.as_str()) else {
@@ -140,7 +140,7 @@ impl Shelf for ScratchShelf {
         Ok(n)
     }
 
-    #[tactic(auto, using(crate::proofs::EntryLemmas::entries))]
+    #[tactic(auto, using(crate::proofs::OpenFileLemmas::entries))]
     fn create(&mut self, name: &str) -> Result<u32, ShelfFault> {
         let given = self.entries.len();
         let Ok(id) = give(self.alloc, &mut self.entries, false, name) else {
@@ -155,7 +155,7 @@ impl Shelf for ScratchShelf {
         }
     }
 
-    #[tactic(auto, using(crate::proofs::EntryLemmas::entries))]
+    #[tactic(auto, using(crate::proofs::OpenFileLemmas::entries))]
     fn write(&mut self, id: u32, bytes: &[u8]) -> Result<usize, ShelfFault> {
         let entry = &self.entries[id as usize];
         match append(self.alloc, &mut self.files, entry.name.as_str(), bytes) {

@@ -2,7 +2,7 @@
 ghost use Rattle.std.specs.Prelude.{◌≡◌, ◌≢◌, ◌<◌, ◌≤◌, ◌+◌, ◌++◌, ◌↔◌, [], ℕ, true, false, List, Option, None, length, take, drop, IfOk, OnOk, OnErr, IsErrOf, IsSome};
 ghost use Rattle.exb_model.specs.Frames.{IsBytes};
 ghost use Rattle.exb_shelf.specs.Files.{Files, SameFiles, Puts, bytes_of};
-ghost use Rattle.exb_shelf.specs.Counting.{after_open, after_read, after_write, after_print};
+ghost use Rattle.exb_shelf.specs.FaultCounts.{after_open, after_read, after_write, after_print};
 ghost use Rattle.exb_shelf.specs.Shelf.{Id, Faults, IsReading, IsWriting, reading, writing, moved, Rose, NoFewer};
 
 /// Why a file could not be opened.

@@ -4,20 +4,20 @@ use Rattle.std.specs.List.{list_any, list_all}
 use Rattle.std.specs.Str.{bytes_eq}
 use Rattle.exb_model.specs.Tree.{Shape, is_extender, is_external}
 use Rattle.exb_model.specs.Texts.{port_name}
-use Rattle.exb_text.specs.Names.{all_outputs, file_name}
-use Rattle.exb_keys.specs.declared.faults.KeyFault.TheVariants as fault
-use Rattle.exb_keys.specs.declared.words.Word.{Word}
-use Rattle.exb_keys.specs.declared.words.Word.TheVariants as word
-use Rattle.exb_keys.specs.Faults.{Refusal, ◌>>=◌, in_table, in_element}
-use Rattle.exb_tables.specs.declared.rows.PortTable.{PortTable}
-use Rattle.exb_tables.specs.declared.rows.VlanTable.{VlanTable}
-use Rattle.exb_tables.specs.declared.rows.StaticTable.{StaticTable}
-use Rattle.exb_tables.specs.declared.rows.Named.{Named}
-use Rattle.exb_tables.specs.declared.commands.Action.{Action}
-use Rattle.exb_tables.specs.declared.commands.Action.TheVariants as does
-use Rattle.exb_tables.specs.declared.commands.CommandTable.{CommandTable}
-use Rattle.exb_tables.specs.declared.tables.Tables.{Tables}
-use Rattle.exb_topology.specs.Each.{each_ok, refuse}
+use Rattle.exb_journal.specs.FileNames.{all_outputs, file_name}
+use Rattle.exb_toml_keys.specs.declared.faults.KeyFault.TheVariants as fault
+use Rattle.exb_toml_keys.specs.declared.text_values.PortPattern.{PortPattern}
+use Rattle.exb_toml_keys.specs.declared.text_values.PortPattern.TheVariants as word
+use Rattle.exb_toml_keys.specs.Faults.{Refusal, ◌>>=◌, in_table, in_element}
+use Rattle.exb_topology_tables.specs.declared.elements.PortElement.{PortElement}
+use Rattle.exb_topology_tables.specs.declared.elements.VlanElement.{VlanElement}
+use Rattle.exb_topology_tables.specs.declared.elements.StaticElement.{StaticElement}
+use Rattle.exb_topology_tables.specs.declared.elements.Named.{Named}
+use Rattle.exb_topology_tables.specs.declared.commands.Action.{Action}
+use Rattle.exb_topology_tables.specs.declared.commands.Action.TheVariants as does
+use Rattle.exb_topology_tables.specs.declared.commands.CommandElement.{CommandElement}
+use Rattle.exb_topology_tables.specs.declared.tables.TopologyTables.{TopologyTables}
+use Rattle.exb_topology.specs.ElementChecks.{each_ok, refuse}
 
 -- ---- the ports of a list
 
@@ -27,29 +27,29 @@ all_from test k zero = true
 all_from test k (suc n) = test k && all_from test (k + 1) n
 
 -- the tree has what a word names
-abbrev pub is_known : Shape → Word → Bool
+abbrev pub is_known : Shape → PortPattern → Bool
 is_known t word.All = true
 is_known t (word.Whole n) = is_extender t n
 is_known t (word.Ports a b) = all_from (is_external t) a (b + 1 - a)
 
 -- a word names port q, which is external
-abbrev pub names : Shape → ℕ → Word → Bool
+abbrev pub names : Shape → ℕ → PortPattern → Bool
 names t q word.All = is_external t q
 names t q (word.Whole n) = q / 64 == n && is_external t q
 names t q (word.Ports a b) = (nat_le a q && nat_le q b) && is_external t q
 
 -- a word of the list does
-abbrev pub listed : Shape → List Word → ℕ → Bool
+abbrev pub listed : Shape → List PortPattern → ℕ → Bool
 listed t ws q = list_any (names t q) ws
 
 abbrev pub port_ok : Shape → List ℕ → ℕ → Result (Unit {0}) Refusal
 port_ok t key p = refuse (not (is_external t p)) fault.UnknownPort key
 
-abbrev pub words_ok : Shape → List ℕ → List Word → Result (Unit {0}) Refusal
+abbrev pub words_ok : Shape → List ℕ → List PortPattern → Result (Unit {0}) Refusal
 words_ok t key ws = refuse (not (list_all (is_known t) ws)) fault.UnknownPort key
 
 -- ---- each table
-abbrev pub port_table_ok : Shape → List PortTable → ℕ → PortTable → Result (Unit {0}) Refusal
+abbrev pub port_table_ok : Shape → List PortElement → ℕ → PortElement → Result (Unit {0}) Refusal
 port_table_ok t before i p = do
   _there ← port_ok t here p.name
   refuse (list_any (λ q. q.name == p.name) before) fault.Repeat here
@@ -58,10 +58,10 @@ port_table_ok t before i p = do
     here = in_element (codes "port") i ++ codes "name"
 
 -- two ranges of VLANs have one in common
-abbrev pub overlap : VlanTable → VlanTable → Bool
+abbrev pub overlap : VlanElement → VlanElement → Bool
 overlap v w = nat_le w.vid v.last && nat_le v.vid w.last
 
-abbrev pub vlan_ok : Shape → List VlanTable → ℕ → VlanTable → Result (Unit {0}) Refusal
+abbrev pub vlan_ok : Shape → List VlanElement → ℕ → VlanElement → Result (Unit {0}) Refusal
 vlan_ok t before i v = do
   _tagged ← words_ok t (here ++ codes "tagged") v.tagged
   _untagged ← words_ok t (here ++ codes "untagged") v.untagged
@@ -70,10 +70,10 @@ vlan_ok t before i v = do
     here : List ℕ
     here = in_element (codes "vlan") i
 
-abbrev pub same_entry : StaticTable → StaticTable → Bool
+abbrev pub same_entry : StaticElement → StaticElement → Bool
 same_entry s f = f.vid == s.vid && bytes_eq f.address.0 s.address.0
 
-abbrev pub static_ok : Shape → List StaticTable → ℕ → StaticTable → Result (Unit {0}) Refusal
+abbrev pub static_ok : Shape → List StaticElement → ℕ → StaticElement → Result (Unit {0}) Refusal
 static_ok t before i s = do
   _ports ← words_ok t (here ++ codes "ports") s.ports
   refuse (list_any (same_entry s) before) fault.Repeat (here ++ codes "mac")
@@ -94,7 +94,7 @@ action_ok t here (does.Unstatic vid address) = Ok tt
 action_ok t here (does.Up p) = port_ok t (here ++ codes "port") p
 action_ok t here (does.Down p) = port_ok t (here ++ codes "port") p
 
-abbrev pub command_ok : Shape → List CommandTable → ℕ → CommandTable → Result (Unit {0}) Refusal
+abbrev pub command_ok : Shape → List CommandElement → ℕ → CommandElement → Result (Unit {0}) Refusal
 command_ok t before i c = action_ok t (in_element (codes "command") i) c.action
 
 -- ---- captures
@@ -114,11 +114,11 @@ abbrev pub file_ok : List (List ℕ) → List Named → ℕ → Named → Result
 file_ok outputs before i n = refuse (list_any (λ o. bytes_eq n.name o) outputs) fault.Repeat (capture_key n.port)
 
 -- ---- the third pass, table after table
-abbrev pub vlans_ok : Shape → Option (List VlanTable) → Result (Unit {0}) Refusal
+abbrev pub vlans_ok : Shape → Option (List VlanElement) → Result (Unit {0}) Refusal
 vlans_ok t None = Ok tt
 vlans_ok t (Some vs) = each_ok (vlan_ok t) vs 0 vs
 
-unfoldable pub ports_ok : Shape → Tables → Result (Unit {0}) Refusal
+unfoldable pub ports_ok : Shape → TopologyTables → Result (Unit {0}) Refusal
 ports_ok t file = do
   _ports ← each_ok (port_table_ok t) file.ports 0 file.ports
   _vlans ← vlans_ok t file.vlans

@@ -1,7 +1,7 @@
-pub mod Each
+pub mod ElementChecks
 pub mod Trees
 pub mod Checks
-pub mod Given
-pub mod Seen
+pub mod StaticEntrySets
+pub mod CommandViews
 pub mod Topologies
-pub mod Sound
+pub mod Soundness

@@ -6,38 +6,38 @@ use Rattle.exb_model.specs.declared.setup.Setup.{Setup}
 use Rattle.exb_model.specs.declared.setup.Verdict.{Verdict}
 use Rattle.exb_model.specs.Tree.{Shape, is_external}
 use Rattle.exb_model.specs.Setup.{shape_of}
-use Rattle.exb_keys.specs.Faults.{Refusal, ◌>>=◌}
-use Rattle.exb_tables.specs.declared.rows.PortTable.{PortTable}
-use Rattle.exb_tables.specs.declared.rows.VlanTable.{VlanTable}
-use Rattle.exb_tables.specs.declared.rows.StaticTable.{StaticTable}
-use Rattle.exb_tables.specs.declared.rows.Named.{Named}
-use Rattle.exb_tables.specs.declared.commands.Action.{Action}
-use Rattle.exb_tables.specs.declared.commands.Action.TheVariants as does
-use Rattle.exb_tables.specs.declared.commands.CommandTable.{CommandTable}
-use Rattle.exb_tables.specs.declared.tables.Tables.{Tables}
-use Rattle.exb_tables.specs.Tables.{tables_of}
+use Rattle.exb_toml_keys.specs.Faults.{Refusal, ◌>>=◌}
+use Rattle.exb_topology_tables.specs.declared.elements.PortElement.{PortElement}
+use Rattle.exb_topology_tables.specs.declared.elements.VlanElement.{VlanElement}
+use Rattle.exb_topology_tables.specs.declared.elements.StaticElement.{StaticElement}
+use Rattle.exb_topology_tables.specs.declared.elements.Named.{Named}
+use Rattle.exb_topology_tables.specs.declared.commands.Action.{Action}
+use Rattle.exb_topology_tables.specs.declared.commands.Action.TheVariants as does
+use Rattle.exb_topology_tables.specs.declared.commands.CommandElement.{CommandElement}
+use Rattle.exb_topology_tables.specs.declared.tables.TopologyTables.{TopologyTables}
+use Rattle.exb_topology_tables.specs.Tables.{tables_of}
 use Rattle.exb_topology.specs.declared.topology.Topology.{Topology}
 use Rattle.exb_topology.specs.Trees.{tree_ok}
 use Rattle.exb_topology.specs.Checks.{listed, ports_ok}
-use Rattle.exb_topology.specs.Seen.{Seen, set_vlan, put_member, take_member, set_pvid, set_accept, set_filter, set_isolated, put_static, take_static, go_up, go_down, seen, TimedSeen, timed_view}
+use Rattle.exb_topology.specs.CommandViews.{Seen, set_vlan, put_member, take_member, set_pvid, set_accept, set_filter, set_isolated, put_static, take_static, go_up, go_down, seen, TimedSeen, timed_view}
 
 -- ---- what the start sets: the ports in file order, then the VLANs, then the static entries
-abbrev pub port_start : PortTable → List Seen
+abbrev pub port_start : PortElement → List Seen
 port_start p = set_pvid p.name p.pvid ∷ set_accept p.name p.accept ∷ set_filter p.name p.filter ∷ set_isolated p.name p.isolated ∷ []
 
 -- each VLAN from the first to the last
-abbrev pub vlan_start : Shape → VlanTable → List Seen
+abbrev pub vlan_start : Shape → VlanElement → List Seen
 vlan_start t v = map (λ n. set_vlan n (listed t v.tagged) (listed t v.untagged)) (range_with_len v.vid (v.last + 1 - v.vid))
 
 -- without a key `vlan`, VLAN 1 holds every external port untagged
-abbrev pub vlans_start : Shape → Option (List VlanTable) → List Seen
+abbrev pub vlans_start : Shape → Option (List VlanElement) → List Seen
 vlans_start t None = set_vlan 1 (λ q. false) (is_external t) ∷ []
 vlans_start t (Some vs) = flat_map (vlan_start t) vs
 
-abbrev pub static_start : Shape → StaticTable → Seen
+abbrev pub static_start : Shape → StaticElement → Seen
 static_start t s = put_static s.vid s.address (listed t s.ports)
 
-abbrev pub start_seen : Shape → Tables → List Seen
+abbrev pub start_seen : Shape → TopologyTables → List Seen
 start_seen t file = flat_map port_start file.ports ++ vlans_start t file.vlans ++ map (static_start t) file.statics
 
 -- ---- commands
@@ -54,7 +54,7 @@ deed t (does.Unstatic v m) = take_static v m
 deed t (does.Up p) = go_up p
 deed t (does.Down p) = go_down p
 
-abbrev pub command_seen : Shape → CommandTable → TimedSeen
+abbrev pub command_seen : Shape → CommandElement → TimedSeen
 command_seen t c = record { at = c.at; command = deed t c.action; fate = c.fate }
 
 -- ---- the whole
@@ -88,7 +88,7 @@ topology_view t =
     }
 
 -- the setup of the tables of a file, with nothing at its start yet
-abbrev pub bare : Tables → Setup
+abbrev pub bare : TopologyTables → Setup
 bare file =
     record {
       ports = file.bridge.ports;
@@ -99,7 +99,7 @@ bare file =
       start = [];
     }
 
-abbrev pub topology_seen : Shape → Tables → TopologySeen
+abbrev pub topology_seen : Shape → TopologyTables → TopologySeen
 topology_seen t file =
     record {
       ports = file.bridge.ports;
@@ -115,7 +115,7 @@ topology_seen t file =
     }
 
 -- the second and the third pass over the tables
-unfoldable pub resolved : Tables → Result TopologySeen Refusal
+unfoldable pub resolved : TopologyTables → Result TopologySeen Refusal
 resolved file = do
   _tree ← tree_ok (bare file)
   _ports ← ports_ok (shape_of (bare file)) file

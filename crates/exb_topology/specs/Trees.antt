@@ -5,9 +5,9 @@ use Rattle.exb_model.specs.declared.setup.ExtenderSetup.{ExtenderSetup}
 use Rattle.exb_model.specs.declared.setup.Setup.{Setup}
 use Rattle.exb_model.specs.Tree.{Shape, any_below, top, cascades_under}
 use Rattle.exb_model.specs.Setup.{IsAgeing, InRange, port_at, shape_of}
-use Rattle.exb_keys.specs.declared.faults.KeyFault.TheVariants as fault
-use Rattle.exb_keys.specs.Faults.{Refusal, ◌>>=◌, in_table, in_element}
-use Rattle.exb_topology.specs.Each.{each_ok, refuse}
+use Rattle.exb_toml_keys.specs.declared.faults.KeyFault.TheVariants as fault
+use Rattle.exb_toml_keys.specs.Faults.{Refusal, ◌>>=◌, in_table, in_element}
+use Rattle.exb_topology.specs.ElementChecks.{each_ok, refuse}
 
 -- how many ports the first extender of a number has; 0 where there is none
 abbrev pub ports_of : List ExtenderSetup → ℕ → ℕ

@@ -3,23 +3,23 @@ ghost use Rattle.std.specs.Prelude.{◌≡◌, ◌==◌, ◌++◌, ◌∷◌, []
 ghost use Rattle.std.specs.List.{list_any};
 ghost use Rattle.std.specs.Str.{bytes_eq};
 ghost use Rattle.exb_model.specs.Tree.{Shape};
-ghost use Rattle.exb_keys.specs.Faults.{Gives, place_text, in_element};
-ghost use Rattle.exb_topology.specs.Each.{each_ok, refuse};
+ghost use Rattle.exb_toml_keys.specs.Faults.{Gives, place_text, in_element};
+ghost use Rattle.exb_topology.specs.ElementChecks.{each_ok, refuse};
 ghost use Rattle.exb_topology.specs.Checks.{port_ok, words_ok, port_table_ok, overlap, vlan_ok, vlans_ok, same_entry, static_ok, action_ok, command_ok, capture_key, capture_ok, output_names, file_ok};
-ghost use Rattle.exb_topology.specs.Given.{Knows};
+ghost use Rattle.exb_topology.specs.StaticEntrySets.{Knows};
 
 use crate::outputs::output_names;
-use crate::words::are_known;
-use exb_keys::faults::{KeyFault, TopoFault};
-use exb_keys::place::Place;
-use exb_keys::words::Word;
+use crate::port_sets::are_known;
+use exb_journal::PortName;
 use exb_model::list::List;
 use exb_model::memory::NoMemory;
 use exb_model::port::PortId;
 use exb_model::text::Text;
 use exb_model::tree::Tree;
-use exb_tables::{Action, CommandTable, Named, PortTable, StaticTable, VlanTable};
-use exb_text::PortName;
+use exb_toml_keys::faults::{KeyFault, TopoFault};
+use exb_toml_keys::key_path::KeyPath;
+use exb_toml_keys::text_values::PortPattern;
+use exb_topology_tables::{Action, CommandElement, Named, PortElement, StaticElement, VlanElement};
 use std::alloc::Global;
 use std::collections::BTreeSet;
 
@@ -27,7 +27,7 @@ use std::collections::BTreeSet;
 pub fn refuse(
     alloc: Global,
     test: bool,
-    place: Place,
+    place: KeyPath,
     key: &str,
     fault: KeyFault,
 ) -> Result<(), TopoFault>
@@ -44,7 +44,7 @@ pub fn refuse(
 fn check_port(
     alloc: Global,
     tree: &Tree,
-    place: Place,
+    place: KeyPath,
     key: &str,
     port: PortId,
 ) -> Result<(), TopoFault>
@@ -58,9 +58,9 @@ fn check_port(
 fn check_words(
     alloc: Global,
     tree: &Tree,
-    place: Place,
+    place: KeyPath,
     key: &str,
-    words: &List<Word>,
+    words: &List<PortPattern>,
 ) -> Result<(), TopoFault>
     ensures { Gives result (words_ok tree.now (place_text place ++ key.now) words.now) }
 {
@@ -68,7 +68,7 @@ fn check_words(
     refuse(alloc, unknown, place, key, KeyFault::UnknownPort)
 }
 
-fn is_named(before: &[PortTable], name: PortId) -> bool
+fn is_named(before: &[PortElement], name: PortId) -> bool
     ensures { result ≡ list_any (λ q. q.name == name) before.now }
 {
     for table in before {
@@ -82,13 +82,13 @@ fn is_named(before: &[PortTable], name: PortId) -> bool
 fn check_port_table(
     alloc: Global,
     tree: &Tree,
-    before: &[PortTable],
+    before: &[PortElement],
     index: usize,
-    table: PortTable,
+    table: PortElement,
 ) -> Result<(), TopoFault>
     ensures { Gives result (port_table_ok tree.now before.now index table) }
 {
-    let place = Place::Element {
+    let place = KeyPath::Element {
         table: "port",
         index,
     };
@@ -97,7 +97,11 @@ fn check_port_table(
     refuse(alloc, again, place, "name", KeyFault::Repeat)
 }
 
-pub(crate) fn check_ports(alloc: Global, tree: &Tree, tables: &[PortTable]) -> Result<(), TopoFault>
+pub(crate) fn check_ports(
+    alloc: Global,
+    tree: &Tree,
+    tables: &[PortElement],
+) -> Result<(), TopoFault>
     ensures { Gives result (each_ok (port_table_ok tree.now) tables.now 0 tables.now) }
 {
     for index in 0..tables.len() {
@@ -107,7 +111,7 @@ pub(crate) fn check_ports(alloc: Global, tree: &Tree, tables: &[PortTable]) -> R
 }
 
 /// Whether a VLAN of a range was given before.
-fn overlaps(vlan: &VlanTable, before: &[VlanTable]) -> bool
+fn overlaps(vlan: &VlanElement, before: &[VlanElement]) -> bool
     ensures { result ≡ list_any (overlap vlan.now) before.now }
 {
     for other in before {
@@ -121,13 +125,13 @@ fn overlaps(vlan: &VlanTable, before: &[VlanTable]) -> bool
 fn check_vlan(
     alloc: Global,
     tree: &Tree,
-    before: &[VlanTable],
+    before: &[VlanElement],
     index: usize,
-    vlan: &VlanTable,
+    vlan: &VlanElement,
 ) -> Result<(), TopoFault>
     ensures { Gives result (vlan_ok tree.now before.now index vlan.now) }
 {
-    let place = Place::Element {
+    let place = KeyPath::Element {
         table: "vlan",
         index,
     };
@@ -140,7 +144,7 @@ fn check_vlan(
 pub(crate) fn check_vlans(
     alloc: Global,
     tree: &Tree,
-    vlans: &Option<List<VlanTable>>,
+    vlans: &Option<List<VlanElement>>,
 ) -> Result<(), TopoFault>
     ensures { Gives result (vlans_ok tree.now vlans.now) }
 {
@@ -150,7 +154,7 @@ pub(crate) fn check_vlans(
     }
 }
 
-fn check_each_vlan(alloc: Global, tree: &Tree, vlans: &[VlanTable]) -> Result<(), TopoFault>
+fn check_each_vlan(alloc: Global, tree: &Tree, vlans: &[VlanElement]) -> Result<(), TopoFault>
     ensures { Gives result (each_ok (vlan_ok tree.now) vlans.now 0 vlans.now) }
 {
     for (index, vlan) in vlans.iter().enumerate() {
@@ -163,9 +167,9 @@ fn check_each_vlan(alloc: Global, tree: &Tree, vlans: &[VlanTable]) -> Result<()
 type Destinations = BTreeSet<(u16, [u8; 6])>;
 
 /// Notes what an entry is for, and answers whether that was given before.
-fn note(given: &mut Destinations, entry: &StaticTable) -> Result<bool, NoMemory>
-    ensures again { IfOk result (λ again. (before : List StaticTable) → Knows given.old before → again ≡ list_any (same_entry entry.now) before) }
-    ensures noted { OnOk result ((before : List StaticTable) → Knows given.old before → Knows given.new (before ++ entry.now ∷ [])) }
+fn note(given: &mut Destinations, entry: &StaticElement) -> Result<bool, NoMemory>
+    ensures again { IfOk result (λ again. (before : List StaticElement) → Knows given.old before → again ≡ list_any (same_entry entry.now) before) }
+    ensures noted { OnOk result ((before : List StaticElement) → Knows given.old before → Knows given.new (before ++ entry.now ∷ [])) }
 {
     let is_new = given.insert((entry.vid.number(), entry.address.0))?;
     Ok(!is_new)
@@ -176,12 +180,12 @@ fn check_static(
     tree: &Tree,
     given: &mut Destinations,
     index: usize,
-    entry: &StaticTable,
+    entry: &StaticElement,
 ) -> Result<(), TopoFault>
-    ensures value { (before : List StaticTable) → Knows given.old before → Gives result (static_ok tree.now before index entry.now) }
-    ensures noted { (before : List StaticTable) → Knows given.old before → OnOk result (Knows given.new (before ++ entry.now ∷ [])) }
+    ensures value { (before : List StaticElement) → Knows given.old before → Gives result (static_ok tree.now before index entry.now) }
+    ensures noted { (before : List StaticElement) → Knows given.old before → OnOk result (Knows given.new (before ++ entry.now ∷ [])) }
 {
-    let place = Place::Element {
+    let place = KeyPath::Element {
         table: "static",
         index,
     };
@@ -190,11 +194,11 @@ fn check_static(
     refuse(alloc, again, place, "mac", KeyFault::Repeat)
 }
 
-#[tactic(auto, using(crate::proofs::Given::knows_none))]
+#[tactic(auto, using(crate::proofs::StaticEntrySets::knows_none))]
 pub(crate) fn check_statics(
     alloc: Global,
     tree: &Tree,
-    statics: &[StaticTable],
+    statics: &[StaticElement],
 ) -> Result<(), TopoFault>
     ensures { Gives result (each_ok (static_ok tree.now) statics.now 0 statics.now) }
 {
@@ -205,7 +209,12 @@ pub(crate) fn check_statics(
     Ok(())
 }
 
-fn check_action(alloc: Global, tree: &Tree, place: Place, action: &Action) -> Result<(), TopoFault>
+fn check_action(
+    alloc: Global,
+    tree: &Tree,
+    place: KeyPath,
+    action: &Action,
+) -> Result<(), TopoFault>
     ensures { Gives result (action_ok tree.now (place_text place) action.now) }
 {
     match action {
@@ -241,12 +250,12 @@ fn check_action(alloc: Global, tree: &Tree, place: Place, action: &Action) -> Re
 pub(crate) fn check_commands(
     alloc: Global,
     tree: &Tree,
-    commands: &[CommandTable],
+    commands: &[CommandElement],
 ) -> Result<(), TopoFault>
     ensures { Gives result (each_ok (command_ok tree.now) commands.now 0 commands.now) }
 {
     for (index, command) in commands.iter().enumerate() {
-        let place = Place::Element {
+        let place = KeyPath::Element {
             table: "command",
             index,
         };
@@ -262,7 +271,7 @@ fn refuse_capture(alloc: Global, test: bool, port: PortId, fault: KeyFault) -> R
     if !test {
         return Ok(());
     }
-    let place = Place::Table { table: "captures" };
+    let place = KeyPath::Table { table: "captures" };
     let key = format!(in alloc; "{}", PortName(port))?;
     Err(place.fault(alloc, key.as_str(), fault))
 }

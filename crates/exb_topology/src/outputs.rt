@@ -1,15 +1,15 @@
 //! The names of the files that runs of a topology write.
 ghost use Rattle.std.specs.Prelude.{◌≡◌, ◌++◌, ◌∷◌, [], IfOk, OnOk, map, if◌then◌else◌};
 ghost use Rattle.exb_model.specs.Tree.{is_external, external_ports};
-ghost use Rattle.exb_text.specs.Names.{capture_name};
+ghost use Rattle.exb_journal.specs.FileNames.{capture_name};
 ghost use Rattle.exb_topology.specs.Checks.{output_names};
 
+use exb_journal::{OutputKind, add_name, add_other_names};
 use exb_model::list::List;
 use exb_model::memory::NoMemory;
 use exb_model::port::PortId;
 use exb_model::text::Text;
 use exb_model::tree::Tree;
-use exb_text::{Output, add_name, add_other_names};
 use std::alloc::Global;
 
 /// The names of all files that runs of a topology write: the captures of the external ports in port order, and after
@@ -35,7 +35,7 @@ fn add_capture(
     if !tree.is_external(port) {
         return Ok(());
     }
-    add_name(alloc, prefix, &Output::Capture(port), names)
+    add_name(alloc, prefix, &OutputKind::Capture(port), names)
 }
 
 /// The names of the captures that runs write.

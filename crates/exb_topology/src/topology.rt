@@ -1,24 +1,24 @@
 //! A topology file, read whole.
 ghost use Rattle.std.specs.Prelude.{◌≡◌, IfOk, OnOk, Ok, map};
-ghost use Rattle.exb_keys.specs.Faults.{Gives, GivesSeen};
+ghost use Rattle.exb_toml_keys.specs.Faults.{Gives, GivesSeen};
 ghost use Rattle.exb_model.specs.Setup.{IsValid, shape_of};
-ghost use Rattle.exb_tables.specs.Tables.{AreInRange};
-ghost use Rattle.exb_topology.specs.Each.{each_ok};
+ghost use Rattle.exb_topology_tables.specs.Tables.{AreInRange};
+ghost use Rattle.exb_topology.specs.ElementChecks.{each_ok};
 ghost use Rattle.exb_topology.specs.Checks.{port_table_ok, ports_ok};
-ghost use Rattle.exb_topology.specs.Sound.{IsSound};
-ghost use Rattle.exb_topology.specs.Seen.{seen, timed_view};
+ghost use Rattle.exb_topology.specs.Soundness.{IsSound};
+ghost use Rattle.exb_topology.specs.CommandViews.{seen, timed_view};
 ghost use Rattle.exb_topology.specs.Topologies.{topology_view, topology_seen, topology_of, start_seen, command_seen, bare, resolved};
 
 use crate::trees::check_tree;
-use crate::{checks, start};
-use exb_keys::faults::TopoFault;
+use crate::{checks, commands};
 use exb_model::command::Command;
 use exb_model::list::List;
 use exb_model::memory::NoMemory;
 use exb_model::setup::{ExtenderSetup, Setup, Timed, Verdict};
 use exb_model::text::Text;
 use exb_model::tree::Tree;
-use exb_tables::{Named, Tables, tables_of};
+use exb_toml_keys::faults::TopoFault;
+use exb_topology_tables::{Named, TopologyTables, tables_of};
 use std::alloc::Global;
 
 /// What a topology file says.
@@ -47,7 +47,7 @@ fn copied(alloc: Global, extenders: &[ExtenderSetup]) -> Result<List<ExtenderSet
 }
 
 /// The setup of the tables of a file, with nothing at its start yet.
-fn bare(alloc: Global, tables: &Tables) -> Result<Setup, NoMemory>
+fn bare(alloc: Global, tables: &TopologyTables) -> Result<Setup, NoMemory>
     ensures { IfOk result (λ setup. setup ≡ bare tables.now) }
 {
     let extenders = copied(alloc, tables.extenders.as_slice())?;
@@ -63,7 +63,7 @@ fn bare(alloc: Global, tables: &Tables) -> Result<Setup, NoMemory>
 
 /// The third pass over the tables of a file.
 #[tactic(auto, unfolding(crate::specs::Checks::ports_ok))]
-fn check_ports(alloc: Global, tree: &Tree, tables: &Tables) -> Result<(), TopoFault>
+fn check_ports(alloc: Global, tree: &Tree, tables: &TopologyTables) -> Result<(), TopoFault>
     ensures value { Gives result (ports_ok tree.now tables.now) }
     ensures named { OnOk result (each_ok (port_table_ok tree.now) tables.now.ports 0 tables.now.ports ≡ Ok tt) }
 {
@@ -80,27 +80,32 @@ fn check_ports(alloc: Global, tree: &Tree, tables: &Tables) -> Result<(), TopoFa
 fn all_commands(
     alloc: Global,
     tree: &Tree,
-    tables: &Tables,
+    tables: &TopologyTables,
 ) -> Result<(List<Command>, List<Timed>), NoMemory>
     ensures start { IfOk result (λ made. map seen made.0 ≡ start_seen tree.now tables.now) }
     ensures later { IfOk result (λ made. map timed_view made.1 ≡ map (command_seen tree.now) tables.now.commands) }
 {
     let ports = tables.ports.as_slice();
-    let start = start::start_of(alloc, tree, ports, &tables.vlans, tables.statics.as_slice())?;
-    let later = start::commands_of(alloc, tree, tables.commands.as_slice())?;
+    let start = commands::start_of(alloc, tree, ports, &tables.vlans, tables.statics.as_slice())?;
+    let later = commands::commands_of(alloc, tree, tables.commands.as_slice())?;
     Ok((start, later))
 }
 
 /// The topology of a setup with these commands at its start, and of those that come later. It can't fail, so that what is left of the
 /// tables goes at one end alone.
-fn put_together(setup: Setup, start: List<Command>, later: List<Timed>, tables: Tables) -> Topology
+fn put_together(
+    setup: Setup,
+    start: List<Command>,
+    later: List<Timed>,
+    tables: TopologyTables,
+) -> Topology
     ensures setup { result.setup ≡ record setup { start = start } }
     ensures commands { result.commands ≡ later }
     ensures fate { result.fate ≡ tables.fate }
     ensures captures { result.captures ≡ tables.captures }
     ensures prefix { result.prefix ≡ tables.bridge.out }
 {
-    let Tables {
+    let TopologyTables {
         bridge,
         fate,
         extenders: _extenders,
@@ -122,7 +127,12 @@ fn put_together(setup: Setup, start: List<Command>, later: List<Timed>, tables: 
 }
 
 /// The topology of tables that passed, from its valid setup with nothing at the start.
-fn finished(alloc: Global, setup: Setup, tree: &Tree, tables: Tables) -> Result<Topology, NoMemory>
+fn finished(
+    alloc: Global,
+    setup: Setup,
+    tree: &Tree,
+    tables: TopologyTables,
+) -> Result<Topology, NoMemory>
     requires bare { setup ≡ bare tables }
     requires tree { tree.now ≡ shape_of setup }
     requires valid { IsValid setup }
@@ -142,7 +152,7 @@ fn finished(alloc: Global, setup: Setup, tree: &Tree, tables: Tables) -> Result<
 
 /// The second and the third pass over the tables of a file, by the setup of these. Answers the tree.
 #[tactic(auto, unfolding(crate::specs::Topologies::resolved))]
-fn passed(alloc: Global, setup: &Setup, tables: &Tables) -> Result<Tree, TopoFault>
+fn passed(alloc: Global, setup: &Setup, tables: &TopologyTables) -> Result<Tree, TopoFault>
     requires ranges { AreInRange tables.now }
     requires bare { setup.now ≡ bare tables.now }
     ensures exact { GivesSeen (λ tree. topology_seen tree tables.now) result (resolved tables.now) }
@@ -163,7 +173,7 @@ fn passed(alloc: Global, setup: &Setup, tables: &Tables) -> Result<Tree, TopoFau
 
 /// The second and the third pass over the tables of a file. What is owned goes by calls, since an early end is far longer to
 /// prove where it lets it go.
-fn resolved(alloc: Global, tables: Tables) -> Result<Topology, TopoFault>
+fn resolved(alloc: Global, tables: TopologyTables) -> Result<Topology, TopoFault>
     requires { AreInRange tables }
     ensures exact { GivesSeen topology_view result (resolved tables) }
     ensures valid { IfOk result (λ t. IsValid t.setup) }

@@ -4,14 +4,14 @@ ghost use Rattle.std.specs.List.{list_any};
 ghost use Rattle.exb_model.specs.Tree.{Shape, top};
 ghost use Rattle.exb_model.specs.declared.setup.ExtenderSetup.{ExtenderSetup};
 ghost use Rattle.exb_model.specs.Setup.{InRange, IsValid, port_at, shape_of};
-ghost use Rattle.exb_keys.specs.Faults.{Gives, place_text};
-ghost use Rattle.exb_topology.specs.Each.{each_ok, refuse};
+ghost use Rattle.exb_toml_keys.specs.Faults.{Gives, place_text};
+ghost use Rattle.exb_topology.specs.ElementChecks.{each_ok, refuse};
 ghost use Rattle.exb_topology.specs.Trees.{ports_of, has_port, hung, rooted, tree_ok, HasRanges};
 
 use crate::checks::refuse;
-use exb_keys::faults::{KeyFault, TopoFault};
-use exb_keys::place::Place as At;
 use exb_model::setup::{ExtenderSetup, Place, Setup, has_number};
+use exb_toml_keys::faults::{KeyFault, TopoFault};
+use exb_toml_keys::key_path::KeyPath as At;
 use std::alloc::Global;
 
 /// The port at a place.

@@ -5,16 +5,16 @@ use Rattle.std.proofs.lemmas.Bool.{and_parts, ltb-true, leb-true, cases_eq, case
 use Rattle.std.proofs.lemmas.List.{get_or-set_other, get_or-set_same, set-get_or, length-set, take_at}
 use Rattle.std.proofs.lemmas.Nat.Bits.{bit_at_clear_same, bit_at_clear_other}
 use Rattle.exb_csp.specs.declared.group_rows.GroupRow.{GroupRow}
-use Rattle.exb_csp.specs.Execute.{ExtenderTables, in_mask, some_port, has_stray, row_code, rows_code, clears_code, in_rows, is_listed, is_channel, create_code, clear_code, code_of, done, answered_ports, executed, response_to}
+use Rattle.exb_csp.specs.Execution.{ExtenderTables, in_mask, some_port, has_stray, row_code, rows_code, clears_code, in_rows, is_listed, is_channel, create_code, clear_code, code_of, done, answered_ports, executed, response_to}
 use Rattle.exb_csp.specs.declared.message.RequestKind.{RequestKind}
 use Rattle.exb_csp.specs.declared.message.Response.{Response}
-use Rattle.exb_csp.specs.Kinds.{kind_of}
+use Rattle.exb_csp.specs.RequestKinds.{kind_of}
 use Rattle.exb_csp.specs.declared.message.Request.{Request}
 use Rattle.exb_csp.specs.declared.message.Request.TheVariants.{Open, PortCreate, PortDelete, Register, Unregister, RegisterMany, UnregisterMany}
-use Rattle.exb_csp.specs.Words.{powered_on}
-use Rattle.exb_csp.proofs.Loops.{in_mask-or, no_row, in_rows-next, is_listed-next, one_row, without}
-use Rattle.exb_wire_tests.specs.Plain.{at_port, tables_in, IsPlain, PlainState, tables_of, is_shut, stray_at, Created, Deleted, IsChange}
-use Rattle.exb_csp.proofs.Executing.{or_false, and_true, or_assoc, both_out, mask_empty, some_port-true, some_port-false, no_port, find_port, executed_done, executed_refused}
+use Rattle.exb_csp.specs.PortMasks.{powered_on}
+use Rattle.exb_csp.proofs.ExecutionLoops.{in_mask-or, no_row, in_rows-next, is_listed-next, one_row, without}
+use Rattle.exb_wire_tests.specs.PlainStates.{at_port, tables_in, IsPlain, PlainState, tables_of, is_shut, stray_at, Created, Deleted, IsChange}
+use Rattle.exb_csp.proofs.ExecutionLaws.{or_false, and_true, or_assoc, both_out, mask_empty, some_port-true, some_port-false, no_port, find_port, executed_done, executed_refused}
 
 -- ---- ports
 

@@ -1,6 +1,6 @@
 //! Announcements: what the bytes of a frame say, or their first fault. Each TLV stands as its header and its value.
-use crate::formats::{Format, judge};
-use crate::words::expect_bytes;
+use crate::formats::{WireFormat, judge};
+use crate::row_words::expect_bytes;
 use exb_lldp::{Announce, write};
 use exb_model::address::Mac;
 use exb_model::buffers::ControlBuf;
@@ -43,7 +43,7 @@ const FRAMES: &str =
 
 #[test]
 fn announcements_are_read(rt: HostRuntime) {
-    judge(&rt, rt.alloc(), Format::Announcement, FRAMES);
+    judge(&rt, rt.alloc(), WireFormat::Announcement, FRAMES);
 }
 
 #[test]

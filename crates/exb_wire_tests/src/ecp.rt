@@ -1,6 +1,6 @@
 //! ECP: what the bytes of a frame say, and what is sent again and handed up.
-use crate::formats::{Format, judge};
-use crate::words::{expect, expect_bytes, number, row_of};
+use crate::formats::{WireFormat, judge};
+use crate::row_words::{expect, expect_bytes, number, row_of};
 use exb_ecp::{Beat, Ecp, Pdu, write};
 use exb_model::address::Mac;
 use exb_model::buffers::ControlBuf;
@@ -25,7 +25,7 @@ const FRAMES: &str =
 
 #[test]
 fn frames_are_read(rt: HostRuntime) {
-    judge(&rt, rt.alloc(), Format::Ecp, FRAMES);
+    judge(&rt, rt.alloc(), WireFormat::Ecp, FRAMES);
 }
 
 // Asserts the bytes of a request or an acknowledgement with a payload of two bytes.

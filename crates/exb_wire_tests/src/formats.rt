@@ -1,6 +1,6 @@
 //! What bytes are read as.
 use crate::messages::expect_message;
-use crate::words::{bytes_of, expect, expect_read, row_of};
+use crate::row_words::{bytes_of, expect, expect_read, row_of};
 use exb_frame::classify::classify;
 use exb_frame::etag::ETag;
 use std::alloc::Global;
@@ -8,7 +8,7 @@ use std::process::Abort;
 
 /// What bytes are read as.
 #[derive(Clone, Copy)]
-pub(crate) enum Format {
+pub(crate) enum WireFormat {
     Announcement,
     Ecp,
     Message,
@@ -17,18 +17,25 @@ pub(crate) enum Format {
 }
 
 // Asserts what bytes say, or their first fault.
-fn expect_in(rt: &impl Abort, alloc: Global, format: Format, bytes: &[u8], wanted: &str, of: &str) {
+fn expect_in(
+    rt: &impl Abort,
+    alloc: Global,
+    format: WireFormat,
+    bytes: &[u8],
+    wanted: &str,
+    of: &str,
+) {
     match format {
-        Format::Announcement => expect_read(rt, alloc, &exb_lldp::read(bytes), wanted, of),
-        Format::Ecp => expect_read(rt, alloc, &exb_ecp::read(bytes), wanted, of),
-        Format::Message => expect_message(rt, alloc, bytes, wanted, of),
-        Format::ETag => expect(rt, alloc, &ETag::read(bytes), wanted, of),
-        Format::Frame => expect(rt, alloc, &classify(bytes), wanted, of),
+        WireFormat::Announcement => expect_read(rt, alloc, &exb_lldp::read(bytes), wanted, of),
+        WireFormat::Ecp => expect_read(rt, alloc, &exb_ecp::read(bytes), wanted, of),
+        WireFormat::Message => expect_message(rt, alloc, bytes, wanted, of),
+        WireFormat::ETag => expect(rt, alloc, &ETag::read(bytes), wanted, of),
+        WireFormat::Frame => expect(rt, alloc, &classify(bytes), wanted, of),
     }
 }
 
 // The same of a row.
-fn judge_row(rt: &impl Abort, alloc: Global, format: Format, row: &str) {
+fn judge_row(rt: &impl Abort, alloc: Global, format: WireFormat, row: &str) {
     if row.starts_with("#") {
         return;
     }
@@ -38,7 +45,7 @@ fn judge_row(rt: &impl Abort, alloc: Global, format: Format, row: &str) {
 }
 
 /// Asserts what the bytes of each row say, or their first fault.
-pub(crate) fn judge(rt: &impl Abort, alloc: Global, format: Format, rows: &str) {
+pub(crate) fn judge(rt: &impl Abort, alloc: Global, format: WireFormat, rows: &str) {
     for row in rows.lines() {
         judge_row(rt, alloc, format, row);
     }

@@ -3,8 +3,8 @@ ghost use Rattle.std.specs.Prelude.{◌≡◌};
 ghost use Rattle.exb_model.specs.Frames.{kind_of};
 ghost use Rattle.exb_frame.specs.Egress.{can_leave};
 
-use crate::formats::{Format, judge};
-use crate::words::{bytes_of, expect_bytes, row_of};
+use crate::formats::{WireFormat, judge};
+use crate::row_words::{bytes_of, expect_bytes, row_of};
 use exb_frame::classify::classify;
 use exb_frame::egress::{VlanTag, egress_into};
 use exb_frame::etag::{ETag, strip_in_place, strip_into, tag_into};
@@ -31,7 +31,7 @@ const KINDS: &str = "FF 12x00>Short\n\
 
 #[test]
 fn frames_have_their_kinds(rt: HostRuntime) {
-    judge(&rt, rt.alloc(), Format::Frame, KINDS);
+    judge(&rt, rt.alloc(), WireFormat::Frame, KINDS);
 }
 
 const TAGS: &str =
@@ -47,7 +47,7 @@ const TAGS: &str =
 
 #[test]
 fn e_tags_are_read(rt: HostRuntime) {
-    judge(&rt, rt.alloc(), Format::ETag, TAGS);
+    judge(&rt, rt.alloc(), WireFormat::ETag, TAGS);
 }
 
 const TAG: ETag = ETag {

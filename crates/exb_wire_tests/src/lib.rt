@@ -12,16 +12,16 @@ mod formats;
 #[cfg(test)]
 mod frames;
 #[cfg(test)]
-mod hostile;
-#[cfg(test)]
 mod links;
 #[cfg(test)]
 mod messages;
 #[cfg(test)]
-mod plain;
+mod mutations;
+#[cfg(test)]
+mod plain_tables;
+#[cfg(test)]
+mod row_words;
 #[cfg(test)]
 mod sessions;
 #[cfg(test)]
 mod tables;
-#[cfg(test)]
-mod words;

@@ -1,22 +1,22 @@
 //! Links as a caller sees them. Each word has a number; control words begin with their destination.
-use crate::words::{expect, number, row_of};
-use exb_link::{BoxedWord, Link, Word};
+use crate::row_words::{expect, number, row_of};
+use exb_link::{BoxedFrame, Link, LinkFrame};
 use exb_model::bytes::Bytes;
 use std::alloc::Global;
 use std::process::Abort;
 
 // A word whose destination ends with a byte, and which ends with its number.
-fn word(rt: &impl Abort, alloc: Global, destination: u8, number: u8) -> BoxedWord {
+fn word(rt: &impl Abort, alloc: Global, destination: u8, number: u8) -> BoxedFrame {
     let bytes = [0x01, 0x80, 0xC2, 0x00, 0x00, destination, number];
-    let word = Word {
+    let word = LinkFrame {
         bytes: Bytes::from_slice(alloc, &bytes).expect(rt, "memory"),
         stamp: None,
     };
-    BoxedWord::new(alloc, word).expect(rt, "memory")
+    BoxedFrame::new(alloc, word).expect(rt, "memory")
 }
 
 // The number of a word, or 0.
-fn number_of(word: Option<&BoxedWord>) -> u8 {
+fn number_of(word: Option<&BoxedFrame>) -> u8 {
     match word {
         Some(word) => word.bytes().last().copied().unwrap_or(0),
         None => 0,

@@ -1,6 +1,6 @@
 //! Messages of the control protocol: what bytes say, or their first fault. What is read is written again as it was.
-use crate::formats::{Format, judge};
-use crate::words::{bytes_of, expect, row_of, same, told};
+use crate::formats::{WireFormat, judge};
+use crate::row_words::{bytes_of, expect, row_of, same, told};
 use exb_csp::{Body, CspFault, Message, Request, read, write};
 use exb_model::buffers::ControlBuf;
 use std::alloc::Global;
@@ -93,7 +93,7 @@ const CASES: &str = "01 0000000000000001 0000>1 Open ()\n\
 
 #[test]
 fn bytes_say_what_they_must(rt: HostRuntime) {
-    judge(&rt, rt.alloc(), Format::Message, CASES);
+    judge(&rt, rt.alloc(), WireFormat::Message, CASES);
 }
 
 /// Lists of 1, 2, 3, 64 and 65 rows, each byte of which is 1: their fault.

@@ -1,6 +1,6 @@
 //! Sessions: what an asker takes as its answer and when a request is due again, and what an answerer executes.
 use crate::messages::told_message;
-use crate::words::{bytes_of, expect, number, row_of, same, told};
+use crate::row_words::{bytes_of, expect, number, row_of, same, told};
 use exb_csp::{Answerer, Asker, Due, Request, RequestKind, Response, Taken, read};
 use std::alloc::Global;
 use std::process::Abort;

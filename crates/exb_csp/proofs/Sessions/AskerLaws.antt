@@ -7,11 +7,11 @@ use Rattle.exb_csp.specs.declared.message.Request.{Request}
 use Rattle.exb_csp.specs.declared.message.Body.{Body}
 use Rattle.exb_csp.specs.declared.message.Body.TheVariants as body
 use Rattle.exb_csp.specs.declared.message.Message.{Message}
-use Rattle.exb_csp.specs.Kinds.{kind_of, same_kind}
-use Rattle.exb_csp.specs.Spelling.{IsSpelledRequest, HasSpelling}
+use Rattle.exb_csp.specs.RequestKinds.{kind_of, same_kind}
+use Rattle.exb_csp.specs.Encoding.{IsSpelledRequest, HasSpelling}
 use Rattle.exb_csp.specs.declared.session.asker.Taken.{Taken}
 use Rattle.exb_csp.specs.declared.session.asker.Taken.TheVariants as taken
-use Rattle.exb_csp.specs.Sessions.Asking.{AskerState, took_body, beaten_while, IsSound, StaysSound, AsksAreSpelled}
+use Rattle.exb_csp.specs.Sessions.AskingEnd.{AskerState, took_body, beaten_while, IsSound, StaysSound, AsksAreSpelled}
 
 -- the waiting is over
 sound_done : (serial : ℕ) → IsSound (record { serial = serial; waiting = None; beats = 0 })

@@ -7,16 +7,16 @@ use Rattle.exb_csp.specs.declared.message.Request.{Request}
 use Rattle.exb_csp.specs.declared.message.Response.{Response}
 use Rattle.exb_csp.specs.declared.message.Body.TheVariants as body
 use Rattle.exb_csp.specs.declared.message.Message.{Message}
-use Rattle.exb_csp.specs.Kinds.{kind_of, number_of, same_kind}
-use Rattle.exb_csp.specs.Spelling.{IsSpelledRequest, IsSpelledBody, HasSpelling}
+use Rattle.exb_csp.specs.RequestKinds.{kind_of, number_of, same_kind}
+use Rattle.exb_csp.specs.Encoding.{IsSpelledRequest, IsSpelledBody, HasSpelling}
 use Rattle.exb_csp.specs.declared.session.asker.Taken.{Taken}
 use Rattle.exb_csp.specs.declared.session.asker.Taken.TheVariants as taken
 use Rattle.exb_csp.specs.declared.session.answerer.Due.{Due}
 use Rattle.exb_csp.specs.declared.session.answerer.Due.TheVariants.{Execute, Again, Ignore}
-use Rattle.exb_csp.specs.Sessions.Asking.{AskerState, message_again, took_body}
-use Rattle.exb_csp.specs.Sessions.Answering.{AnswererState, is_owing, arrived, stored_message}
+use Rattle.exb_csp.specs.Sessions.AskingEnd.{AskerState, message_again, took_body}
+use Rattle.exb_csp.specs.Sessions.AnsweringEnd.{AnswererState, is_owing, arrived, stored_message}
 use Rattle.exb_csp.specs.Sessions.Runs.{Event, Asks, AsksAgain, RequestComes, Stores, SendsAnswer, AnswerComes, Session, opened, executed_by, answered_by, asking, arriving, storing, taking, arriving_body, arriving_message, taking_message, stepped, run, IsFront, EachRequestOnce, RequestsAreAnswered, IsAsked, IsStored, MessagesAreNumbered, MessagesAreSpelled}
-use Rattle.exb_csp.proofs.Sessions.Fronts.{each_weaker, each_push, each_append, each_at, get_front, get_last, front_more, front_next, all_from, all_get}
+use Rattle.exb_csp.proofs.Sessions.Prefixes.{each_weaker, each_push, each_append, each_at, get_front, get_last, front_more, front_next, all_from, all_get}
 
 abbrev one_if : Bool → ℕ
 one_if true = 1

@@ -6,14 +6,14 @@ use Rattle.exb_csp.specs.declared.message.Response.{Response}
 use Rattle.exb_csp.specs.declared.message.Body.{Body}
 use Rattle.exb_csp.specs.declared.message.Body.TheVariants as body
 use Rattle.exb_csp.specs.declared.message.Message.{Message}
-use Rattle.exb_csp.specs.Kinds.{kind_of}
-use Rattle.exb_csp.specs.Spelling.{IsSpelledRequest, IsSpelledBody, HasSpelling}
+use Rattle.exb_csp.specs.RequestKinds.{kind_of}
+use Rattle.exb_csp.specs.Encoding.{IsSpelledRequest, IsSpelledBody, HasSpelling}
 use Rattle.exb_csp.specs.declared.session.asker.Taken.{Taken}
 use Rattle.exb_csp.specs.declared.session.asker.Taken.TheVariants as taken
 use Rattle.exb_csp.specs.declared.session.answerer.Due.{Due}
 use Rattle.exb_csp.specs.declared.session.answerer.Due.TheVariants.{Execute, Again, Ignore}
-use Rattle.exb_csp.specs.Sessions.Asking.{AskerState, begun, asked, message_again, took}
-use Rattle.exb_csp.specs.Sessions.Answering.{AnswererState, fresh, is_owing, arrived, stored, stored_message}
+use Rattle.exb_csp.specs.Sessions.AskingEnd.{AskerState, begun, asked, message_again, took}
+use Rattle.exb_csp.specs.Sessions.AnsweringEnd.{AnswererState, fresh, is_owing, arrived, stored, stored_message}
 
 -- The asker asks a request, or what it waits for once more. The answerer stores a response, or sends
 -- what it has stored. The message that either sent k-th, counted from 0, comes to the other.

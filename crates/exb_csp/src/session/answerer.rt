@@ -1,7 +1,7 @@
 //! The end of a session that answers.
 
 ghost use Rattle.std.specs.Prelude.{◌≡◌, false, IsTrue};
-ghost use Rattle.exb_csp.specs.Sessions.Answering.{fresh, is_owing, arrived, stored, stored_message};
+ghost use Rattle.exb_csp.specs.Sessions.AnsweringEnd.{fresh, is_owing, arrived, stored, stored_message};
 
 use crate::message::{Body, Message, Request, Response};
 use std::marker::Model;
@@ -14,7 +14,7 @@ pub struct Answerer {
 }
 
 impl Model for Answerer {
-    ghost use Rattle.exb_csp.specs.Sessions.Answering.{AnswererState};
+    ghost use Rattle.exb_csp.specs.Sessions.AnsweringEnd.{AnswererState};
 
     ghost Value = { AnswererState };
 

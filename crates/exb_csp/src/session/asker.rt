@@ -1,8 +1,8 @@
 //! The end of a session that asks.
 
 ghost use Rattle.std.specs.Prelude.{◌≡◌, ◌<◌, ◌^◌, IsTrue, IsSome, IsNone, ◌↔◌, Some};
-ghost use Rattle.exb_csp.specs.Kinds.{kind_of, same_kind};
-ghost use Rattle.exb_csp.specs.Sessions.Asking.{begun, asked, message_again, took, beaten};
+ghost use Rattle.exb_csp.specs.RequestKinds.{kind_of, same_kind};
+ghost use Rattle.exb_csp.specs.Sessions.AskingEnd.{begun, asked, message_again, took, beaten};
 
 use crate::message::{Body, Message, Request, RequestKind, Response};
 use std::marker::Model;
@@ -18,7 +18,7 @@ pub struct Asker {
 
 impl Model for Asker {
     ghost use Rattle.std.specs.Prelude.{◌<◌};
-    ghost use Rattle.exb_csp.specs.Sessions.Asking.{AskerState};
+    ghost use Rattle.exb_csp.specs.Sessions.AskingEnd.{AskerState};
 
     ghost Value = { AskerState };
 

@@ -2,7 +2,7 @@ use Rattle.std.proofs.Common.{subst, arith}
 use Rattle.std.specs.Prelude.{All}
 use Rattle.std.proofs.lemmas.List.{take_all}
 use Rattle.std.proofs.lemmas.List.Elements.{All-more}
-use Rattle.exb_legal.specs.TextLaws.{IsOfNumbers}
+use Rattle.exb_trace_spec.specs.RoundTrips.{IsOfNumbers}
 use Rattle.exb_audit.proofs.facts.events_numbers.Goals as goal
 
 pub loop-event-preserved : goal.loop-event-preserved

@@ -2,7 +2,7 @@ use Rattle.std.proofs.Common.{subst, arith}
 use Rattle.std.specs.Prelude.{All}
 use Rattle.std.proofs.lemmas.List.{take_all}
 use Rattle.std.proofs.lemmas.List.Elements.{All-more}
-use Rattle.exb_legal.specs.Spelled.{HasBytes}
+use Rattle.exb_trace_spec.specs.WritableLines.{HasBytes}
 use Rattle.exb_audit.proofs.facts.lines_bytes.Goals as goal
 
 pub loop-line-preserved : goal.loop-line-preserved

@@ -1,8 +1,8 @@
 use Rattle.std.specs.Prelude.{take, if◌then◌else◌, ◌==◌, slice_index, slice_set}
 use Rattle.std.proofs.lemmas.List.{length-take-le}
 use Rattle.exb_audit.specs.Frames.{IsTable}
-use Rattle.exb_audit.proofs.Cuts.{item_more}
-use Rattle.exb_audit.proofs.Tables.{table_more}
+use Rattle.exb_audit.proofs.TextCuts.{item_more}
+use Rattle.exb_audit.proofs.FrameTables.{table_more}
 use Rattle.std.proofs.Common.{◌+◌, sym, subst, arith}
 use Rattle.exb_audit.proofs.frames.fill.Goals as goal
 

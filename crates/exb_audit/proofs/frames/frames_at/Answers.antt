@@ -1,6 +1,6 @@
 use Rattle.std.specs.Prelude.{slice_index}
-use Rattle.exb_audit.proofs.Tables.{none_noted, noted_within, found_noted}
-use Rattle.exb_audit.proofs.Entered.{get_item}
+use Rattle.exb_audit.proofs.FrameTables.{none_noted, noted_within, found_noted}
+use Rattle.exb_audit.proofs.Rule5Relays.{get_item}
 use Rattle.std.proofs.Common.{◌≡◌, ◌<◌, ◌-◌, rules, length, get_or, sym, ◌∙◌, ap, subst}
 use Rattle.exb_audit.proofs.frames.frames_at.Goals as goal
 

@@ -1,5 +1,5 @@
 use Rattle.std.specs.Prelude.{slice_index}
-use Rattle.exb_model.proofs.Words.{get_or-same}
+use Rattle.exb_model.proofs.PortBits.{get_or-same}
 use Rattle.std.proofs.Common.{ℕ, List, ◌∙◌, ap}
 use Rattle.exb_audit.proofs.frames.table_of.Goals as goal
 

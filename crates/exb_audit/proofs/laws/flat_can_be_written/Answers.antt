@@ -1,4 +1,4 @@
-use Rattle.exb_audit.proofs.Written.{flat_can_be_written}
+use Rattle.exb_audit.proofs.FlatCaptures.{flat_can_be_written}
 use Rattle.exb_audit.proofs.laws.flat_can_be_written.Goals as goal
 
 pub returns : goal.returns

@@ -2,13 +2,13 @@ use Rattle.std.proofs.Common.{refl, sym, subst}
 use Rattle.std.proofs.lemmas.Result.{on_ok_weaker}
 use Rattle.exb_model.specs.Setup.{NamesExternal}
 use Rattle.exb_model.specs.Tree.{Shape}
-use Rattle.exb_changing.specs.Deciding.{decide}
-use Rattle.exb_changing.specs.Machine.{ordered}
-use Rattle.exb_bridge.specs.Sites.{limits_in}
-use Rattle.exb_bridge.specs.Worlds.{whole, world_in}
-use Rattle.exb_bridge.proofs.Hearings.{asks_go}
-use Rattle.exb_bridge.proofs.Fields.{at_moved, moved_is}
-use Rattle.exb_bridge.proofs.Given.{ordered_at}
+use Rattle.exb_control_spec.specs.Decisions.{decide}
+use Rattle.exb_control_spec.specs.Machine.{ordered}
+use Rattle.exb_bridge.specs.TreeIndexes.{limits_in}
+use Rattle.exb_bridge.specs.BridgeWorlds.{whole, world_in}
+use Rattle.exb_bridge.proofs.ControlFrames.{asks_go}
+use Rattle.exb_bridge.proofs.ControlSteps.{at_moved, moved_is}
+use Rattle.exb_bridge.proofs.CommandsAndTicks.{ordered_at}
 use Rattle.exb_bridge.proofs.commands.order.Goals as goal
 
 pub command-requires-clause-names : goal.command-requires-clause-names

@@ -1,7 +1,7 @@
 use Rattle.std.proofs.Common.{refl}
-use Rattle.exb_bridge.specs.Sites.{limits_in}
-use Rattle.exb_bridge.specs.Worlds.{whole}
-use Rattle.exb_bridge.proofs.Given.{ticked}
+use Rattle.exb_bridge.specs.TreeIndexes.{limits_in}
+use Rattle.exb_bridge.specs.BridgeWorlds.{whole}
+use Rattle.exb_bridge.proofs.CommandsAndTicks.{ticked}
 use Rattle.exb_bridge.proofs.commands.tick.Goals as goal
 
 pub returns : goal.returns

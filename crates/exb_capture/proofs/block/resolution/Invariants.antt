@@ -1,6 +1,6 @@
 use Rattle.std.proofs.Common.{◌≡◌, ◌≤◌, ◌-◌, ◌%◌, None}
 use Rattle.exb_capture.specs.Blocks.{resolution_from}
-use Rattle.exb_capture.specs.Within.{HasDigits}
+use Rattle.exb_capture.specs.FieldRanges.{HasDigits}
 use Rattle.exb_capture.proofs.block.resolution.Given as goal
 
 abbrev pub invariant-options : goal.invariant-options

@@ -1,6 +1,6 @@
 use Rattle.std.proofs.Common.{◌∙◌}
 use Rattle.std.specs.Prelude.{◌&&◌}
-use Rattle.exb_capture.proofs.AgreeLemmas.{agrees_by}
+use Rattle.exb_capture.proofs.MagicNumbers.{agrees_by}
 use Rattle.exb_capture.proofs.classic.agrees.Goals as goal
 
 pub returns : goal.returns

@@ -1,12 +1,12 @@
 use Rattle.exb_capture.specs.Blocks.{block_front, no_section, most_held}
-use Rattle.exb_capture.specs.declared.format.Capture.TheVariants.{Unknown}
+use Rattle.exb_capture.specs.declared.format.AnyFormat.TheVariants.{Unknown}
 use Rattle.exb_capture.specs.Captures.{capture_front}
-use Rattle.exb_capture.specs.declared.classic.Reached.TheVariants.{Start}
+use Rattle.exb_capture.specs.declared.classic.ClassicFormat.TheVariants.{Start}
 use Rattle.exb_capture.specs.Classic.{classic_front}
 use Rattle.exb_capture.proofs.BlockLemmas.{blocks_are_a_format}
 use Rattle.exb_capture.proofs.CaptureLemmas.{captures_are_a_format}
 use Rattle.exb_capture.proofs.ClassicLemmas.{classic_is_a_format}
-use Rattle.exb_capture.proofs.OpenLaws.{more_is_open}
+use Rattle.exb_capture.proofs.PrefixLaws.{more_is_open}
 use Rattle.exb_capture.proofs.laws.more_is_answered_where_nothing_stands.Goals as goal
 
 pub returns : goal.returns

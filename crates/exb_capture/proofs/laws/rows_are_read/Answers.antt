@@ -1,4 +1,4 @@
-use Rattle.exb_capture.proofs.RowLemmas.{the_row, another_interface, last_byte_cut, nothing_is_empty, the_table}
+use Rattle.exb_capture.proofs.WorkedCaseLemmas.{the_row, another_interface, last_byte_cut, nothing_is_empty, the_table}
 use Rattle.exb_capture.proofs.laws.rows_are_read.Goals as goal
 
 pub returns : goal.returns

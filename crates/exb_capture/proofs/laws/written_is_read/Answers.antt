@@ -1,4 +1,4 @@
-use Rattle.exb_capture.proofs.WrittenLemmas.{all_written, either_written}
+use Rattle.exb_capture.proofs.OutputCaptureLemmas.{all_written, either_written}
 use Rattle.exb_capture.proofs.laws.written_is_read.Goals as goal
 
 pub returns : goal.returns

@@ -2,7 +2,7 @@ use Rattle.std.proofs.Common.{◌∙◌, ℕ, List, ap, replicate, false}
 use Rattle.exb_model.specs.declared.rules.PortRule.{PortRule}
 use Rattle.exb_model.specs.declared.rules.Accept.TheVariants as accept
 use Rattle.exb_model.specs.Configuration.{default_rule}
-use Rattle.exb_model.proofs.Words.{get_or-same}
+use Rattle.exb_model.proofs.PortBits.{get_or-same}
 use Rattle.exb_config.specs.Rows.{rule_of}
 use Rattle.exb_config.proofs.port_rules.first_rules.Goals as goal
 

@@ -3,7 +3,7 @@ use Rattle.std.specs.Prelude.{codes}
 use Rattle.std.specs.Fmt.{decimal}
 use Rattle.exb_model.specs.Texts.{port_name}
 use Rattle.exb_counters.specs.Counters.{count_line}
-use Rattle.exb_counters.proofs.Pieces.{count_pieces}
+use Rattle.exb_counters.proofs.LinePieces.{count_pieces}
 use Rattle.exb_counters.proofs.count_line.write_count_line.Goals as goal
 
 pub returns : goal.returns

@@ -1,4 +1,4 @@
-use Rattle.exb_csp.proofs.AllLemmas.{done_at_each_port}
+use Rattle.exb_csp.proofs.AllTablesLemmas.{done_at_each_port}
 use Rattle.exb_csp.proofs.laws.done_at_each_port.Goals as goal
 
 pub returns : goal.returns

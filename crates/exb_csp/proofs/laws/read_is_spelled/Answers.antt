@@ -1,4 +1,4 @@
-use Rattle.exb_csp.proofs.Spelled.{message_read}
+use Rattle.exb_csp.proofs.UniqueEncoding.{message_read}
 use Rattle.exb_csp.proofs.laws.read_is_spelled.Goals as goal
 
 pub returns : goal.returns

@@ -1,4 +1,4 @@
-use Rattle.exb_csp.proofs.AllLemmas.{refused_at_no_port}
+use Rattle.exb_csp.proofs.AllTablesLemmas.{refused_at_no_port}
 use Rattle.exb_csp.proofs.laws.refused_at_no_port.Goals as goal
 
 pub returns : goal.returns

@@ -1,4 +1,4 @@
-use Rattle.exb_csp.proofs.Executing.{register_many}
+use Rattle.exb_csp.proofs.ExecutionLaws.{register_many}
 use Rattle.exb_csp.proofs.laws.register_many_is_its_rows.Goals as goal
 
 pub returns : goal.returns

@@ -1,4 +1,4 @@
-use Rattle.exb_csp.proofs.Executing.{register_sets}
+use Rattle.exb_csp.proofs.ExecutionLaws.{register_sets}
 use Rattle.exb_csp.proofs.laws.register_sets_the_mask.Goals as goal
 
 pub returns : goal.returns

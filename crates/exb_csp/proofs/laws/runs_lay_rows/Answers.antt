@@ -1,4 +1,4 @@
-use Rattle.exb_csp.proofs.AllLemmas.{runs_lay_rows}
+use Rattle.exb_csp.proofs.AllTablesLemmas.{runs_lay_rows}
 use Rattle.exb_csp.proofs.laws.runs_lay_rows.Goals as goal
 
 pub returns : goal.returns

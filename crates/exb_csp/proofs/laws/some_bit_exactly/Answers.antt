@@ -1,4 +1,4 @@
-use Rattle.exb_csp.proofs.Executing.{some_bit}
+use Rattle.exb_csp.proofs.ExecutionLaws.{some_bit}
 use Rattle.exb_csp.proofs.laws.some_bit_exactly.Goals as goal
 
 pub returns : goal.returns

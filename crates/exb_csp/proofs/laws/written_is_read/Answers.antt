@@ -1,4 +1,4 @@
-use Rattle.exb_csp.proofs.Again.{message_again}
+use Rattle.exb_csp.proofs.RoundTrip.{message_again}
 use Rattle.exb_csp.proofs.laws.written_is_read.Goals as goal
 
 pub returns : goal.returns

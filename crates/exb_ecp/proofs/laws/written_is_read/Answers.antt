@@ -1,4 +1,4 @@
-use Rattle.exb_ecp.proofs.Spelled.{is_read_again}
+use Rattle.exb_ecp.proofs.RoundTrip.{is_read_again}
 use Rattle.exb_ecp.proofs.laws.written_is_read.Goals as goal
 
 pub returns : goal.returns

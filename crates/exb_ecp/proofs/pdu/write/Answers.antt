@@ -1,6 +1,6 @@
 use Rattle.std.proofs.Common.{rules, ◌≡◌, drop, ap, ◌∙◌, arith}
 use Rattle.exb_ecp.specs.Frames.{pdu_in, spelling}
-use Rattle.exb_ecp.proofs.Spelled.{pdu_in-spelling, drop-spelling}
+use Rattle.exb_ecp.proofs.RoundTrip.{pdu_in-spelling, drop-spelling}
 use Rattle.exb_ecp.proofs.pdu.write.Goals as goal
 
 pub returns-then-not-pdu-clause-read_again : goal.returns-then-not-pdu-clause-read_again

@@ -1,8 +1,8 @@
 use Rattle.std.proofs.Common.{◌≡◌, ◌==◌, true, ap, ◌∙◌}
 use Rattle.std.proofs.lemmas.Bool.{eq-eqb}
 use Rattle.exb_model.specs.declared.address.Mac.{Mac}
-use Rattle.exb_lldp.specs.Spelling.{spelling as announcement}
-use Rattle.exb_extender.specs.Sending.{own_sent}
+use Rattle.exb_lldp.specs.Encoding.{spelling as announcement}
+use Rattle.exb_extender.specs.SentFrames.{own_sent}
 use Rattle.exb_extender.proofs.ControlLemmas.{own_announcement}
 use Rattle.exb_extender.proofs.control.announce.Goals as goal
 

@@ -1,7 +1,7 @@
 use Rattle.std.proofs.Common.{subst, sym, length, ◌≤◌, List, ℕ}
-use Rattle.exb_ecp.specs.Machine.{IsSound}
+use Rattle.exb_ecp.specs.StopAndWait.{IsSound}
 use Rattle.exb_ecp.specs.Calls.{Beat}
-use Rattle.exb_ecp.proofs.Sound.{keeps_sound}
+use Rattle.exb_ecp.proofs.Soundness.{keeps_sound}
 use Rattle.exb_extender.proofs.ControlLemmas.{payload_fits}
 use Rattle.exb_extender.proofs.control.beat_at.Goals as goal
 

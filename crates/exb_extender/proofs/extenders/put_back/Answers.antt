@@ -1,5 +1,5 @@
 use Rattle.exb_extender.specs.Fields.{state_of}
-use Rattle.exb_extender.proofs.RestingLemmas.{all_round}
+use Rattle.exb_extender.proofs.IdleLemmas.{all_round}
 use Rattle.exb_extender.proofs.extenders.put_back.Goals as goal
 
 pub returns : goal.returns

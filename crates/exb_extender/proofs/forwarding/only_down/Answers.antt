@@ -1,7 +1,7 @@
 use Rattle.std.proofs.lemmas.Option.{IfSome_then}
 use Rattle.exb_frame.specs.TagValues.{tag_of}
 use Rattle.exb_extender.specs.Tables.{tables_of}
-use Rattle.exb_extender.proofs.PassingLemmas.{goes_down}
+use Rattle.exb_extender.proofs.SingleSideLemmas.{goes_down}
 use Rattle.exb_extender.proofs.forwarding.only_down.Goals as goal
 
 pub returns-in-Some : goal.returns-in-Some

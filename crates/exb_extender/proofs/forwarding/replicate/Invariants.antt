@@ -1,7 +1,7 @@
 use Rattle.std.proofs.Common.{◌≡◌, ◌++◌}
 use Rattle.exb_frame.specs.TagValues.{tag_of}
-use Rattle.exb_csp.specs.Execute.{in_mask}
-use Rattle.exb_extender.specs.Sending.{outs_where}
+use Rattle.exb_csp.specs.Execution.{in_mask}
+use Rattle.exb_extender.specs.SentFrames.{outs_where}
 use Rattle.exb_extender.specs.Tables.{tables_of}
 use Rattle.exb_extender.proofs.forwarding.replicate.Given as goal
 

@@ -1,6 +1,6 @@
 use Rattle.std.proofs.Common.{sym, ap, ◌∙◌, map}
 use Rattle.exb_frame.specs.TagValues.{tag_of}
-use Rattle.exb_extender.specs.Sending.{out_sent}
+use Rattle.exb_extender.specs.SentFrames.{out_sent}
 use Rattle.exb_extender.specs.Tables.{tables_of}
 use Rattle.exb_extender.proofs.ForwardingLemmas.{all_sent, none_sent, outs_given, tagged_long}
 use Rattle.exb_extender.proofs.forwarding.send_down.Goals as goal

@@ -1,4 +1,4 @@
-use Rattle.exb_extender.proofs.KeepsLemmas.{stays_extender}
+use Rattle.exb_extender.proofs.InvariantLemmas.{stays_extender}
 use Rattle.exb_extender.proofs.laws.stays_extender.Goals as goal
 
 pub returns : goal.returns

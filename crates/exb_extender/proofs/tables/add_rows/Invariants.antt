@@ -1,5 +1,5 @@
 use Rattle.std.proofs.Common.{take}
-use Rattle.exb_csp.specs.Words.{AddsRows}
+use Rattle.exb_csp.specs.PortMasks.{AddsRows}
 use Rattle.exb_extender.proofs.tables.add_rows.Given as goal
 
 abbrev pub invariant-added : goal.invariant-added

@@ -1,6 +1,6 @@
 use Rattle.std.proofs.Common.{sym, ap, ◌∙◌, arith}
-use Rattle.exb_csp.specs.Execute.{in_mask, some_port}
-use Rattle.exb_csp.proofs.Executing.{some_bit}
+use Rattle.exb_csp.specs.Execution.{in_mask, some_port}
+use Rattle.exb_csp.proofs.ExecutionLaws.{some_bit}
 use Rattle.exb_extender.proofs.tables.is_member.Goals as goal
 
 pub returns : goal.returns

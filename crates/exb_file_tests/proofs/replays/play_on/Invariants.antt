@@ -1,6 +1,6 @@
-use Rattle.exb_faulty.specs.Faulty.{ids_of}
-use Rattle.exb_capture.specs.Reading.{IsAt}
-use Rattle.exb_capture.specs.Replaying.{IsKept}
+use Rattle.exb_test_shelf.specs.DisturbedFiles.{ids_of}
+use Rattle.exb_capture.specs.CaptureFiles.{IsAt}
+use Rattle.exb_capture.specs.Replays.{IsKept}
 use Rattle.exb_file_tests.proofs.replays.play_on.Given as goal
 
 abbrev pub invariant-records : goal.invariant-records

@@ -1,4 +1,4 @@
-use Rattle.exb_inputs.proofs.ShelvingLemmas.{parsed_counts}
+use Rattle.exb_inputs.proofs.ShelfEffects.{parsed_counts}
 use Rattle.exb_inputs.proofs.topology.read_topology.Goals as goal
 
 pub returns-clause-faults : goal.returns-clause-faults

@@ -4,7 +4,7 @@ use Rattle.indexmap.specs.IndexMap.{set_value_at}
 use Rattle.indexmap.specs.Layout.{length-set_value_at}
 use Rattle.exb_learn.specs.Stations.{same}
 use Rattle.exb_learn.proofs.Lookups.{put_over, put_behind, position_some}
-use Rattle.exb_learn.proofs.Stores.{once_over}
+use Rattle.exb_learn.proofs.StoreCalls.{once_over}
 use Rattle.exb_learn.proofs.entries.put_place.Goals as goal
 
 pub returns-in-Some-clause-entries : goal.returns-in-Some-clause-entries

@@ -1,12 +1,12 @@
 use Rattle.std.proofs.Common.{length, length-append, sym, ap, subst, ◌∙◌, arith, [], ◌∷◌}
-use Rattle.exb_learn.specs.declared.rings.Link.{Link}
-use Rattle.exb_learn.specs.Links.{in_table, IsClosed}
-use Rattle.exb_learn.proofs.Tables.{grew, closed_grown}
+use Rattle.exb_learn.specs.declared.rings.RingLink.{RingLink}
+use Rattle.exb_learn.specs.RingLinks.{in_table, IsClosed}
+use Rattle.exb_learn.proofs.LinkTables.{grew, closed_grown}
 use Rattle.exb_learn.proofs.rings.grow.Goals as goal
 
 pub loop-node-preserved : goal.loop-node-preserved
 loop-node-preserved c =
-    let k : Link = record { next = c.loop-node.node; prev = c.loop-node.node } in
+    let k : RingLink = record { next = c.loop-node.node; prev = c.loop-node.node } in
     let links = c.loop-node.links.items in
     let is = c.in_ok-push.ensures.items in
     let long = c.loop-node.invariant.2 in

@@ -1,5 +1,5 @@
 use Rattle.std.proofs.Common.{◌≡◌, length}
-use Rattle.exb_learn.specs.Links.{in_table, IsClosed}
+use Rattle.exb_learn.specs.RingLinks.{in_table, IsClosed}
 use Rattle.exb_learn.proofs.rings.grow.Given as goal
 
 abbrev pub invariant-loop-node : goal.invariant-loop-node

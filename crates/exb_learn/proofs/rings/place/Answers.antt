@@ -1,5 +1,5 @@
 use Rattle.std.proofs.Common.{◌∙◌}
-use Rattle.exb_learn.proofs.Tables.{laid_in, closed_placed, read_prev}
+use Rattle.exb_learn.proofs.LinkTables.{laid_in, closed_placed, read_prev}
 use Rattle.exb_learn.proofs.rings.place.Goals as goal
 
 pub returns-clause-links : goal.returns-clause-links

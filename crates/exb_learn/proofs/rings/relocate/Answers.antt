@@ -1,5 +1,5 @@
 use Rattle.std.proofs.Common.{ap, ◌∙◌}
-use Rattle.exb_learn.specs.Links.{Links, placed}
+use Rattle.exb_learn.specs.RingLinks.{Links, placed}
 use Rattle.exb_learn.proofs.rings.relocate.Goals as goal
 
 pub returns-clause-links : goal.returns-clause-links

@@ -1,5 +1,5 @@
 use Rattle.std.proofs.Common.{ap, ◌∙◌}
-use Rattle.exb_learn.specs.Links.{Links, in_table, placed, taken}
+use Rattle.exb_learn.specs.RingLinks.{Links, in_table, placed, taken}
 use Rattle.exb_learn.proofs.rings.replace.Goals as goal
 
 pub returns-clause-links : goal.returns-clause-links

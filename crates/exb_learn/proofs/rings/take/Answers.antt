@@ -1,5 +1,5 @@
 use Rattle.std.proofs.Common.{◌∙◌}
-use Rattle.exb_learn.proofs.Tables.{took, closed_taken, read_next, read_prev}
+use Rattle.exb_learn.proofs.LinkTables.{took, closed_taken, read_next, read_prev}
 use Rattle.exb_learn.proofs.rings.take.Goals as goal
 
 pub returns-clause-links : goal.returns-clause-links

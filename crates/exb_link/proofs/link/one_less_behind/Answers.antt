@@ -1,5 +1,5 @@
 use Rattle.std.proofs.Common.{arith, sym, ◌∙◌}
-use Rattle.exb_link.proofs.Weaving.{found, missing}
+use Rattle.exb_link.proofs.Interleaving.{found, missing}
 use Rattle.exb_link.proofs.link.one_less_behind.Goals as goal
 
 pub index_mut-requires : goal.index_mut-requires

@@ -1,5 +1,5 @@
 use Rattle.std.proofs.Common.{◌<◌, ◌≡◌, ◌-◌, ℕ, zero, suc, false, true, arith, refl, sym, ◌∙◌}
-use Rattle.exb_link.proofs.Weaving.{behind_within, set-more, more_behind-none}
+use Rattle.exb_link.proofs.Interleaving.{behind_within, set-more, more_behind-none}
 use Rattle.exb_link.proofs.link.one_more_behind.Goals as goal
 
 pub overflow_add-last : goal.overflow_add-last

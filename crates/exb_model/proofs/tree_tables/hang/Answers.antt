@@ -1,5 +1,5 @@
 use Rattle.std.proofs.Common.{◌∙◌, sym}
-use Rattle.exb_model.proofs.TreeHung.{noted-in, noted-out}
+use Rattle.exb_model.proofs.TreeTrunks.{noted-in, noted-out}
 use Rattle.exb_model.proofs.tree_tables.hang.Goals as goal
 use Rattle.exb_model.proofs.tree_tables.hang.Goals.{then-is_extender, else-is_extender}
 

@@ -1,4 +1,4 @@
-use Rattle.exb_model.proofs.TreeHung.{Noted}
+use Rattle.exb_model.proofs.TreeTrunks.{Noted}
 use Rattle.exb_model.proofs.tree_tables.hang.Given as goal
 
 -- the extenders so far are noted, and no others

@@ -1,7 +1,7 @@
 use Rattle.std.proofs.Common.{◌∙◌, ap}
 use Rattle.std.proofs.lemmas.List.{length-set}
 use Rattle.exb_model.specs.Tree.{Shape, top}
-use Rattle.exb_model.proofs.TreeHung.{topped-more}
+use Rattle.exb_model.proofs.TreeTrunks.{topped-more}
 use Rattle.exb_model.proofs.tree_tables.tops_of.Goals as goal
 
 pub loop-number-preserved : goal.loop-number-preserved

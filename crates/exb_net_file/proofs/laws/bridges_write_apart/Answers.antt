@@ -1,4 +1,4 @@
-use Rattle.exb_net_file.proofs.Names.{bridges_write_apart}
+use Rattle.exb_net_file.proofs.FilePrefixes.{bridges_write_apart}
 use Rattle.exb_net_file.proofs.laws.bridges_write_apart.Goals as goal
 
 pub returns : goal.returns

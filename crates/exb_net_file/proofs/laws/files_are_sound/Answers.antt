@@ -1,4 +1,4 @@
-use Rattle.exb_net_file.proofs.Files.{files_are_sound}
+use Rattle.exb_net_file.proofs.NetFiles.{files_are_sound}
 use Rattle.exb_net_file.proofs.laws.files_are_sound.Goals as goal
 
 pub returns : goal.returns

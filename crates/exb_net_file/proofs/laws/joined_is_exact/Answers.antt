@@ -1,4 +1,4 @@
-use Rattle.exb_net_file.proofs.Joined.{joined_is_exact}
+use Rattle.exb_net_file.proofs.LoopTest.{joined_is_exact}
 use Rattle.exb_net_file.proofs.laws.joined_is_exact.Goals as goal
 
 pub returns : goal.returns

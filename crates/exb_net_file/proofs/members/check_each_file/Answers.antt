@@ -1,6 +1,6 @@
 use Rattle.std.proofs.Common.{sym}
 use Rattle.std.proofs.lemmas.Result.{err_from_is_err_and}
-use Rattle.exb_topology.proofs.Checking.{goes_on, ends, is_done}
+use Rattle.exb_topology.proofs.ElementChecks.{goes_on, ends, is_done}
 use Rattle.exb_net_file.specs.Members.{files_ok}
 use Rattle.exb_net_file.proofs.members.check_each_file.Goals as goal
 

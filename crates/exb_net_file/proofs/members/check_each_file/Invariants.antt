@@ -1,5 +1,5 @@
 use Rattle.exb_net_file.specs.Members.{files_ok}
-use Rattle.exb_topology.proofs.Checking.{So}
+use Rattle.exb_topology.proofs.ElementChecks.{So}
 use Rattle.exb_net_file.proofs.members.check_each_file.Given as goal
 
 abbrev pub invariant-loop-index : goal.invariant-loop-index

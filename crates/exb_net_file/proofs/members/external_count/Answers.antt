@@ -1,6 +1,6 @@
 use Rattle.std.proofs.Common.{◌∙◌, ◌+◌, ℕ, cond, sym, ap, arith}
 use Rattle.exb_model.specs.Tree.{is_external}
-use Rattle.exb_net_file.proofs.Steps.{none_counted, one_more, all_counted}
+use Rattle.exb_net_file.proofs.LoopSteps.{none_counted, one_more, all_counted}
 use Rattle.exb_net_file.proofs.members.external_count.Goals as goal
 
 pub loop-number-init : goal.loop-number-init

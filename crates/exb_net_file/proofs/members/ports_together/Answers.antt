@@ -1,7 +1,7 @@
 use Rattle.std.proofs.Common.{◌+◌, ◌∙◌, ℕ, length, ap, sym, arith}
 use Rattle.exb_model.specs.Tree.{external_ports}
 use Rattle.exb_net_file.specs.Members.{tree_in}
-use Rattle.exb_net_file.proofs.Steps.{none_together, together_more}
+use Rattle.exb_net_file.proofs.LoopSteps.{none_together, together_more}
 use Rattle.exb_net_file.proofs.members.ports_together.Goals as goal
 
 pub loop-member-init : goal.loop-member-init

@@ -1,7 +1,7 @@
 use Rattle.std.proofs.Common.{◌≡◌}
 use Rattle.toml.specs.View.{members_view}
-use Rattle.exb_keys.specs.Keys.{unknown}
-use Rattle.exb_net_file.specs.Rows.{has_key}
+use Rattle.exb_toml_keys.specs.Keys.{unknown}
+use Rattle.exb_net_file.specs.Elements.{has_key}
 use Rattle.exb_net_file.proofs.schema.unknown.Given as goal
 
 abbrev pub invariant-loop-key : goal.invariant-loop-key

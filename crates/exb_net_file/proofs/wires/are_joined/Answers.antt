@@ -1,8 +1,8 @@
 use Rattle.std.proofs.Common.{◌∙◌, ◌==◌, ◌++◌, ◌∷◌, [], List, slice_index, take, refl, sym, ap, subst}
 use Rattle.std.proofs.lemmas.List.{take_more, take_all}
-use Rattle.exb_nets.specs.declared.wires.Wire.{Wire}
+use Rattle.exb_net_spec.specs.declared.wires.Wire.{Wire}
 use Rattle.exb_net_file.specs.Wires.{are_joined}
-use Rattle.exb_net_file.proofs.Joined.{AreLabels, labels_begin, labels_step, other_label}
+use Rattle.exb_net_file.proofs.LoopTest.{AreLabels, labels_begin, labels_step, other_label}
 use Rattle.exb_net_file.proofs.wires.are_joined.Goals as goal
 
 pub loop-wire-init : goal.loop-wire-init

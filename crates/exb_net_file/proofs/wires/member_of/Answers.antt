@@ -1,7 +1,7 @@
 use Rattle.std.proofs.Common.{◌∙◌, sym, subst}
 use Rattle.exb_model.specs.Setup.{IsValid}
 use Rattle.exb_net_file.specs.declared.members.NetMember.{NetMember}
-use Rattle.exb_net_file.proofs.Steps.{found_here, found_later, found_none}
+use Rattle.exb_net_file.proofs.LoopSteps.{found_here, found_later, found_none}
 use Rattle.exb_net_file.proofs.wires.member_of.Goals as goal
 
 pub returns-then-named-clause-value : goal.returns-then-named-clause-value

@@ -1,5 +1,5 @@
 use Rattle.std.proofs.Common.{◌∙◌, length-set, arith}
-use Rattle.exb_net_file.proofs.Steps.{own_more}
+use Rattle.exb_net_file.proofs.LoopSteps.{own_more}
 use Rattle.exb_net_file.proofs.wires.own_labels.Goals as goal
 
 pub loop-bridge-preserved : goal.loop-bridge-preserved

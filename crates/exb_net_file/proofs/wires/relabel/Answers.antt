@@ -1,5 +1,5 @@
 use Rattle.std.proofs.Common.{◌∙◌, length-set, arith}
-use Rattle.exb_net_file.proofs.Steps.{named_more, kept_more}
+use Rattle.exb_net_file.proofs.LoopSteps.{named_more, kept_more}
 use Rattle.exb_net_file.proofs.wires.relabel.Goals as goal
 
 pub loop-bridge-preserved : goal.loop-bridge-preserved

@@ -1,5 +1,5 @@
 use Rattle.std.proofs.Common.{◌≡◌, ◌<◌, ◌≤◌, ℕ, length, slice_index}
-use Rattle.exb_net_file.proofs.Joined.{other_label}
+use Rattle.exb_net_file.proofs.LoopTest.{other_label}
 use Rattle.exb_net_file.proofs.wires.relabel.Given as goal
 
 -- those before have their new label, and the others their old one

@@ -1,6 +1,6 @@
 use Rattle.std.proofs.Common.{sym}
 use Rattle.std.proofs.lemmas.Result.{err_from_is_err_and}
-use Rattle.exb_net_file.proofs.Steps.{wires_go_on, wires_end, wires_done}
+use Rattle.exb_net_file.proofs.LoopSteps.{wires_go_on, wires_end, wires_done}
 use Rattle.exb_net_file.proofs.wires.wires_in.Goals as goal
 
 pub returns-in_err-next : goal.returns-in_err-next

@@ -1,5 +1,5 @@
 use Rattle.std.proofs.Common.{◌≡◌, [], drop}
-use Rattle.exb_nets.specs.Nets.{ends_of}
+use Rattle.exb_net_spec.specs.Nets.{ends_of}
 use Rattle.exb_net_file.specs.Wires.{wires_from}
 use Rattle.exb_net_file.proofs.wires.wires_in.Given as goal
 

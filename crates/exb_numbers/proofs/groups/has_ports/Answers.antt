@@ -1,5 +1,5 @@
 use Rattle.std.proofs.Common.{sym}
-use Rattle.exb_numbers.proofs.Places.{told_ports}
+use Rattle.exb_numbers.proofs.GroupPlaces.{told_ports}
 use Rattle.exb_numbers.proofs.groups.has_ports.Goals as goal
 
 pub returns : goal.returns

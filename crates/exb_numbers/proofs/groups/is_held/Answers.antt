@@ -1,6 +1,6 @@
 use Rattle.std.proofs.Common.{◌∙◌, sym, ap, not, get_or}
 use Rattle.std.proofs.lemmas.Bool.{ne_eqb}
-use Rattle.exb_numbers.proofs.Keys.{held_by_key}
+use Rattle.exb_numbers.proofs.SetKeys.{held_by_key}
 use Rattle.exb_numbers.proofs.groups.is_held.Goals as goal
 
 pub returns-then-keys-place-ne0 : goal.returns-then-keys-place-ne0

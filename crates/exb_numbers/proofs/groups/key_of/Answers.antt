@@ -1,6 +1,6 @@
 use Rattle.std.proofs.Common.{◌≡◌, ◌∙◌, ◌+◌, ℕ, take, drop, get_or, ap, sym, arith}
-use Rattle.exb_numbers.specs.Order.{mixed, joined, digits, key_of}
-use Rattle.exb_numbers.proofs.Keys.{first_more, piece_more}
+use Rattle.exb_numbers.specs.GroupOrder.{mixed, joined, digits, key_of}
+use Rattle.exb_numbers.proofs.SetKeys.{first_more, piece_more}
 use Rattle.exb_numbers.proofs.groups.key_of.Goals as goal
 
 pub loop-place-preserved : goal.loop-place-preserved

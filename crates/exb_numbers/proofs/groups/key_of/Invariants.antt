@@ -1,5 +1,5 @@
 use Rattle.std.proofs.Common.{◌≡◌, fold, take, drop}
-use Rattle.exb_numbers.specs.Order.{mixed}
+use Rattle.exb_numbers.specs.GroupOrder.{mixed}
 use Rattle.exb_numbers.proofs.groups.key_of.Given as goal
 
 -- the words of each piece so far

@@ -1,5 +1,5 @@
-use Rattle.exb_numbers.specs.Order.{rank_of, ranks_at, SplitsAt}
-use Rattle.exb_numbers.proofs.Rising.{split_absent}
+use Rattle.exb_numbers.specs.GroupOrder.{rank_of, ranks_at, SplitsAt}
+use Rattle.exb_numbers.proofs.RisingPlaces.{split_absent}
 use Rattle.exb_numbers.proofs.groups.leave.Goals as goal
 
 pub returns-in_default-clause-order : goal.returns-in_default-clause-order

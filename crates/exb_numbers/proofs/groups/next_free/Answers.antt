@@ -1,7 +1,7 @@
 use Rattle.std.proofs.Common.{◌≡◌, ◌∙◌, true, ap, sym, inl, inr, arith}
 use Rattle.std.proofs.lemmas.Bool.{cases_eq}
 use Rattle.exb_numbers.specs.Groups.{sets_of}
-use Rattle.exb_numbers.specs.Order.{is_held}
+use Rattle.exb_numbers.specs.GroupOrder.{is_held}
 use Rattle.exb_numbers.proofs.groups.next_free.Goals as goal
 
 pub loop-place-preserved : goal.loop-place-preserved

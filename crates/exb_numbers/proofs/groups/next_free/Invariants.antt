@@ -1,6 +1,6 @@
 use Rattle.std.proofs.Common.{◌≡◌, ℕ, ◌-◌, ◌<◌, ◌≤◌, true, length}
 use Rattle.exb_numbers.specs.Groups.{sets_of}
-use Rattle.exb_numbers.specs.Order.{is_held}
+use Rattle.exb_numbers.specs.GroupOrder.{is_held}
 use Rattle.exb_numbers.proofs.groups.next_free.Given as goal
 
 abbrev pub invariant-loop-place : goal.invariant-loop-place

@@ -1,7 +1,7 @@
 use Rattle.std.proofs.Common.{rules, ℕ}
 use Rattle.std.proofs.lemmas.Fn.{always_returns_same}
-use Rattle.exb_numbers.specs.Order.{rank_of, compared, ranks_at}
-use Rattle.exb_numbers.proofs.Rising.{found}
+use Rattle.exb_numbers.specs.GroupOrder.{rank_of, compared, ranks_at}
+use Rattle.exb_numbers.proofs.RisingPlaces.{found}
 use Rattle.exb_numbers.proofs.groups.search.Goals as goal
 
 pub returns : goal.returns

@@ -1,4 +1,4 @@
-use Rattle.exb_numbers.proofs.Apart.{channel_range, channel_holder, channel_used, one_channel}
+use Rattle.exb_numbers.proofs.Uniqueness.{channel_range, channel_holder, channel_used, one_channel}
 use Rattle.exb_numbers.proofs.laws.channels_are_apart.Goals as goal
 
 pub returns : goal.returns

@@ -1,4 +1,4 @@
-use Rattle.exb_numbers.proofs.Apart.{group_range, group_set, group_used}
+use Rattle.exb_numbers.proofs.Uniqueness.{group_range, group_set, group_used}
 use Rattle.exb_numbers.proofs.laws.groups_are_apart.Goals as goal
 
 pub returns : goal.returns

@@ -1,6 +1,6 @@
 use Rattle.std.proofs.Common.{rules, ◌≡◌, ◌++◌, ◌∷◌, [], length, ap, ◌∙◌, arith}
 use Rattle.std.specs.Prelude.{ℕ}
-use Rattle.exb_outputs.proofs.Places.{places_begin, places_more, places_end, places_low}
+use Rattle.exb_outputs.proofs.PortPlaces.{places_begin, places_more, places_end, places_low}
 use Rattle.exb_outputs.proofs.manifest.places_of.Goals as goal
 
 pub ports-init : goal.ports-init

@@ -1,4 +1,4 @@
-use Rattle.exb_outputs.proofs.Places.{ArePlacedBelow}
+use Rattle.exb_outputs.proofs.PortPlaces.{ArePlacedBelow}
 use Rattle.exb_outputs.proofs.manifest.places_of.Given as goal
 
 abbrev pub invariant-ports : goal.invariant-ports

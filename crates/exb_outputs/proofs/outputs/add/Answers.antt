@@ -1,4 +1,4 @@
-use Rattle.exb_outputs.proofs.Cutting.{nothing_added}
+use Rattle.exb_outputs.proofs.OutputPrefixes.{nothing_added}
 use Rattle.exb_outputs.proofs.outputs.add.Goals as goal
 
 pub returns-then-is_err-clause-front : goal.returns-then-is_err-clause-front

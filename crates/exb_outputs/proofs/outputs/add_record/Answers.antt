@@ -2,7 +2,7 @@ use Rattle.std.proofs.Common.{rules, ◌≡◌, ◌+◌, ◌++◌, ◌⊎◌, Li
 use Rattle.std.specs.Prelude.{OnOk, OnErr}
 use Rattle.std.proofs.lemmas.Result.{on_ok_weaker}
 use Rattle.exb_shelf.specs.Files.{Adds, AddsFront, SameFiles}
-use Rattle.exb_outputs.proofs.Cutting.{nothing_added}
+use Rattle.exb_outputs.proofs.OutputPrefixes.{nothing_added}
 use Rattle.exb_outputs.proofs.outputs.add_record.Goals as goal
 
 pub returns-then-is_err-clause-front : goal.returns-then-is_err-clause-front

@@ -1,17 +1,17 @@
 use Rattle.std.proofs.Common.{rules, ◌≡◌, ◌<◌, ◌∙◌, ℕ, List, [], ap, refl, get_or, slice_index, length, arith, subst}
 use Rattle.std.proofs.lemmas.List.{length-map}
 use Rattle.std.proofs.lemmas.Result.{err_from_is_err_and}
-use Rattle.exb_inputs.proofs.ShelvingLemmas.{counts_as, counts_from, counts_ok}
+use Rattle.exb_inputs.proofs.ShelfEffects.{counts_as, counts_from, counts_ok}
 use Rattle.exb_shelf.specs.Files.{Filled}
 use Rattle.exb_shelf.proofs.FileLemmas.{filled_none, filled_one}
 use Rattle.exb_shelf.proofs.IdLemmas.{opens_none, opens_then}
 use Rattle.exb_outputs.specs.Manifests.{kind_at, output_count, output_name}
-use Rattle.exb_outputs.specs.Sent.{records_of, sizes_of}
-use Rattle.exb_outputs.specs.Writing.{ids_of, pieces_of, first_text}
-use Rattle.exb_outputs.proofs.OutputLemmas.{more_named, more_texts, none_written}
-use Rattle.exb_outputs.proofs.Sizes.{first_sent, more_values, size_of}
-use Rattle.exb_outputs.proofs.Cutting.{cut_made}
-use Rattle.exb_outputs.proofs.Orders.{made_more, made_none, makes_all, makes_some}
+use Rattle.exb_outputs.specs.CaptureSizes.{records_of, sizes_of}
+use Rattle.exb_outputs.specs.WrittenTexts.{ids_of, pieces_of, first_text}
+use Rattle.exb_outputs.proofs.WrittenTexts.{more_named, more_texts, none_written}
+use Rattle.exb_outputs.proofs.CaptureSizes.{first_sent, more_values, size_of}
+use Rattle.exb_outputs.proofs.OutputPrefixes.{cut_made}
+use Rattle.exb_outputs.proofs.CreationOrder.{made_more, made_none, makes_all, makes_some}
 use Rattle.exb_outputs.proofs.outputs.create_all.Goals as goal
 
 pub loop-at-init : goal.loop-at-init

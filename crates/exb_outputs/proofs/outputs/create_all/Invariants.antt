@@ -1,11 +1,11 @@
 use Rattle.std.proofs.Common.{◌≡◌, ◌<◌, ℕ, [], length, slice_index, slice_index_or}
 use Rattle.exb_shelf.specs.Files.{Filled}
 use Rattle.exb_shelf.specs.Shelf.{NoFewer, Opens, writing}
-use Rattle.exb_outputs.specs.Order.{MadeInOrder}
+use Rattle.exb_outputs.specs.CreationOrder.{MadeInOrder}
 use Rattle.exb_outputs.specs.Manifests.{output_name, kind_at}
-use Rattle.exb_outputs.specs.Sent.{records_of, sizes_of}
-use Rattle.exb_outputs.specs.Shelving.{WritesListed}
-use Rattle.exb_outputs.specs.Writing.{ids_of, pieces_of, first_text}
+use Rattle.exb_outputs.specs.CaptureSizes.{records_of, sizes_of}
+use Rattle.exb_outputs.specs.ShelfEffects.{WritesListed}
+use Rattle.exb_outputs.specs.WrittenTexts.{ids_of, pieces_of, first_text}
 use Rattle.exb_outputs.proofs.outputs.create_all.Given as goal
 
 abbrev pub invariant-loop-at : goal.invariant-loop-at

@@ -1,12 +1,12 @@
 use Rattle.std.proofs.Common.{arith, ◌≡◌, ◌∙◌, ℕ, List, [], ap, inl, inr, refl, subst}
 use Rattle.std.proofs.lemmas.Grind.{common_steps}
 use Rattle.std.proofs.lemmas.Result.{err_from_is_err_and}
-use Rattle.exb_inputs.proofs.ShelvingLemmas.{counts_memory, counts_ok}
+use Rattle.exb_inputs.proofs.ShelfEffects.{counts_memory, counts_ok}
 use Rattle.exb_shelf.specs.Files.{Puts}
 use Rattle.exb_shelf.specs.Shelf.{writing}
 use Rattle.exb_shelf.proofs.IdLemmas.{opens_none, opens_one, opens_same}
 use Rattle.exb_outputs.specs.Manifests.{output_name}
-use Rattle.exb_outputs.proofs.ShelvingLemmas.{fault_counts, is_writing}
+use Rattle.exb_outputs.proofs.ShelfEffects.{fault_counts, is_writing}
 use Rattle.exb_outputs.proofs.outputs.create_one.Goals as goal
 
 -- memory ran out before anything was made

@@ -1,4 +1,4 @@
-use Rattle.exb_outputs.proofs.ByKind.{names_apart}
+use Rattle.exb_outputs.proofs.KindPlaces.{names_apart}
 use Rattle.exb_outputs.proofs.outputs.output_names_differ.Goals as goal
 
 pub returns : goal.returns

@@ -1,5 +1,5 @@
 use Rattle.std.proofs.Common.{ℕ, refl, arith}
-use Rattle.exb_model.proofs.Words.{get_or-same}
+use Rattle.exb_model.proofs.PortBits.{get_or-same}
 use Rattle.exb_plan.proofs.branches.trunks_of.Goals as goal
 
 pub loop-number-init : goal.loop-number-init

@@ -1,8 +1,8 @@
 use Rattle.std.proofs.Common.{◌∙◌, map, ap}
-use Rattle.exb_changing.specs.Plans.Sets.{seen}
-use Rattle.exb_plan.specs.Spaces.{held_by}
-use Rattle.exb_changing.specs.Plans.Plans.{without_channel}
-use Rattle.exb_changing.specs.Plans.Making.{seen_group}
+use Rattle.exb_control_spec.specs.Plans.Sets.{seen}
+use Rattle.exb_plan.specs.SpaceContents.{held_by}
+use Rattle.exb_control_spec.specs.Plans.Plans.{without_channel}
+use Rattle.exb_control_spec.specs.Plans.FreshSets.{seen_group}
 use Rattle.exb_plan.proofs.ClaimLoop.{alike_more}
 use Rattle.exb_plan.proofs.WholePlans.{can_after, later_than, has_up_same}
 use Rattle.exb_plan.proofs.change.claim.Goals as goal

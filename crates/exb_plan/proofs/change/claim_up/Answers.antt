@@ -1,10 +1,10 @@
 use Rattle.std.proofs.Common.{◌∙◌, ◌/◌, Option, ℕ, sym, ap, subst}
 use Rattle.exb_model.specs.Tree.{trunk}
-use Rattle.exb_changing.specs.Plans.Held.{Held, channel_used, free_port_of}
-use Rattle.exb_plan.specs.Spaces.{held_by}
-use Rattle.exb_changing.specs.Plans.Plans.{without_channel}
-use Rattle.exb_plan.specs.Working.{HasUp, HasChannel, CanClaimUp, CanClaimChannel}
-use Rattle.exb_plan.proofs.SpaceHeld.{given_used, given_back}
+use Rattle.exb_control_spec.specs.Plans.HeldNumbers.{Held, channel_used, free_port_of}
+use Rattle.exb_plan.specs.SpaceContents.{held_by}
+use Rattle.exb_control_spec.specs.Plans.Plans.{without_channel}
+use Rattle.exb_plan.specs.PlanValues.{HasUp, HasChannel, CanClaimUp, CanClaimChannel}
+use Rattle.exb_plan.proofs.SpaceContents.{given_used, given_back}
 use Rattle.exb_plan.proofs.change.claim_up.Goals as goal
 
 pub returns-in-Some-clause-has : goal.returns-in-Some-clause-has

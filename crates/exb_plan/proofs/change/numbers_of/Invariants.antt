@@ -1,6 +1,6 @@
 use Rattle.std.proofs.Common.{◌≡◌, map, take}
-use Rattle.exb_changing.specs.Plans.Plans.{number_of}
-use Rattle.exb_changing.specs.Plans.Making.{seen_group}
+use Rattle.exb_control_spec.specs.Plans.Plans.{number_of}
+use Rattle.exb_control_spec.specs.Plans.FreshSets.{seen_group}
 use Rattle.exb_plan.proofs.change.numbers_of.Given as goal
 
 -- the numbers so far

@@ -2,11 +2,11 @@ use Rattle.std.proofs.Common.{◌≡◌, ℕ, ◌+◌, ◌-◌, ◌/◌, true, L
 use Rattle.exb_model.specs.Tree.{trunk, is_extended}
 use Rattle.exb_numbers.specs.Channels.{channel_of}
 use Rattle.exb_numbers.specs.Spaces.{channels_at}
-use Rattle.exb_plan.specs.Spaces.{held_by}
-use Rattle.exb_changing.specs.Plans.Held.{or_zero}
-use Rattle.exb_changing.specs.Plans.Plans.{own_channel}
-use Rattle.exb_changing.specs.Plans.Making.{IsAnyExtended}
-use Rattle.exb_plan.proofs.SpaceHeld.{home_space, channel_in_is, unwrap_is}
+use Rattle.exb_plan.specs.SpaceContents.{held_by}
+use Rattle.exb_control_spec.specs.Plans.HeldNumbers.{or_zero}
+use Rattle.exb_control_spec.specs.Plans.Plans.{own_channel}
+use Rattle.exb_control_spec.specs.Plans.FreshSets.{IsAnyExtended}
+use Rattle.exb_plan.proofs.SpaceContents.{home_space, channel_in_is, unwrap_is}
 use Rattle.exb_plan.proofs.change.own_channel.Goals as goal
 
 pub channels-requires-clause-cascade : goal.channels-requires-clause-cascade

@@ -3,7 +3,7 @@ use Rattle.std.specs.Prelude.{is_some, MatchResult}
 use Rattle.exb_model.specs.Tree.{trunk}
 use Rattle.exb_numbers.specs.Channels.{holder, channel_of, lowest_channel}
 use Rattle.exb_numbers.specs.Spaces.{has_space, channels_at}
-use Rattle.exb_plan.proofs.SpaceHeld.{channel_in_is, met, of_ok, channel_given, claimed_free}
+use Rattle.exb_plan.proofs.SpaceContents.{channel_in_is, met, of_ok, channel_given, claimed_free}
 use Rattle.exb_plan.proofs.claims.claim_channel.Goals as goal
 
 pub claim-requires : goal.claim-requires

@@ -2,9 +2,9 @@ use Rattle.std.proofs.Common.{◌≡◌, ℕ, ◌+◌, ◌-◌, ◌==◌, cond, 
 use Rattle.std.specs.Prelude.{is_some}
 use Rattle.exb_model.specs.Ports.{ports_of}
 use Rattle.exb_numbers.specs.Groups.{Groups, group_of, set_of, lowest_group}
-use Rattle.exb_changing.specs.Plans.Held.{Group, give, or_zero}
-use Rattle.exb_plan.specs.Spaces.{held_by}
-use Rattle.exb_plan.proofs.SpaceHeld.{group_in_is, met, claimed_is, of_ok, group_given}
+use Rattle.exb_control_spec.specs.Plans.HeldNumbers.{Group, give, or_zero}
+use Rattle.exb_plan.specs.SpaceContents.{held_by}
+use Rattle.exb_plan.proofs.SpaceContents.{group_in_is, met, claimed_is, of_ok, group_given}
 use Rattle.exb_plan.proofs.claims.claim_group.Goals as goal
 
 pub claim-requires-clause-absent : goal.claim-requires-clause-absent

@@ -1,12 +1,12 @@
 use Rattle.std.proofs.Common.{◌≡◌, ◌∙◌, ◌+◌, ◌-◌, ◌++◌, ◌∷◌, [], ℕ, List, map, drop, length, sym, ap, subst, arith, length-append}
 use Rattle.std.proofs.lemmas.List.{drop_all, map-append}
 use Rattle.exb_model.specs.Ports.{ports_of}
-use Rattle.exb_changing.specs.Plans.Sets.{PortsAt, seen}
-use Rattle.exb_changing.specs.declared.planning.group_at.GroupAt.{GroupAt}
-use Rattle.exb_changing.specs.Plans.Held.{Group, group_for, free_group, give}
-use Rattle.exb_plan.specs.Spaces.{held_by}
-use Rattle.exb_changing.specs.Plans.Making.{seen_group, AreFresh, IsFresh}
-use Rattle.exb_plan.specs.Working.{ArePlaced, IsPlaced}
+use Rattle.exb_control_spec.specs.Plans.Sets.{PortsAt, seen}
+use Rattle.exb_control_spec.specs.declared.plan.group_at.GroupAt.{GroupAt}
+use Rattle.exb_control_spec.specs.Plans.HeldNumbers.{Group, group_for, free_group, give}
+use Rattle.exb_plan.specs.SpaceContents.{held_by}
+use Rattle.exb_control_spec.specs.Plans.FreshSets.{seen_group, AreFresh, IsFresh}
+use Rattle.exb_plan.specs.PlanValues.{ArePlaced, IsPlaced}
 use Rattle.exb_plan.proofs.Lists.{image_rest}
 use Rattle.exb_plan.proofs.ClaimLoop.{IsClaiming, alike_itself, alike_more, claiming_begins, claiming_step, claiming_ends, limit_here}
 use Rattle.exb_plan.proofs.claims.claim_groups.Goals as goal

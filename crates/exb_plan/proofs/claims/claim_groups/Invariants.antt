@@ -1,9 +1,9 @@
 use Rattle.std.proofs.Common.{◌≡◌, ◌≤◌, ℕ, map, drop, length}
 use Rattle.std.specs.Prelude.{vec_capacity}
-use Rattle.exb_changing.specs.Plans.Sets.{seen}
-use Rattle.exb_plan.specs.Spaces.{held_by}
-use Rattle.exb_changing.specs.Plans.Making.{seen_group}
-use Rattle.exb_plan.specs.Working.{AreLimited, IsAlike}
+use Rattle.exb_control_spec.specs.Plans.Sets.{seen}
+use Rattle.exb_plan.specs.SpaceContents.{held_by}
+use Rattle.exb_control_spec.specs.Plans.FreshSets.{seen_group}
+use Rattle.exb_plan.specs.PlanValues.{AreLimited, IsAlike}
 use Rattle.exb_plan.proofs.ClaimLoop.{IsClaiming}
 use Rattle.exb_plan.proofs.claims.claim_groups.Given as goal
 

@@ -1,6 +1,6 @@
 use Rattle.std.proofs.Common.{◌≡◌, ◌+◌, ◌-◌, ◌==◌, [], cond, ap, ◌∙◌, arith}
 use Rattle.exb_numbers.specs.Groups.{Groups, set_of}
-use Rattle.exb_plan.proofs.SpaceHeld.{group_given}
+use Rattle.exb_plan.proofs.SpaceContents.{group_given}
 use Rattle.exb_plan.proofs.claims.free_group.Goals as goal
 
 -- a group that is taken back is one that is given no ports

@@ -1,11 +1,11 @@
 use Rattle.std.proofs.Common.{◌≡◌, ◌∙◌, ◌-◌, ◌++◌, ◌∷◌, [], ℕ, List, take, map, sym, ap, subst}
 use Rattle.std.proofs.lemmas.List.{append-nil, map-append}
-use Rattle.exb_changing.specs.declared.planning.group_at.GroupAt.{GroupAt}
-use Rattle.exb_changing.specs.Plans.Held.{Held, Group}
-use Rattle.exb_plan.specs.Spaces.{held_by}
-use Rattle.exb_changing.specs.Plans.Making.{seen_group}
-use Rattle.exb_plan.specs.Working.{IsLaterBy}
-use Rattle.exb_plan.proofs.GivenBack.{IsLast, last_given, none_given}
+use Rattle.exb_control_spec.specs.declared.plan.group_at.GroupAt.{GroupAt}
+use Rattle.exb_control_spec.specs.Plans.HeldNumbers.{Held, Group}
+use Rattle.exb_plan.specs.SpaceContents.{held_by}
+use Rattle.exb_control_spec.specs.Plans.FreshSets.{seen_group}
+use Rattle.exb_plan.specs.PlanValues.{IsLaterBy}
+use Rattle.exb_plan.proofs.ReturnedGroups.{IsLast, last_given, none_given}
 use Rattle.exb_plan.proofs.ClaimLoop.{alike_more}
 use Rattle.exb_plan.proofs.claims.free_groups.Goals as goal
 

@@ -1,9 +1,9 @@
 use Rattle.std.proofs.Common.{map}
 use Rattle.std.specs.Prelude.{vec_len}
-use Rattle.exb_changing.specs.Plans.Held.{Held}
-use Rattle.exb_plan.specs.Spaces.{held_by}
-use Rattle.exb_changing.specs.Plans.Making.{seen_group}
-use Rattle.exb_plan.specs.Working.{IsLaterBy, IsAlike}
+use Rattle.exb_control_spec.specs.Plans.HeldNumbers.{Held}
+use Rattle.exb_plan.specs.SpaceContents.{held_by}
+use Rattle.exb_control_spec.specs.Plans.FreshSets.{seen_group}
+use Rattle.exb_plan.specs.PlanValues.{IsLaterBy, IsAlike}
 use Rattle.exb_plan.proofs.claims.free_groups.Given as goal
 
 -- what is held came of what was held by the groups that are left

@@ -1,5 +1,5 @@
 use Rattle.std.proofs.Common.{◌≡◌, map, fold, take}
-use Rattle.exb_changing.specs.Plans.Sets.{with_set_at, seen}
+use Rattle.exb_control_spec.specs.Plans.Sets.{with_set_at, seen}
 use Rattle.exb_plan.proofs.group_sets.put_all_once.Given as goal
 
 -- those of the sets so far

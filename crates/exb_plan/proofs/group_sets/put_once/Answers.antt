@@ -1,8 +1,8 @@
 use Rattle.std.proofs.Common.{◌∙◌, sym, ap, map}
-use Rattle.exb_changing.specs.Plans.Sets.{seen}
+use Rattle.exb_control_spec.specs.Plans.Sets.{seen}
 use Rattle.exb_plan.proofs.SetPorts.{empty_sets}
 use Rattle.exb_plan.proofs.SetFolds.{with_set-none}
-use Rattle.exb_plan.proofs.Once.{put_seen}
+use Rattle.exb_plan.proofs.SetIndex.{put_seen}
 use Rattle.std.proofs.lemmas.Bool.{or_left}
 use Rattle.exb_plan.proofs.group_sets.put_once.Goals as goal
 

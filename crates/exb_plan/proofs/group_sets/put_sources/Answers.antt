@@ -3,8 +3,8 @@ use Rattle.std.specs.List.{flat_map}
 use Rattle.std.proofs.lemmas.Result.{on_ok_weaker}
 use Rattle.exb_model.specs.Refusals.{both_kinds, all_vids}
 use Rattle.exb_config.specs.Tables.{bridge_of}
-use Rattle.exb_changing.specs.declared.planning.set_at.SetAt.{SetAt}
-use Rattle.exb_changing.specs.Plans.Sets.{seen, with_set_at, parts_below}
+use Rattle.exb_control_spec.specs.declared.plan.set_at.SetAt.{SetAt}
+use Rattle.exb_control_spec.specs.Plans.Sets.{seen, with_set_at, parts_below}
 use Rattle.exb_plan.proofs.SetFolds.{all_put}
 use Rattle.exb_plan.proofs.group_sets.put_sources.Goals as goal
 

@@ -6,7 +6,7 @@ use Rattle.exb_model.specs.declared.rules.StaticAt.{StaticAt}
 use Rattle.exb_model.specs.Ports.{port_in}
 use Rattle.exb_model.specs.Refusals.{both_kinds}
 use Rattle.exb_config.specs.Tables.{bridge_of}
-use Rattle.exb_changing.specs.Plans.Sets.{seen, with_set_at, parts_below}
+use Rattle.exb_control_spec.specs.Plans.Sets.{seen, with_set_at, parts_below}
 use Rattle.exb_plan.proofs.SetFolds.{source_more}
 use Rattle.exb_plan.proofs.group_sets.put_statics.Goals as goal
 

@@ -5,7 +5,7 @@ use Rattle.exb_model.specs.Tree.{Shape}
 use Rattle.exb_model.specs.Refusals.{both_kinds}
 use Rattle.exb_config.specs.Tables.{bridge_of}
 use Rattle.exb_plan.specs.Branches.{AreBranches}
-use Rattle.exb_changing.specs.Plans.Sets.{seen, with_set_at, parts_below}
+use Rattle.exb_control_spec.specs.Plans.Sets.{seen, with_set_at, parts_below}
 use Rattle.exb_plan.proofs.group_sets.put_statics.Given as goal
 
 -- the parts of the entries so far are put

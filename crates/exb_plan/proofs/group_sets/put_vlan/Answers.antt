@@ -2,8 +2,8 @@ use Rattle.std.proofs.Common.{◌∙◌, ap, List, map, fold}
 use Rattle.std.proofs.lemmas.Result.{on_ok_weaker}
 use Rattle.exb_model.specs.Refusals.{both_kinds}
 use Rattle.exb_config.specs.Tables.{bridge_of}
-use Rattle.exb_changing.specs.declared.planning.set_at.SetAt.{SetAt}
-use Rattle.exb_changing.specs.Plans.Sets.{with_set_at, seen}
+use Rattle.exb_control_spec.specs.declared.plan.set_at.SetAt.{SetAt}
+use Rattle.exb_control_spec.specs.Plans.Sets.{with_set_at, seen}
 use Rattle.exb_plan.proofs.SetFolds.{gathered}
 use Rattle.exb_plan.proofs.group_sets.put_vlan.Goals as goal
 

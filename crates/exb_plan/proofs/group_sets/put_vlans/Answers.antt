@@ -2,7 +2,7 @@ use Rattle.std.proofs.Common.{◌≡◌, ◌∙◌, ◌+◌, ◌-◌, ◌&&◌, 
 use Rattle.std.specs.List.{flat_map, range_with_len}
 use Rattle.exb_model.specs.Refusals.{both_kinds}
 use Rattle.exb_config.specs.Tables.{bridge_of}
-use Rattle.exb_changing.specs.Plans.Sets.{seen, with_set_at, parts_below}
+use Rattle.exb_control_spec.specs.Plans.Sets.{seen, with_set_at, parts_below}
 use Rattle.exb_plan.proofs.SetFolds.{vlan_more, unknown_put, vids_are}
 use Rattle.exb_plan.proofs.group_sets.put_vlans.Goals as goal
 use Rattle.exb_plan.proofs.group_sets.put_vlans.Goals.{then-known+in_ok-put_vlan, else-known}

@@ -1,5 +1,5 @@
 use Rattle.std.proofs.Common.{◌∙◌, ap, map}
-use Rattle.exb_changing.specs.Plans.Sets.{seen}
+use Rattle.exb_control_spec.specs.Plans.Sets.{seen}
 use Rattle.exb_plan.proofs.group_sets.sets.Goals as goal
 
 pub returns : goal.returns

@@ -3,10 +3,10 @@ use Rattle.std.specs.List.{flat_map}
 use Rattle.std.proofs.lemmas.List.{append-nil}
 use Rattle.exb_model.specs.Ports.{below}
 use Rattle.exb_model.specs.Tree.{is_cascade}
-use Rattle.exb_changing.specs.Plans.Held.{Group}
-use Rattle.exb_plan.specs.Spaces.{held_by}
-use Rattle.exb_changing.specs.Plans.Between.{gone_at}
-use Rattle.exb_changing.specs.Plans.Making.{seen_group}
+use Rattle.exb_control_spec.specs.Plans.HeldNumbers.{Group}
+use Rattle.exb_plan.specs.SpaceContents.{held_by}
+use Rattle.exb_control_spec.specs.Plans.Differences.{gone_at}
+use Rattle.exb_control_spec.specs.Plans.FreshSets.{seen_group}
 use Rattle.exb_plan.proofs.Lists.{filter_next}
 use Rattle.exb_plan.proofs.RowSteps.{none_below, gone_everywhere}
 use Rattle.exb_plan.proofs.lost_uses.gone_groups.Goals as goal

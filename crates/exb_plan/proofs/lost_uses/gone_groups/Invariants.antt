@@ -2,10 +2,10 @@ use Rattle.std.proofs.Common.{◌≡◌, ◌-◌, ◌<◌, ℕ, true, List, filt
 use Rattle.std.specs.List.{flat_map}
 use Rattle.exb_model.specs.Ports.{below}
 use Rattle.exb_model.specs.Tree.{is_cascade}
-use Rattle.exb_changing.specs.Plans.Sets.{PortsAt, seen}
-use Rattle.exb_plan.specs.Spaces.{held_by}
-use Rattle.exb_changing.specs.Plans.Between.{gone_at}
-use Rattle.exb_changing.specs.Plans.Making.{seen_group}
+use Rattle.exb_control_spec.specs.Plans.Sets.{PortsAt, seen}
+use Rattle.exb_plan.specs.SpaceContents.{held_by}
+use Rattle.exb_control_spec.specs.Plans.Differences.{gone_at}
+use Rattle.exb_control_spec.specs.Plans.FreshSets.{seen_group}
 use Rattle.exb_plan.specs.LostUses.{AreLeft}
 use Rattle.exb_plan.proofs.lost_uses.gone_groups.Given as goal
 

@@ -1,9 +1,9 @@
 use Rattle.std.proofs.Common.{◌∙◌, ◌-◌, ◌||◌, [], ◌∷◌, Bool, List, map, take, sym, ap}
-use Rattle.exb_changing.specs.Plans.Sets.{PortsAt, seen}
-use Rattle.exb_plan.specs.Spaces.{held_by}
+use Rattle.exb_control_spec.specs.Plans.Sets.{PortsAt, seen}
+use Rattle.exb_plan.specs.SpaceContents.{held_by}
 use Rattle.exb_plan.specs.LostUses.{is_left}
 use Rattle.exb_plan.proofs.Lists.{image_next}
-use Rattle.exb_plan.proofs.Leaving.{left_more}
+use Rattle.exb_plan.proofs.LostUses.{left_more}
 use Rattle.exb_plan.proofs.lost_uses.left_at.Goals as goal
 
 pub loop-part-preserved : goal.loop-part-preserved

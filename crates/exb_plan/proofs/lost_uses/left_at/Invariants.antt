@@ -1,7 +1,7 @@
 use Rattle.std.proofs.Common.{◌≡◌, ◌-◌, ℕ, map, take}
-use Rattle.exb_changing.specs.Plans.Sets.{seen}
-use Rattle.exb_plan.specs.Spaces.{held_by}
-use Rattle.exb_plan.specs.Rising.{is_among, IsRising}
+use Rattle.exb_control_spec.specs.Plans.Sets.{seen}
+use Rattle.exb_plan.specs.SpaceContents.{held_by}
+use Rattle.exb_plan.specs.RisingNumbers.{is_among, IsRising}
 use Rattle.exb_plan.specs.LostUses.{is_left, AreGroups}
 use Rattle.exb_plan.proofs.lost_uses.left_at.Given as goal
 

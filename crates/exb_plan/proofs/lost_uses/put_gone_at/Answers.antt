@@ -1,9 +1,9 @@
 use Rattle.std.proofs.Common.{◌≡◌, ◌∙◌, ◌-◌, ◌++◌, List, map, sym, ap}
 use Rattle.std.proofs.lemmas.Result.{on_ok_weaker}
-use Rattle.exb_changing.specs.Plans.Held.{Group}
-use Rattle.exb_plan.specs.Spaces.{held_by}
-use Rattle.exb_changing.specs.Plans.Between.{group_at, gone_at}
-use Rattle.exb_changing.specs.Plans.Making.{seen_group}
+use Rattle.exb_control_spec.specs.Plans.HeldNumbers.{Group}
+use Rattle.exb_plan.specs.SpaceContents.{held_by}
+use Rattle.exb_control_spec.specs.Plans.Differences.{group_at, gone_at}
+use Rattle.exb_control_spec.specs.Plans.FreshSets.{seen_group}
 use Rattle.exb_plan.proofs.GoneNumbers.{gone_at_are}
 use Rattle.exb_plan.proofs.lost_uses.put_gone_at.Goals as goal
 

@@ -6,12 +6,12 @@ use Rattle.exb_model.specs.Ports.{ports_of}
 use Rattle.exb_model.specs.Refusals.{is_empty_set}
 use Rattle.exb_numbers.specs.Groups.{Groups, set_of}
 use Rattle.exb_numbers.specs.Spaces.{Spaces, groups_at}
-use Rattle.exb_changing.specs.declared.planning.group_at.GroupAt.{GroupAt}
-use Rattle.exb_changing.specs.Plans.Between.{group_at}
-use Rattle.exb_changing.specs.Plans.Held.{Group, group_used}
-use Rattle.exb_changing.specs.Plans.Making.{seen_group}
-use Rattle.exb_plan.specs.Spaces.{held_by}
-use Rattle.exb_plan.proofs.InOrder.{among_at}
+use Rattle.exb_control_spec.specs.declared.plan.group_at.GroupAt.{GroupAt}
+use Rattle.exb_control_spec.specs.Plans.Differences.{group_at}
+use Rattle.exb_control_spec.specs.Plans.HeldNumbers.{Group, group_used}
+use Rattle.exb_control_spec.specs.Plans.FreshSets.{seen_group}
+use Rattle.exb_plan.specs.SpaceContents.{held_by}
+use Rattle.exb_plan.proofs.RisingNumbers.{among_at}
 use Rattle.exb_plan.proofs.lost_uses.put_groups.Goals as goal
 use Rattle.exb_plan.proofs.lost_uses.put_groups.Goals.{in-Some+in_ok-push, in_default}
 

@@ -1,7 +1,7 @@
 use Rattle.std.proofs.Common.{◌≡◌, ◌++◌, ◌-◌, map, take}
-use Rattle.exb_plan.specs.Spaces.{held_by}
-use Rattle.exb_changing.specs.Plans.Between.{group_at}
-use Rattle.exb_changing.specs.Plans.Making.{seen_group}
+use Rattle.exb_plan.specs.SpaceContents.{held_by}
+use Rattle.exb_control_spec.specs.Plans.Differences.{group_at}
+use Rattle.exb_control_spec.specs.Plans.FreshSets.{seen_group}
 use Rattle.exb_plan.proofs.lost_uses.put_groups.Given as goal
 
 -- those of the numbers so far

@@ -1,12 +1,12 @@
 use Rattle.std.proofs.Common.{◌≡◌, ◌∙◌, ◌-◌, ◌<◌, ◌||◌, Bool, ℕ, Some, None, sym, ap, subst, arith}
 use Rattle.std.proofs.lemmas.Result.{on_ok_weaker}
-use Rattle.exb_changing.specs.Plans.Sets.{seen}
-use Rattle.exb_plan.specs.Spaces.{held_by}
-use Rattle.exb_changing.specs.Plans.Held.{group_in}
-use Rattle.exb_plan.specs.Counted.{count_at}
-use Rattle.exb_plan.specs.Rising.{is_among}
-use Rattle.exb_plan.proofs.Recounting.{looked_up}
-use Rattle.exb_plan.proofs.Leaving.{left_goes, left_stays, left_absent}
+use Rattle.exb_control_spec.specs.Plans.Sets.{seen}
+use Rattle.exb_plan.specs.SpaceContents.{held_by}
+use Rattle.exb_control_spec.specs.Plans.HeldNumbers.{group_in}
+use Rattle.exb_plan.specs.UseCounts.{count_at}
+use Rattle.exb_plan.specs.RisingNumbers.{is_among}
+use Rattle.exb_plan.proofs.Recount.{looked_up}
+use Rattle.exb_plan.proofs.LostUses.{left_goes, left_stays, left_absent}
 use Rattle.exb_plan.proofs.lost_uses.put_left.Goals as goal
 
 pub returns-then-count-gt0-clause-members : goal.returns-then-count-gt0-clause-members

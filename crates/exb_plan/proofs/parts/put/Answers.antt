@@ -1,6 +1,6 @@
 use Rattle.std.proofs.Common.{◌∙◌, sym, ap, map, [], ◌∷◌}
 use Rattle.std.proofs.lemmas.List.{map-append}
-use Rattle.exb_changing.specs.Plans.Sets.{seen}
+use Rattle.exb_control_spec.specs.Plans.Sets.{seen}
 use Rattle.exb_plan.proofs.SetPorts.{empty_sets}
 use Rattle.exb_plan.proofs.PartLists.{none_more, one_more}
 use Rattle.exb_plan.proofs.parts.put.Goals as goal

@@ -1,7 +1,7 @@
 use Rattle.std.proofs.Common.{◌≡◌, ◌∙◌, ◌-◌, ◌++◌, ap, ℕ, map, filter, arith}
 use Rattle.std.specs.List.{flat_map}
 use Rattle.exb_model.specs.Ports.{below}
-use Rattle.exb_changing.specs.Plans.Sets.{seen, parts_of}
+use Rattle.exb_control_spec.specs.Plans.Sets.{seen, parts_of}
 use Rattle.exb_plan.specs.Parts.{has_ports}
 use Rattle.exb_plan.proofs.PartLists.{parts_none, parts_next, parts_all}
 use Rattle.exb_plan.proofs.parts.put_all.Goals as goal

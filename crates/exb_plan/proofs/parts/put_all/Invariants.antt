@@ -5,7 +5,7 @@ use Rattle.exb_model.specs.Tree.{Shape}
 use Rattle.exb_model.specs.Configuration.{Bridge}
 use Rattle.exb_model.specs.Refusals.{Source}
 use Rattle.exb_plan.specs.Branches.{AreBranches, IsPart}
-use Rattle.exb_changing.specs.Plans.Sets.{seen, parts_of}
+use Rattle.exb_control_spec.specs.Plans.Sets.{seen, parts_of}
 use Rattle.exb_plan.specs.Parts.{has_ports}
 use Rattle.exb_plan.proofs.parts.put_all.Given as goal
 

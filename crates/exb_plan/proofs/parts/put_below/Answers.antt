@@ -1,5 +1,5 @@
 use Rattle.std.proofs.Common.{map}
-use Rattle.exb_changing.specs.Plans.Sets.{seen}
+use Rattle.exb_control_spec.specs.Plans.Sets.{seen}
 use Rattle.exb_plan.proofs.PartLists.{parts_put, parts_left_out}
 use Rattle.exb_plan.proofs.parts.put_below.Goals as goal
 

@@ -2,7 +2,7 @@ use Rattle.std.proofs.Common.{◌≡◌, ◌∙◌, ◌&&◌, Bool, true, false,
 use Rattle.std.proofs.lemmas.Bool.{and_from}
 use Rattle.exb_model.specs.Tree.{is_extended}
 use Rattle.exb_config.specs.Tables.{bridge_of}
-use Rattle.exb_changing.proofs.Plans.Trunks.{extended_below}
+use Rattle.exb_control_spec.proofs.Plans.Trunks.{extended_below}
 use Rattle.exb_plan.proofs.Presences.{down_is, down_none}
 use Rattle.exb_plan.proofs.presence.fallen.Goals as goal
 use Rattle.exb_plan.proofs.presence.fallen.Goals.{else-is_extended-via-then-is_extended+else-is_present, else-is_extended-via-else-is_extended}

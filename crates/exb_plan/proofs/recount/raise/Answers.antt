@@ -2,10 +2,10 @@ use Rattle.std.proofs.Common.{◌∙◌, ◌-◌, Some, ap, not}
 use Rattle.std.proofs.lemmas.Result.{on_ok_weaker}
 use Rattle.exb_model.specs.Ports.{ports_of}
 use Rattle.exb_model.specs.Refusals.{is_empty_set}
-use Rattle.exb_changing.specs.Plans.Sets.{seen}
-use Rattle.exb_plan.specs.Spaces.{held_by}
-use Rattle.exb_changing.proofs.Plans.Owning.{IsGroupOf, group_found}
-use Rattle.exb_plan.proofs.Recounting.{looked_up, raised_none, raised_one}
+use Rattle.exb_control_spec.specs.Plans.Sets.{seen}
+use Rattle.exb_plan.specs.SpaceContents.{held_by}
+use Rattle.exb_control_spec.proofs.Plans.GroupOwners.{IsGroupOf, group_found}
+use Rattle.exb_plan.proofs.Recount.{looked_up, raised_none, raised_one}
 use Rattle.exb_plan.proofs.recount.raise.Goals as goal
 
 pub raise-requires-clause-there : goal.raise-requires-clause-there

@@ -1,11 +1,11 @@
 use Rattle.std.proofs.Common.{◌∙◌, [], ◌∷◌, List, map, take, refl, sym, subst}
 use Rattle.std.proofs.lemmas.List.{take_all}
 use Rattle.std.proofs.lemmas.Result.{err_from_is_err_and}
-use Rattle.exb_changing.specs.declared.planning.set_at.SetAt.{SetAt}
-use Rattle.exb_changing.specs.Plans.Sets.{PortsAt, seen}
+use Rattle.exb_control_spec.specs.declared.plan.set_at.SetAt.{SetAt}
+use Rattle.exb_control_spec.specs.Plans.Sets.{PortsAt, seen}
 use Rattle.exb_plan.proofs.Lists.{image_next}
 use Rattle.exb_plan.specs.Recount.{AreRaised}
-use Rattle.exb_plan.proofs.Recounting.{raised_begins, raised_more}
+use Rattle.exb_plan.proofs.Recount.{raised_begins, raised_more}
 use Rattle.exb_plan.proofs.recount.raise_all.Goals as goal
 
 pub loop-part-init : goal.loop-part-init

@@ -1,5 +1,5 @@
 use Rattle.std.proofs.Common.{map, take}
-use Rattle.exb_changing.specs.Plans.Sets.{seen}
+use Rattle.exb_control_spec.specs.Plans.Sets.{seen}
 use Rattle.exb_plan.specs.Recount.{AreRaised, HaveRowsOf}
 use Rattle.exb_plan.proofs.recount.raise_new.Given as goal
 

@@ -2,7 +2,7 @@ use Rattle.std.proofs.Common.{◌≡◌, ◌∙◌, ◌+◌, ◌-◌, ◌&&◌, 
 use Rattle.exb_model.specs.Tree.{is_under}
 use Rattle.exb_model.proofs.Validity.{count_more_yes, count_more_no, count_none}
 use Rattle.exb_config.specs.Tables.{bridge_of}
-use Rattle.exb_changing.proofs.Plans.Counts.{present_are}
+use Rattle.exb_control_spec.proofs.Plans.ChannelNeeds.{present_are}
 use Rattle.exb_plan.proofs.refusals.present_under.Goals as goal
 use Rattle.exb_plan.proofs.refusals.present_under.Goals.{then-is_present_under, else-is_present_under}
 

@@ -2,7 +2,7 @@ use Rattle.std.proofs.Common.{◌≡◌, take}
 use Rattle.std.specs.List.{filter_map}
 use Rattle.exb_model.specs.Ports.{port_in}
 use Rattle.exb_model.specs.Tree.{by_depth}
-use Rattle.exb_changing.specs.Plans.Rows.{row_of}
+use Rattle.exb_control_spec.specs.Plans.Rows.{row_of}
 use Rattle.exb_plan.proofs.set_rows.rows.Given as goal
 
 -- the rows of the extenders so far

@@ -1,6 +1,6 @@
 use Rattle.std.proofs.Common.{◌≡◌, ◌≤◌, map, take}
-use Rattle.exb_changing.specs.Plans.Sets.{seen}
-use Rattle.exb_changing.specs.Plans.Making.{how_many, is_at}
+use Rattle.exb_control_spec.specs.Plans.Sets.{seen}
+use Rattle.exb_control_spec.specs.Plans.FreshSets.{how_many, is_at}
 use Rattle.exb_plan.proofs.shortage.count_at.Given as goal
 
 -- those of the sets so far

@@ -2,10 +2,10 @@ use Rattle.std.proofs.Common.{◌≡◌, ◌∙◌, ◌+◌, ◌-◌, ◌<◌, �
 use Rattle.std.specs.Prelude.{is_some}
 use Rattle.std.proofs.lemmas.Bool.{false≢true}
 use Rattle.exb_model.specs.declared.event.Cause.{Cause}
-use Rattle.exb_changing.specs.Plans.Sets.{seen}
-use Rattle.exb_changing.specs.Plans.Making.{how_many, is_at, short_at}
-use Rattle.exb_plan.proofs.Finding.{short_cause, short_found, short_none}
-use Rattle.exb_plan.specs.Counted.{used_at}
+use Rattle.exb_control_spec.specs.Plans.Sets.{seen}
+use Rattle.exb_control_spec.specs.Plans.FreshSets.{how_many, is_at, short_at}
+use Rattle.exb_plan.proofs.FirstPorts.{short_cause, short_found, short_none}
+use Rattle.exb_plan.specs.UseCounts.{used_at}
 use Rattle.exb_plan.proofs.shortage.groups_short.Goals as goal
 
 of_some : (o : Option Cause) → is_some o ≡ true → (x : Cause) × (o ≡ Some x)

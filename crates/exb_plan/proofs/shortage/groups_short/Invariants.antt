@@ -1,10 +1,10 @@
 use Rattle.std.proofs.Common.{◌≡◌, ◌+◌, ◌<◌, ◌-◌, ℕ, true, false, List, map}
 use Rattle.exb_model.specs.Setup.{Limits}
 use Rattle.exb_model.specs.Tree.{is_cascade}
-use Rattle.exb_changing.specs.Plans.Sets.{PortsAt, seen}
-use Rattle.exb_plan.specs.Working.{AreLimited}
-use Rattle.exb_changing.specs.Plans.Making.{how_many, is_at, is_short}
-use Rattle.exb_plan.specs.Counted.{used_at}
+use Rattle.exb_control_spec.specs.Plans.Sets.{PortsAt, seen}
+use Rattle.exb_plan.specs.PlanValues.{AreLimited}
+use Rattle.exb_control_spec.specs.Plans.FreshSets.{how_many, is_at, is_short}
+use Rattle.exb_plan.specs.UseCounts.{used_at}
 use Rattle.exb_plan.proofs.shortage.groups_short.Given as goal
 
 -- no bridge port so far is short of groups

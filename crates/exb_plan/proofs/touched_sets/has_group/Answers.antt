@@ -2,7 +2,7 @@ use Rattle.std.proofs.Common.{◌-◌, ap, sym, ◌∙◌}
 use Rattle.std.specs.Prelude.{is_some}
 use Rattle.exb_model.specs.Ports.{ports_of}
 use Rattle.exb_numbers.specs.Groups.{Groups, group_of}
-use Rattle.exb_plan.proofs.SpaceHeld.{group_in_is}
+use Rattle.exb_plan.proofs.SpaceContents.{group_in_is}
 use Rattle.exb_plan.proofs.touched_sets.has_group.Goals as goal
 
 pub returns : goal.returns

@@ -1,11 +1,11 @@
 use Rattle.std.proofs.Common.{◌∙◌, List, [], not, filter, map, fold, ap}
 use Rattle.exb_model.specs.Configuration.{after}
 use Rattle.exb_config.specs.Tables.{bridge_of}
-use Rattle.exb_changing.specs.declared.planning.set_at.SetAt.{SetAt}
-use Rattle.exb_changing.specs.Plans.Sets.{seen, with_set_at}
-use Rattle.exb_changing.specs.Plans.Touched.{parts_after}
-use Rattle.exb_plan.specs.Spaces.{held_by}
-use Rattle.exb_changing.specs.Plans.Making.{has_group}
+use Rattle.exb_control_spec.specs.declared.plan.set_at.SetAt.{SetAt}
+use Rattle.exb_control_spec.specs.Plans.Sets.{seen, with_set_at}
+use Rattle.exb_control_spec.specs.Plans.TouchedParts.{parts_after}
+use Rattle.exb_plan.specs.SpaceContents.{held_by}
+use Rattle.exb_control_spec.specs.Plans.FreshSets.{has_group}
 use Rattle.exb_plan.proofs.TouchedSets.{after_within, some_below, parts_placed, fresh_made}
 use Rattle.exb_plan.proofs.touched_sets.touched_sets.Goals as goal
 

@@ -1,10 +1,10 @@
 use Rattle.std.proofs.Common.{◌≡◌, ◌+◌, ◌<◌, ◌∙◌, ℕ, List, [], ◌∷◌, ◌++◌, Bool, true, false, cond, length, get_or, map, filter, take, not, sym, ap, rules}
 use Rattle.std.proofs.lemmas.List.{append-nil, map-append, take_all}
 use Rattle.std.proofs.lemmas.List.Elements.{filter-append}
-use Rattle.exb_changing.specs.declared.planning.set_at.SetAt.{SetAt}
-use Rattle.exb_changing.specs.Plans.Making.{has_group}
-use Rattle.exb_changing.specs.Plans.Sets.{PortsAt, seen}
-use Rattle.exb_plan.specs.Spaces.{held_by}
+use Rattle.exb_control_spec.specs.declared.plan.set_at.SetAt.{SetAt}
+use Rattle.exb_control_spec.specs.Plans.FreshSets.{has_group}
+use Rattle.exb_control_spec.specs.Plans.Sets.{PortsAt, seen}
+use Rattle.exb_plan.specs.SpaceContents.{held_by}
 use Rattle.exb_plan.proofs.Lists.{image_next}
 use Rattle.exb_plan.proofs.touched_sets.without_group.Goals as goal
 use Rattle.exb_plan.proofs.touched_sets.without_group.Goals.{then-not-has_group+in_ok-push, else-not-has_group}

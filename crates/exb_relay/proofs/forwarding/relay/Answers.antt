@@ -4,9 +4,9 @@ use Rattle.exb_config.specs.Tables.{bridge_of}
 use Rattle.exb_learn.specs.Entries.{look_of}
 use Rattle.exb_relay.specs.Spaces.{numbers_of}
 use Rattle.exb_relay.specs.Sends.{sends_in}
-use Rattle.exb_relay.specs.Words.{is_let_in}
-use Rattle.exb_relay.proofs.Passing.{passes_none, passes_by}
-use Rattle.exb_relay.proofs.Steps.{sends_from}
+use Rattle.exb_relay.specs.SendsBySource.{is_let_in}
+use Rattle.exb_relay.proofs.IngressSteps.{passes_none, passes_by}
+use Rattle.exb_relay.proofs.PortSends.{sends_from}
 use Rattle.exb_relay.proofs.forwarding.relay.Goals as goal
 
 pub returns-in_default-clause-sends : goal.returns-in_default-clause-sends

@@ -4,11 +4,11 @@ use Rattle.exb_model.specs.Ports.{port_in}
 use Rattle.exb_model.specs.Frames.{destination}
 use Rattle.exb_config.specs.Tables.{bridge_of}
 use Rattle.exb_learn.specs.Entries.{look_of}
-use Rattle.exb_relay.specs.declared.choice.Choice.TheVariants as chosen
+use Rattle.exb_relay.specs.declared.choice.EgressChoice.TheVariants as chosen
 use Rattle.exb_relay.specs.Spaces.{numbers_of}
 use Rattle.exb_relay.specs.Choices.{choice}
-use Rattle.exb_relay.proofs.Choosing.{passes_long, choice_listed, choice_unlisted}
-use Rattle.exb_relay.proofs.Steps.{all_members, listed_members, learned_member}
+use Rattle.exb_relay.proofs.TargetChoice.{passes_long, choice_listed, choice_unlisted}
+use Rattle.exb_relay.proofs.PortSends.{all_members, listed_members, learned_member}
 use Rattle.exb_relay.proofs.forwarding.send_all.Goals as goal
 
 pub destination-address-requires : goal.destination-address-requires

@@ -5,9 +5,9 @@ use Rattle.exb_relay.specs.Spaces.{numbers_of}
 use Rattle.exb_relay.specs.Sends.{local_send}
 use Rattle.exb_model.specs.declared.vlan.Kind.TheVariants.{Tagged, Untagged}
 use Rattle.exb_relay.specs.declared.send.SendTo.{SendTo}
-use Rattle.exb_relay.specs.Words.{is_hearer, kind_among, set_below, set_word}
-use Rattle.exb_relay.proofs.Under.{cascade_from, external_free}
-use Rattle.exb_relay.proofs.Relaying.{at_external, at_cascade, at_unknown}
+use Rattle.exb_relay.specs.SendsBySource.{is_hearer, kind_among, set_below, set_word}
+use Rattle.exb_relay.proofs.PortsBelow.{cascade_from, external_free}
+use Rattle.exb_relay.proofs.RelayParts.{at_external, at_cascade, at_unknown}
 use Rattle.exb_relay.proofs.forwarding.send_at.Goals as goal
 
 joined : (xs ys zs a b : List SendTo) → ys ≡ xs ++ a → zs ≡ ys ++ b → zs ≡ xs ++ (a ++ b)

@@ -3,7 +3,7 @@ use Rattle.exb_model.specs.declared.rules.PortRule.{PortRule}
 use Rattle.exb_model.specs.declared.vlan.Kind.TheVariants.{Tagged, Untagged}
 use Rattle.exb_relay.specs.declared.hearers.Hearers.{Hearers}
 use Rattle.exb_relay.specs.Spaces.{numbers_of}
-use Rattle.exb_relay.proofs.Hearing.{hearers_are, hearer_external}
+use Rattle.exb_relay.proofs.PassedHearers.{hearers_are, hearer_external}
 use Rattle.exb_relay.proofs.forwarding.send_to_chosen.Goals as goal
 
 pub send_to_hearers-requires-clause-tagged : goal.send_to_hearers-requires-clause-tagged

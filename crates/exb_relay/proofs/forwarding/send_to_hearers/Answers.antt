@@ -1,8 +1,8 @@
 use Rattle.std.proofs.Common.{arith}
 use Rattle.exb_model.specs.declared.vlan.Kind.TheVariants.{Tagged, Untagged}
 use Rattle.exb_relay.specs.Spaces.{numbers_of}
-use Rattle.exb_relay.specs.Words.{is_hearer, member_sends, member_list}
-use Rattle.exb_relay.proofs.Ways.{begins, goes_on, ends, has_room, lowest, cleared_lower, nothing_at}
+use Rattle.exb_relay.specs.SendsBySource.{is_hearer, member_sends, member_list}
+use Rattle.exb_relay.proofs.BridgePortBits.{begins, goes_on, ends, has_room, lowest, cleared_lower, nothing_at}
 use Rattle.exb_relay.proofs.forwarding.send_to_hearers.Goals as goal
 
 pub ports-init : goal.ports-init

@@ -3,8 +3,8 @@ use Rattle.std.specs.List.{flat_map}
 use Rattle.exb_model.specs.declared.vlan.Kind.TheVariants.{Tagged, Untagged}
 use Rattle.exb_model.specs.Ports.{below}
 use Rattle.exb_relay.specs.Spaces.{numbers_of}
-use Rattle.exb_relay.specs.Words.{is_hearer, member_sends, member_list}
-use Rattle.exb_relay.proofs.Ways.{at_bits}
+use Rattle.exb_relay.specs.SendsBySource.{is_hearer, member_sends, member_list}
+use Rattle.exb_relay.proofs.BridgePortBits.{at_bits}
 use Rattle.exb_relay.proofs.forwarding.send_to_hearers.Given as goal
 
 -- what was sent so far, and then what is sent at the ports that are left, are all

@@ -4,8 +4,8 @@ use Rattle.exb_model.specs.Ports.{ports_of}
 use Rattle.exb_model.specs.Refusals.{is_empty_set}
 use Rattle.exb_numbers.specs.Groups.{group_of}
 use Rattle.exb_numbers.specs.Spaces.{groups_at}
-use Rattle.exb_relay.specs.Words.{is_hearer, set_below, words_for}
-use Rattle.exb_relay.proofs.Relaying.{ports_below}
+use Rattle.exb_relay.specs.SendsBySource.{is_hearer, set_below, words_for}
+use Rattle.exb_relay.proofs.RelayParts.{ports_below}
 use Rattle.exb_relay.proofs.forwarding.send_to_set.Goals as goal
 
 not_not : (b c : Bool) → c ≡ not b → b ≡ not c

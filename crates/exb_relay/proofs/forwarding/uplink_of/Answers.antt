@@ -1,6 +1,6 @@
 use Rattle.std.proofs.Common.{◌≡◌, ℕ, ◌+◌, subst, arith}
 use Rattle.exb_model.specs.Tree.{device, trunk}
-use Rattle.exb_relay.proofs.Relaying.{home_space}
+use Rattle.exb_relay.proofs.RelayParts.{home_space}
 use Rattle.exb_relay.proofs.forwarding.uplink_of.Goals as goal
 
 pub channels-requires-clause-cascade : goal.channels-requires-clause-cascade

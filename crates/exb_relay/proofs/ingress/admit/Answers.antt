@@ -1,6 +1,6 @@
 use Rattle.std.proofs.Common.{◌∙◌, sym}
 use Rattle.exb_config.specs.Tables.{bridge_of}
-use Rattle.exb_relay.proofs.Passing.{let_in_by}
+use Rattle.exb_relay.proofs.IngressSteps.{let_in_by}
 use Rattle.exb_relay.proofs.ingress.admit.Goals as goal
 
 pub returns-then-lets_in-clause-admitted : goal.returns-then-lets_in-clause-admitted

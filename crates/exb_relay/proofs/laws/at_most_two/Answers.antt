@@ -1,4 +1,4 @@
-use Rattle.exb_relay.proofs.Each.{few_at}
+use Rattle.exb_relay.proofs.EachSend.{few_at}
 use Rattle.exb_relay.proofs.laws.at_most_two.Goals as goal
 
 pub returns : goal.returns

@@ -1,4 +1,4 @@
-use Rattle.exb_relay.proofs.Each.{learned}
+use Rattle.exb_relay.proofs.EachSend.{learned}
 use Rattle.exb_relay.proofs.laws.learned_send_is_target.Goals as goal
 
 pub returns : goal.returns

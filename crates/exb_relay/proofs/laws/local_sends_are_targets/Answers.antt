@@ -1,4 +1,4 @@
-use Rattle.exb_relay.proofs.Each.{locals}
+use Rattle.exb_relay.proofs.EachSend.{locals}
 use Rattle.exb_relay.proofs.laws.local_sends_are_targets.Goals as goal
 
 pub returns : goal.returns

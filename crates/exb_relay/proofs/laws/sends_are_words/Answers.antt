@@ -1,4 +1,4 @@
-use Rattle.exb_relay.proofs.Each.{sends_are}
+use Rattle.exb_relay.proofs.EachSend.{sends_are}
 use Rattle.exb_relay.proofs.laws.sends_are_words.Goals as goal
 
 pub returns : goal.returns

@@ -1,4 +1,4 @@
-use Rattle.exb_relay.proofs.Flat.{leaves_as_flat}
+use Rattle.exb_relay.proofs.FlatOutput.{leaves_as_flat}
 use Rattle.exb_relay.proofs.laws.sends_leave_as_flat.Goals as goal
 
 pub returns : goal.returns

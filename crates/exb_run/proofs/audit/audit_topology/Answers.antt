@@ -1,13 +1,13 @@
 use Rattle.std.proofs.Common.{◌⊎◌, ◌≡◌, ◌∙◌, subst}
 use Rattle.std.specs.Prelude.{IfErr, IfOk, string_bytes}
 use Rattle.std.proofs.lemmas.Result.{err_from_is_err_and}
-use Rattle.exb_inputs.proofs.ShelvingLemmas.{counts_from}
+use Rattle.exb_inputs.proofs.ShelfEffects.{counts_from}
 use Rattle.exb_shelf.specs.Files.{Files}
 use Rattle.exb_inputs.specs.declared.fault.Fault.{Fault}
 use Rattle.exb_inputs.specs.declared.fault.Fault.TheVariants.{Read, Memory}
-use Rattle.exb_auditing.specs.Audits.{IsFoundLegal, StopsAudit}
-use Rattle.exb_auditing.specs.Scopes.{scope_of}
-use Rattle.exb_run.proofs.OpenLemmas.{audit_refused_opens, opens_by_audit}
+use Rattle.exb_audit_files.specs.Audits.{IsFoundLegal, StopsAudit}
+use Rattle.exb_audit_files.specs.Scopes.{scope_of}
+use Rattle.exb_run.proofs.OpenedFiles.{audit_refused_opens, opens_by_audit}
 use Rattle.exb_run.proofs.RunLemmas.{came_audit_refused, came_audited}
 use Rattle.exb_inputs.proofs.Outcomes.{files_same}
 use Rattle.exb_run.proofs.audit.audit_topology.Goals as goal

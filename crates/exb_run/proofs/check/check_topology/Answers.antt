@@ -1,7 +1,7 @@
 use Rattle.std.proofs.lemmas.Result.{err_from_is_err_and}
 use Rattle.exb_inputs.proofs.Outcomes.{made-later}
 use Rattle.exb_inputs.specs.declared.fault.Fault.{Fault}
-use Rattle.exb_run.proofs.OpenLemmas.{check_opens}
+use Rattle.exb_run.proofs.OpenedFiles.{check_opens}
 use Rattle.exb_run.proofs.RunLemmas.{came_check_refused, came_checked}
 use Rattle.exb_run.proofs.check.check_topology.Goals as goal
 

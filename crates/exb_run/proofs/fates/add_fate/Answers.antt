@@ -1,5 +1,5 @@
 use Rattle.std.proofs.Common.{◌<◌, ◌^◌}
-use Rattle.exb_inputs.proofs.FaultLemmas.{all_more}
+use Rattle.exb_inputs.proofs.CaptureFaults.{all_more}
 use Rattle.exb_run.proofs.fates.add_fate.Goals as goal
 
 pub returns-clause-each : goal.returns-clause-each

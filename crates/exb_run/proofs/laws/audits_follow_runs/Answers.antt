@@ -1,4 +1,4 @@
-use Rattle.exb_run.proofs.AfterRuns.{audits_follow_runs}
+use Rattle.exb_run.proofs.AuditsAfterRuns.{audits_follow_runs}
 use Rattle.exb_run.proofs.laws.audits_follow_runs.Goals as goal
 
 pub returns : goal.returns

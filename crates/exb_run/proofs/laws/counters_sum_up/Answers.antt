@@ -1,4 +1,4 @@
-use Rattle.exb_run.proofs.SummingUp.{counters_sum_up}
+use Rattle.exb_run.proofs.CounterSums.{counters_sum_up}
 use Rattle.exb_run.proofs.laws.counters_sum_up.Goals as goal
 
 pub returns : goal.returns

@@ -1,4 +1,4 @@
-use Rattle.exb_run.proofs.Netted.{came_net, opens_by_net}
+use Rattle.exb_run.proofs.NetOutcomes.{came_net, opens_by_net}
 use Rattle.exb_run.proofs.net.run_net.Goals as goal
 
 pub returns-clause-came : goal.returns-clause-came

@@ -1,10 +1,10 @@
 use Rattle.std.proofs.Common.{◌≡◌, ◌⊎◌, List, Err, ap, refl, sym, subst, ◌∙◌, inl, inr, true, ℕ}
 use Rattle.std.proofs.lemmas.Result.{err_from_is_err_and}
 use Rattle.std.specs.Prelude.{string_bytes}
-use Rattle.exb_play.specs.Parts.{AreCutSoFar}
-use Rattle.exb_run.proofs.Parts.{parts-by}
-use Rattle.exb_inputs.proofs.Ports.{checking-port}
-use Rattle.exb_inputs.proofs.ShelvingLemmas.{counts_as, counts_from, counts_memory}
+use Rattle.exb_play.specs.PartialOutputs.{AreCutSoFar}
+use Rattle.exb_run.proofs.PartialOutputs.{parts-by}
+use Rattle.exb_inputs.proofs.ChangedPorts.{checking-port}
+use Rattle.exb_inputs.proofs.ShelfEffects.{counts_as, counts_from, counts_memory}
 use Rattle.exb_model.specs.declared.setup.Timed.{Timed}
 use Rattle.exb_model.specs.declared.setup.Verdict.{Verdict}
 use Rattle.exb_model.specs.Input.{Input, Mode, tree_of}
@@ -12,32 +12,32 @@ use Rattle.exb_model.specs.Setup.{shape_of}
 use Rattle.exb_shelf.specs.Files.{Files}
 use Rattle.exb_shelf.specs.Shelf.{Opens}
 use Rattle.exb_shelf.proofs.IdLemmas.{opens_weaker}
-use Rattle.exb_tables.specs.declared.rows.Named.{Named}
-use Rattle.exb_words.specs.declared.asked.Options.{Options}
-use Rattle.exb_inputs.specs.declared.checked.Checked.{Checked}
-use Rattle.exb_inputs.specs.Checks.{AreAllGood, AreChecked, FirstFault}
-use Rattle.exb_outputs.specs.Apart.{CanBeRead}
+use Rattle.exb_topology_tables.specs.declared.elements.Named.{Named}
+use Rattle.exb_cli.specs.declared.invocations.Options.{Options}
+use Rattle.exb_inputs.specs.declared.captures.CheckedCapture.{CheckedCapture}
+use Rattle.exb_inputs.specs.CaptureChecks.{AreAllGood, AreChecked, FirstFault}
+use Rattle.exb_outputs.specs.InputsApart.{CanBeRead}
 use Rattle.exb_inputs.specs.Inputs.{input_from, input_of, is_named}
-use Rattle.exb_writers.specs.Texts.{AreCutEagerly}
+use Rattle.exb_outputs.specs.KindTexts.{AreCutEagerly}
 use Rattle.exb_play.specs.Outputs.{HasPlayed}
 use Rattle.exb_run.specs.Outputs.{IsPlayed}
-use Rattle.exb_outputs.specs.Names.{OnlyOutputs}
+use Rattle.exb_outputs.specs.OutputNames.{OnlyOutputs}
 use Rattle.exb_outputs.specs.Manifests.{OnlyListed, Listed}
-use Rattle.exb_inputs.specs.Shelving.{EndsAt, ReadsCapture, OpensEach}
-use Rattle.exb_play.specs.Playing.{IsScript, mode_of}
-use Rattle.exb_outputs.specs.Order.{MakesInOrder}
-use Rattle.exb_play.specs.Shelving.{IsOfRun}
+use Rattle.exb_inputs.specs.ShelfEffects.{EndsAt, ReadsCapture, OpensEach}
+use Rattle.exb_play.specs.BridgeRuns.{IsScript, mode_of}
+use Rattle.exb_outputs.specs.CreationOrder.{MakesInOrder}
+use Rattle.exb_play.specs.ShelfEffects.{IsOfRun}
 use Rattle.exb_run.specs.Answers.{mode_for}
-use Rattle.exb_inputs.proofs.FaultLemmas.{first_none, first_once}
-use Rattle.exb_run.proofs.Handing.{sound_captures, sound_script}
-use Rattle.exb_outputs.proofs.Orders.{makes_none, read_then_makes}
-use Rattle.exb_run.proofs.OpenLemmas.{capture_plays, opened_for, play_fails, played_plays}
-use Rattle.exb_run.proofs.Ordered.{captures_are_files, ends_own, err_is, ends_upto, files_for, manifest_is, play_own, behind_checks, behind_none}
-use Rattle.exb_run.specs.Opening.{IsOpenedFor, manifest_for}
+use Rattle.exb_inputs.proofs.CaptureFaults.{first_none, first_once}
+use Rattle.exb_run.proofs.RunInputs.{sound_captures, sound_script}
+use Rattle.exb_outputs.proofs.CreationOrder.{makes_none, read_then_makes}
+use Rattle.exb_run.proofs.OpenedFiles.{capture_plays, opened_for, play_fails, played_plays}
+use Rattle.exb_run.proofs.OpenOrder.{captures_are_files, ends_own, err_is, ends_upto, files_for, manifest_is, play_own, behind_checks, behind_none}
+use Rattle.exb_run.specs.OpenedFiles.{IsOpenedFor, manifest_for}
 use Rattle.exb_inputs.specs.declared.fault.Fault.TheVariants.{Read, Memory}
 use Rattle.exb_inputs.proofs.Outcomes.{files_same, if_ok_map, if_err_map}
-use Rattle.exb_outputs.proofs.Names.{only_by}
-use Rattle.exb_run.proofs.Running.{fronts_by, played_by}
+use Rattle.exb_outputs.proofs.OutputNames.{only_by}
+use Rattle.exb_run.proofs.ManifestFiles.{fronts_by, played_by}
 use Rattle.exb_run.proofs.top.play_topology.Goals as goal
 
 pub play-played-requires-clause-script : goal.play-played-requires-clause-script
@@ -56,7 +56,7 @@ play-played-requires-clause-captures g c =
     let checked = c.in_ok-checked.checked.items in
     let are : AreChecked S.tells t.captures before checked = subst (λ (names : List Named). AreChecked S.tells names before checked) c.as_slice.ensures c.in_ok-checked.ensures.checked in
     subst (λ (names : List Named). CanBeRead S.tells manifest names read c.as_slice-5.result.now) (sym c.as_slice-4.ensures)
-    (subst (λ (cs : List Checked). CanBeRead S.tells manifest t.captures read cs) (sym c.as_slice-5.ensures.value)
+    (subst (λ (cs : List CheckedCapture). CanBeRead S.tells manifest t.captures read cs) (sym c.as_slice-5.ensures.value)
     (subst (λ (f : Files). CanBeRead S.tells manifest t.captures f checked) (sym (files_same before read c.in_ok-checked.ensures.files))
     (sound_captures S.tells t manifest before checked c.in_ok-manifest.ensures.tree (c.in_ok-manifest.ensures.prefix ∙ c.as_str.ensures) c.requires.sound are)))
 

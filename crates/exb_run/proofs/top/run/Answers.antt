@@ -1,19 +1,19 @@
 use Rattle.std.proofs.Common.{◌≡◌, ◌≢◌, ◌++◌, ◌∙◌, inl, inr, ℕ, List, Option, Err, sym, ap, subst, arith}
 use Rattle.std.specs.Prelude.{IfErr}
-use Rattle.exb_run.proofs.ByStatus.{counted-by}
-use Rattle.exb_words.specs.Words.{Ask}
+use Rattle.exb_run.proofs.StatusCounts.{counted-by}
+use Rattle.exb_cli.specs.CommandLines.{Ask}
 use Rattle.exb_run.specs.Answers.{asked}
 use Rattle.exb_inputs.specs.Answers.{status_of, line_of}
-use Rattle.exb_run.specs.Opening.{OpensInOrder}
+use Rattle.exb_run.specs.OpenedFiles.{OpensInOrder}
 use Rattle.exb_run.specs.Outcomes.{CanCome}
 use Rattle.exb_run.proofs.Headlines.{headline_by, net_headline_by}
-use Rattle.exb_run.proofs.OpenLemmas.{opens_by_status}
-use Rattle.exb_run.proofs.Netted.{opened_by_net}
-use Rattle.exb_run.proofs.Ordered.{opened_by_run}
-use Rattle.exb_run.proofs.Printing.{memory_is_one, prints_by}
-use Rattle.exb_run.proofs.Reporting.{can_be, cause_of, done_by, fault_says, front_by, is_missing, is_read, is_usage, made_is, making_end, none_by_usage, not_ten, of_input, read_line, run_by_write, status_cases, status_is, stop_not_one, stop_not_seven, stop_not_six, stops_with, text_by, usage_line, write_line, write_or_not}
+use Rattle.exb_run.proofs.OpenedFiles.{opens_by_status}
+use Rattle.exb_run.proofs.NetOutcomes.{opened_by_net}
+use Rattle.exb_run.proofs.OpenOrder.{opened_by_run}
+use Rattle.exb_run.proofs.PrintedLines.{memory_is_one, prints_by}
+use Rattle.exb_run.proofs.Reports.{can_be, cause_of, done_by, fault_says, front_by, is_missing, is_read, is_usage, made_is, making_end, none_by_usage, not_ten, of_input, read_line, run_by_write, status_cases, status_is, stop_not_one, stop_not_seven, stop_not_six, stops_with, text_by, usage_line, write_line, write_or_not}
 use Rattle.exb_inputs.proofs.Outcomes.{Outcome}
-use Rattle.exb_run.proofs.Stopping.{can_not, failure_is}
+use Rattle.exb_run.proofs.UniqueFault.{can_not, failure_is}
 use Rattle.exb_run.proofs.top.run.Goals as goal
 
 -- ---- what is done

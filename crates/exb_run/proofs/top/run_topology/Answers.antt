@@ -1,13 +1,13 @@
 use Rattle.std.proofs.Common.{◌+◌, inl, inr, ℕ, subst}
 use Rattle.std.proofs.lemmas.Result.{err_from_is_err_and}
-use Rattle.exb_inputs.proofs.ShelvingLemmas.{counts_from}
+use Rattle.exb_inputs.proofs.ShelfEffects.{counts_from}
 use Rattle.exb_shelf.specs.Files.{Files}
 use Rattle.exb_inputs.specs.declared.fault.Fault.{Fault}
 use Rattle.exb_shelf.specs.Shelf.{Opens}
-use Rattle.exb_inputs.specs.Checks.{FirstFault}
-use Rattle.exb_inputs.specs.Shelving.{ReadsBelow}
-use Rattle.exb_run.proofs.OpenLemmas.{run_refused_opens, opens_by_run}
-use Rattle.exb_run.proofs.Ordered.{run_opens}
+use Rattle.exb_inputs.specs.CaptureChecks.{FirstFault}
+use Rattle.exb_inputs.specs.ShelfEffects.{ReadsBelow}
+use Rattle.exb_run.proofs.OpenedFiles.{run_refused_opens, opens_by_run}
+use Rattle.exb_run.proofs.OpenOrder.{run_opens}
 use Rattle.exb_run.proofs.RunLemmas.{PlaysOut, came_run_refused, came_played}
 use Rattle.exb_inputs.proofs.Outcomes.{files_same}
 use Rattle.exb_run.proofs.top.run_topology.Goals as goal

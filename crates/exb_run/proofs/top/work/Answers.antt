@@ -1,12 +1,12 @@
 use Rattle.std.proofs.Common.{◌≡◌, ap, refl, sym, subst, inl, inr, Err, Some, None, ℕ}
 use Rattle.std.specs.Prelude.{IfOk, string_bytes}
-use Rattle.exb_made.specs.Made.{made}
-use Rattle.exb_words.specs.Words.{Run, Check, Make, Audit, Net}
+use Rattle.exb_make.specs.GeneratedInputs.{made}
+use Rattle.exb_cli.specs.CommandLines.{Run, Check, Make, Audit, Net}
 use Rattle.exb_inputs.specs.declared.fault.Fault.TheVariants.{Usage}
 use Rattle.exb_inputs.proofs.Outcomes.{made-counts}
-use Rattle.exb_inputs.proofs.ShelvingLemmas.{counted_once, fewer_same}
+use Rattle.exb_inputs.proofs.ShelfEffects.{counted_once, fewer_same}
 use Rattle.exb_run.specs.Answers.{asked, eager_summary}
-use Rattle.exb_run.proofs.OpenLemmas.{opens_by_none}
+use Rattle.exb_run.proofs.OpenedFiles.{opens_by_none}
 use Rattle.exb_run.proofs.RunLemmas.{came_made}
 use Rattle.exb_run.proofs.top.work.Goals as goal
 

@@ -1,10 +1,10 @@
 use Rattle.std.proofs.Common.{◌≡◌, ℕ, ◌≤◌, Some, [], arith, subst}
 use Rattle.std.specs.List.{slice_get}
-use Rattle.exb_machine.specs.Stepping.{words_on}
-use Rattle.exb_network.specs.Networks.{Network, tree_of, world_of}
-use Rattle.exb_network.specs.Steps.{way_of}
-use Rattle.exb_network.specs.Turns.{order_of, IsTurn}
-use Rattle.exb_schedule.proofs.Going.{none_after, none_between, those_first, those_next}
+use Rattle.exb_world_spec.specs.Steps.{words_on}
+use Rattle.exb_world.specs.WorldContracts.{Network, tree_of, world_of}
+use Rattle.exb_world.specs.Steps.{way_of}
+use Rattle.exb_world.specs.LinkTurns.{order_of, IsTurn}
+use Rattle.exb_schedule.proofs.DirectionOrder.{none_after, none_between, those_first, those_next}
 use Rattle.exb_schedule.proofs.delivery.go_one_way.Goals as goal
 
 pub directions-init : goal.directions-init

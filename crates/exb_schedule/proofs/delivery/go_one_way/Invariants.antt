@@ -1,6 +1,6 @@
 use Rattle.std.proofs.Common.{◌-◌, ◌≤◌}
-use Rattle.exb_network.specs.Steps.{way_of}
-use Rattle.exb_schedule.proofs.Going.{ThoseFrom}
+use Rattle.exb_world.specs.Steps.{way_of}
+use Rattle.exb_schedule.proofs.DirectionOrder.{ThoseFrom}
 use Rattle.exb_schedule.proofs.delivery.go_one_way.Given as goal
 
 -- Of the whole the directions from this place on are still to be gone through.

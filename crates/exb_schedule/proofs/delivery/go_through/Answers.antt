@@ -1,6 +1,6 @@
 use Rattle.std.proofs.Common.{arith}
-use Rattle.exb_network.specs.Steps.{way_of}
-use Rattle.exb_schedule.proofs.Passing.{there_still, through_first, through_last}
+use Rattle.exb_world.specs.Steps.{way_of}
+use Rattle.exb_schedule.proofs.NextFrames.{there_still, through_first, through_last}
 use Rattle.exb_schedule.proofs.delivery.go_through.Goals as goal
 
 pub words-init : goal.words-init

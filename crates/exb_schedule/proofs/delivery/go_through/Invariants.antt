@@ -1,7 +1,7 @@
 use Rattle.std.proofs.Common.{◌+◌, ◌<◌, ◌≤◌, ◌^◌}
-use Rattle.exb_machine.specs.Settling.{direction}
-use Rattle.exb_network.specs.Networks.{world_of, tree_of, bounds_of}
-use Rattle.exb_network.specs.Steps.{way_of}
+use Rattle.exb_world_spec.specs.Settling.{direction}
+use Rattle.exb_world.specs.WorldContracts.{world_of, tree_of, bounds_of}
+use Rattle.exb_world.specs.Steps.{way_of}
 use Rattle.exb_schedule.specs.Rounds.{goes_along, GoesThrough}
 use Rattle.exb_schedule.proofs.delivery.go_through.Given as goal
 

@@ -1,6 +1,6 @@
 use Rattle.std.proofs.Common.{arith}
-use Rattle.exb_bridge.proofs.Coming.{on_ok_two}
-use Rattle.exb_schedule.proofs.Going.{has_round}
+use Rattle.exb_bridge.proofs.IncomingFrames.{on_ok_two}
+use Rattle.exb_schedule.proofs.DirectionOrder.{has_round}
 use Rattle.exb_schedule.proofs.delivery.round.Goals as goal
 
 pub returns-clause-ok : goal.returns-clause-ok

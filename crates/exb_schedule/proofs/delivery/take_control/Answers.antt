@@ -1,7 +1,7 @@
-use Rattle.exb_machine.specs.Stepping.{words_on}
-use Rattle.exb_network.specs.Networks.{world_of}
-use Rattle.exb_network.specs.Steps.{way_of}
-use Rattle.exb_schedule.proofs.Taking.{is_there, kept, lost, passed, repeated}
+use Rattle.exb_world_spec.specs.Steps.{words_on}
+use Rattle.exb_world.specs.WorldContracts.{world_of}
+use Rattle.exb_world.specs.Steps.{way_of}
+use Rattle.exb_schedule.proofs.FateVerdicts.{is_there, kept, lost, passed, repeated}
 use Rattle.exb_schedule.proofs.delivery.take_control.Goals as goal
 
 pub lose-requires : goal.lose-requires

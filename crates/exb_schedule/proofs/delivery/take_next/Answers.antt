@@ -1,13 +1,13 @@
 use Rattle.std.proofs.Common.{◌<◌, refl, sym, ◌∙◌, arith}
 use Rattle.std.proofs.lemmas.Bool.{false≢true}
-use Rattle.exb_link.specs.Words.{leading}
-use Rattle.exb_machine.specs.Stepping.{words_on}
-use Rattle.exb_network.specs.Networks.{world_of}
-use Rattle.exb_network.specs.Steps.{way_of}
-use Rattle.exb_bridge.proofs.Coming.{on_ok_two}
-use Rattle.exb_schedule.proofs.Leading.{run_step}
-use Rattle.exb_schedule.proofs.Giving.{on_ok_all}
-use Rattle.exb_schedule.proofs.Passing.{control_by, data_by, left_control, left_data}
+use Rattle.exb_link.specs.LinkFrames.{leading}
+use Rattle.exb_world_spec.specs.Steps.{words_on}
+use Rattle.exb_world.specs.WorldContracts.{world_of}
+use Rattle.exb_world.specs.Steps.{way_of}
+use Rattle.exb_bridge.proofs.IncomingFrames.{on_ok_two}
+use Rattle.exb_schedule.proofs.StepSequences.{run_step}
+use Rattle.exb_schedule.proofs.SegmentInput.{on_ok_all}
+use Rattle.exb_schedule.proofs.NextFrames.{control_by, data_by, left_control, left_data}
 use Rattle.exb_schedule.proofs.delivery.take_next.Goals as goal
 
 pub overflow_sub-rest : goal.overflow_sub-rest

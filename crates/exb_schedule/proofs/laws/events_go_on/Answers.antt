@@ -1,4 +1,4 @@
-use Rattle.exb_schedule.proofs.Lasting.{events_go_on}
+use Rattle.exb_schedule.proofs.OneBridgeRuns.{events_go_on}
 use Rattle.exb_schedule.proofs.laws.events_go_on.Goals as goal
 
 pub returns : goal.returns

@@ -1,4 +1,4 @@
-use Rattle.exb_schedule.proofs.Played.{played_is_under_way}
+use Rattle.exb_schedule.proofs.SegmentLaws.{played_is_under_way}
 use Rattle.exb_schedule.proofs.laws.played_is_under_way.Goals as goal
 
 pub returns : goal.returns

@@ -1,4 +1,4 @@
-use Rattle.exb_schedule.proofs.Played.{played_says_passed}
+use Rattle.exb_schedule.proofs.SegmentLaws.{played_says_passed}
 use Rattle.exb_schedule.proofs.laws.played_says_passed.Goals as goal
 
 pub returns : goal.returns

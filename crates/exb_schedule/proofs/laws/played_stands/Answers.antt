@@ -1,4 +1,4 @@
-use Rattle.exb_schedule.proofs.Lasting.{played_stands}
+use Rattle.exb_schedule.proofs.OneBridgeRuns.{played_stands}
 use Rattle.exb_schedule.proofs.laws.played_stands.Goals as goal
 
 pub returns : goal.returns

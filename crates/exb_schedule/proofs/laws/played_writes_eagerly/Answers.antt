@@ -1,4 +1,4 @@
-use Rattle.exb_schedule.proofs.Played.{played_writes_eagerly}
+use Rattle.exb_schedule.proofs.SegmentLaws.{played_writes_eagerly}
 use Rattle.exb_schedule.proofs.laws.played_writes_eagerly.Goals as goal
 
 pub returns : goal.returns

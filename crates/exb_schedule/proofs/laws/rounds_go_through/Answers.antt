@@ -1,4 +1,4 @@
-use Rattle.exb_schedule.proofs.Lasting.{rounds_are_whole_on}
+use Rattle.exb_schedule.proofs.OneBridgeRuns.{rounds_are_whole_on}
 use Rattle.exb_schedule.proofs.laws.rounds_go_through.Goals as goal
 
 pub returns : goal.returns

@@ -1,4 +1,4 @@
-use Rattle.exb_schedule.proofs.Lasting.{runs_stay_standing}
+use Rattle.exb_schedule.proofs.OneBridgeRuns.{runs_stay_standing}
 use Rattle.exb_schedule.proofs.laws.runs_stay_standing.Goals as goal
 
 pub returns : goal.returns

@@ -1,4 +1,4 @@
-use Rattle.exb_schedule.proofs.Lasting.{settled_owes}
+use Rattle.exb_schedule.proofs.OneBridgeRuns.{settled_owes}
 use Rattle.exb_schedule.proofs.laws.settled_owes.Goals as goal
 
 pub returns : goal.returns

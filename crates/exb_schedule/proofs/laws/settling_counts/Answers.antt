@@ -1,4 +1,4 @@
-use Rattle.exb_schedule.proofs.Counting.{settling_counts}
+use Rattle.exb_schedule.proofs.BeatCounts.{settling_counts}
 use Rattle.exb_schedule.proofs.laws.settling_counts.Goals as goal
 
 pub returns : goal.returns

@@ -1,5 +1,5 @@
-use Rattle.exb_bridge.proofs.Coming.{on_ok_two}
-use Rattle.exb_schedule.proofs.Segments.{has_ended, stays_settled}
+use Rattle.exb_bridge.proofs.IncomingFrames.{on_ok_two}
+use Rattle.exb_schedule.proofs.PlayedSegments.{has_ended, stays_settled}
 use Rattle.exb_schedule.proofs.segment.end.Goals as goal
 
 pub returns-clause-ok : goal.returns-clause-ok

@@ -1,7 +1,7 @@
 use Rattle.std.proofs.Common.{arith}
 use Rattle.exb_model.specs.declared.setup.Timed.{Timed}
-use Rattle.exb_machine.specs.Worlds.{Order}
-use Rattle.exb_schedule.proofs.Giving.{given_can, given_first, given_on, letters_next}
+use Rattle.exb_world_spec.specs.Worlds.{Order}
+use Rattle.exb_schedule.proofs.SegmentInput.{given_can, given_first, given_on, letters_next}
 use Rattle.exb_schedule.proofs.segment.give.Goals as goal
 
 pub loop-command-init : goal.loop-command-init

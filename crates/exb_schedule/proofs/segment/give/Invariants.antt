@@ -1,8 +1,8 @@
 use Rattle.std.proofs.Common.{◌+◌, ◌≤◌, drop}
 use Rattle.exb_model.specs.declared.setup.Timed.{Timed}
-use Rattle.exb_machine.specs.Worlds.{Order}
-use Rattle.exb_schedule.specs.Playing.{letters_in}
-use Rattle.exb_schedule.proofs.Giving.{HasGiven}
+use Rattle.exb_world_spec.specs.Worlds.{Order}
+use Rattle.exb_schedule.specs.SegmentRuns.{letters_in}
+use Rattle.exb_schedule.proofs.SegmentInput.{HasGiven}
 use Rattle.exb_schedule.proofs.segment.give.Given as goal
 
 -- So many commands were given, and the plans of the others are still to come.

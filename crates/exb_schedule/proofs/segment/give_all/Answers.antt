@@ -1,7 +1,7 @@
 use Rattle.std.proofs.Common.{◌++◌}
-use Rattle.exb_network.specs.Networks.{world_of, tree_of, bounds_of}
-use Rattle.exb_schedule.specs.Playing.{arrive, orders, tick}
-use Rattle.exb_schedule.proofs.Giving.{can_after, can_first, on_ok_any, run_gives}
+use Rattle.exb_world.specs.WorldContracts.{world_of, tree_of, bounds_of}
+use Rattle.exb_schedule.specs.SegmentRuns.{arrive, orders, tick}
+use Rattle.exb_schedule.proofs.SegmentInput.{can_after, can_first, on_ok_any, run_gives}
 use Rattle.exb_schedule.proofs.segment.give_all.Goals as goal
 
 pub give-requires-clause-can : goal.give-requires-clause-can

@@ -1,6 +1,6 @@
 use Rattle.std.proofs.Common.{◌∙◌, ap}
-use Rattle.exb_bridge.specs.Sites.{Site, limits_in}
-use Rattle.exb_schedule.proofs.Segments.{opened}
+use Rattle.exb_bridge.specs.TreeIndexes.{Site, limits_in}
+use Rattle.exb_schedule.proofs.PlayedSegments.{opened}
 use Rattle.exb_schedule.proofs.segment.open.Goals as goal
 
 pub returns-in-Ok-clause-plays : goal.returns-in-Ok-clause-plays

@@ -1,7 +1,7 @@
 use Rattle.exb_model.specs.Input.{Eager}
-use Rattle.exb_schedule.specs.Playing.{gives}
-use Rattle.exb_schedule.proofs.Giving.{on_ok_any}
-use Rattle.exb_schedule.proofs.Segments.{in_order, played_more, played_out}
+use Rattle.exb_schedule.specs.SegmentRuns.{gives}
+use Rattle.exb_schedule.proofs.SegmentInput.{on_ok_any}
+use Rattle.exb_schedule.proofs.PlayedSegments.{in_order, played_more, played_out}
 use Rattle.exb_schedule.proofs.segment.play_in_order.Goals as goal
 
 pub returns-clause-segment : goal.returns-clause-segment

@@ -1,7 +1,7 @@
 use Rattle.std.proofs.Common.{◌≡◌, false, sym, ◌∙◌, arith}
 use Rattle.std.proofs.lemmas.Bool.{false≢true}
-use Rattle.exb_schedule.proofs.Reaching.{ok_awake}
-use Rattle.exb_schedule.proofs.Resting.{few_made, less_left, rests_begin, rests_end, rests_on}
+use Rattle.exb_schedule.proofs.EnoughMemory.{ok_awake}
+use Rattle.exb_schedule.proofs.SettlingProgress.{few_made, less_left, rests_begin, rests_end, rests_on}
 use Rattle.exb_schedule.proofs.settling.settle.Goals as goal
 
 pub rounds-init : goal.rounds-init

@@ -1,4 +1,4 @@
-use Rattle.exb_schedule.proofs.Resting.{measure, IsResting}
+use Rattle.exb_schedule.proofs.SettlingProgress.{measure, IsResting}
 use Rattle.exb_schedule.proofs.settling.settle.Given as goal
 
 -- Settling ends from here, with few enough rounds.

@@ -1,7 +1,7 @@
 use Rattle.std.proofs.Common.{◌≡◌, []}
 use Rattle.exb_model.specs.Tree.{Shape}
 use Rattle.exb_topology.specs.Checks.{file_ok, output_names}
-use Rattle.exb_topology.proofs.Checking.{So}
+use Rattle.exb_topology.proofs.ElementChecks.{So}
 use Rattle.exb_topology.proofs.checks.check_each_file.Given as goal
 
 abbrev pub invariant-loop-capture : goal.invariant-loop-capture

@@ -1,7 +1,7 @@
 use Rattle.std.proofs.Common.{sym}
 use Rattle.std.proofs.lemmas.Result.{err_from_is_err_and}
 use Rattle.exb_topology.specs.Checks.{vlan_ok}
-use Rattle.exb_topology.proofs.Checking.{goes_on, ends, is_done}
+use Rattle.exb_topology.proofs.ElementChecks.{goes_on, ends, is_done}
 use Rattle.exb_topology.proofs.checks.check_each_vlan.Goals as goal
 
 pub returns-in_err-check_vlan : goal.returns-in_err-check_vlan

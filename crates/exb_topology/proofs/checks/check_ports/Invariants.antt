@@ -1,5 +1,5 @@
 use Rattle.exb_topology.specs.Checks.{port_table_ok}
-use Rattle.exb_topology.proofs.Checking.{So}
+use Rattle.exb_topology.proofs.ElementChecks.{So}
 use Rattle.exb_topology.proofs.checks.check_ports.Given as goal
 
 abbrev pub invariant-loop-index : goal.invariant-loop-index

@@ -1,8 +1,8 @@
 use Rattle.std.proofs.Common.{sym, take}
 use Rattle.std.proofs.lemmas.Result.{err_from_is_err_and}
 use Rattle.exb_topology.specs.Checks.{static_ok}
-use Rattle.exb_topology.proofs.Checking.{goes_on, ends, is_done}
-use Rattle.exb_topology.proofs.Given.{knows_next}
+use Rattle.exb_topology.proofs.ElementChecks.{goes_on, ends, is_done}
+use Rattle.exb_topology.proofs.StaticEntrySets.{knows_next}
 use Rattle.exb_topology.proofs.checks.check_statics.Goals as goal
 
 pub returns-in_err-check_static : goal.returns-in_err-check_static

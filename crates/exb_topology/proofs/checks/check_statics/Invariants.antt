@@ -1,7 +1,7 @@
 use Rattle.std.proofs.Common.{take}
 use Rattle.exb_topology.specs.Checks.{static_ok}
-use Rattle.exb_topology.specs.Given.{Knows}
-use Rattle.exb_topology.proofs.Checking.{So}
+use Rattle.exb_topology.specs.StaticEntrySets.{Knows}
+use Rattle.exb_topology.proofs.ElementChecks.{So}
 use Rattle.exb_topology.proofs.checks.check_statics.Given as goal
 
 abbrev pub invariant-loop-index : goal.invariant-loop-index

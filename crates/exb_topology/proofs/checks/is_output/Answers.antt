@@ -3,7 +3,7 @@ use Rattle.std.specs.List.{list_any}
 use Rattle.std.specs.Str.{bytes_eq}
 use Rattle.std.specs.Cmp.{unsigned_Decides}
 use Rattle.std.proofs.lemmas.Slice.Eq.{strip_prefix_is}
-use Rattle.exb_topology.proofs.Ends.{with_end, without_end}
+use Rattle.exb_topology.proofs.NameSuffixes.{with_end, without_end}
 use Rattle.exb_topology.proofs.checks.is_output.Goals as goal
 
 pub returns-in-Some : goal.returns-in-Some

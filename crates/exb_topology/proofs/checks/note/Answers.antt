@@ -1,4 +1,4 @@
-use Rattle.exb_topology.proofs.Given.{given_before, knows_more}
+use Rattle.exb_topology.proofs.StaticEntrySets.{given_before, knows_more}
 use Rattle.exb_topology.proofs.checks.note.Goals as goal
 
 pub returns-clause-again : goal.returns-clause-again

@@ -1,7 +1,7 @@
 use Rattle.std.proofs.Common.{◌≡◌, ◌∙◌, ◌++◌, ◌∷◌, [], ℕ, List, cond, sym, ap, arith}
 use Rattle.exb_model.specs.Tree.{is_external}
-use Rattle.exb_text.specs.Names.{capture_name}
-use Rattle.exb_topology.proofs.Building.{names_none, names_more, names_all}
+use Rattle.exb_journal.specs.FileNames.{capture_name}
+use Rattle.exb_topology.proofs.CommandLists.{names_none, names_more, names_all}
 use Rattle.exb_topology.proofs.outputs.capture_names.Goals as goal
 
 pub loop-number-init : goal.loop-number-init

@@ -1,6 +1,6 @@
 use Rattle.std.proofs.Common.{◌∙◌, ◌++◌, List, ℕ, ap, map}
-use Rattle.exb_text.specs.Names.{file_name, other_outputs}
-use Rattle.exb_topology.proofs.Ends.{names_all_kinds}
+use Rattle.exb_journal.specs.FileNames.{file_name, other_outputs}
+use Rattle.exb_topology.proofs.NameSuffixes.{names_all_kinds}
 use Rattle.exb_topology.proofs.outputs.output_names.Goals as goal
 
 pub returns : goal.returns

@@ -1,6 +1,6 @@
 use Rattle.std.proofs.Common.{All, refl, subst}
 use Rattle.exb_model.specs.Setup.{IsStart}
-use Rattle.exb_topology.proofs.Starting.{all_may, valid_with}
+use Rattle.exb_topology.proofs.StartCommands.{all_may, valid_with}
 use Rattle.exb_topology.proofs.topology.finished.Goals as goal
 
 pub returns-in-Ok-clause-valid : goal.returns-in-Ok-clause-valid

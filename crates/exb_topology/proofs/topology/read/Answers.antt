@@ -1,4 +1,4 @@
-use Rattle.exb_topology.proofs.Sound.{sound_result}
+use Rattle.exb_topology.proofs.Soundness.{sound_result}
 use Rattle.exb_topology.proofs.topology.read.Goals as goal
 
 pub returns-clause-sound : goal.returns-clause-sound

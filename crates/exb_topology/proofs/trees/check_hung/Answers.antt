@@ -3,7 +3,7 @@ use Rattle.std.proofs.lemmas.Result.{err_from_is_err_and}
 use Rattle.std.proofs.lemmas.List.{get_or_default}
 use Rattle.exb_model.specs.declared.setup.Place.TheVariants as place
 use Rattle.exb_topology.specs.Trees.{hung}
-use Rattle.exb_topology.proofs.Checking.{goes_on, ends, is_done}
+use Rattle.exb_topology.proofs.ElementChecks.{goes_on, ends, is_done}
 use Rattle.exb_topology.proofs.trees.check_hung.Goals as goal
 
 pub returns-in_err-hung : goal.returns-in_err-hung

@@ -3,10 +3,10 @@ use Rattle.std.proofs.lemmas.Result.{err_from_is_err_and}
 use Rattle.std.proofs.lemmas.List.{get_or_default}
 use Rattle.exb_model.specs.declared.setup.Place.TheVariants as place
 use Rattle.exb_model.specs.Setup.{shape_of}
-use Rattle.exb_keys.specs.Faults.{Fails}
-use Rattle.exb_topology.specs.Each.{each_ok}
+use Rattle.exb_toml_keys.specs.Faults.{Fails}
+use Rattle.exb_topology.specs.ElementChecks.{each_ok}
 use Rattle.exb_topology.specs.Trees.{rooted}
-use Rattle.exb_topology.proofs.Checking.{goes_on, ends, is_done}
+use Rattle.exb_topology.proofs.ElementChecks.{goes_on, ends, is_done}
 use Rattle.exb_topology.proofs.trees.check_rooted.Goals as goal
 
 pub returns-in_err-rooted : goal.returns-in_err-rooted

@@ -1,9 +1,9 @@
 use Rattle.std.proofs.Common.{◌++◌, codes}
 use Rattle.exb_model.specs.Setup.{IsValid}
-use Rattle.exb_keys.specs.declared.faults.KeyFault.TheVariants as fault
-use Rattle.exb_keys.specs.Faults.{in_table}
-use Rattle.exb_topology.proofs.Checking.{when_passed}
-use Rattle.exb_topology.proofs.Valid.{few_is, tree_ok_is}
+use Rattle.exb_toml_keys.specs.declared.faults.KeyFault.TheVariants as fault
+use Rattle.exb_toml_keys.specs.Faults.{in_table}
+use Rattle.exb_topology.proofs.ElementChecks.{when_passed}
+use Rattle.exb_topology.proofs.ValidSetups.{few_is, tree_ok_is}
 use Rattle.exb_topology.proofs.trees.check_tree.Goals as goal
 
 pub returns : goal.returns

@@ -1,6 +1,6 @@
 use Rattle.std.proofs.Common.{refl, arith, ℕ}
 use Rattle.exb_model.specs.Setup.{shape_of}
-use Rattle.exb_model.proofs.Words.{get_or-same}
+use Rattle.exb_model.proofs.PortBits.{get_or-same}
 use Rattle.exb_topology.proofs.trees.hanging.Goals as goal
 
 pub loop-extender-init : goal.loop-extender-init

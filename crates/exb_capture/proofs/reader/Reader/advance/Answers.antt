@@ -1,5 +1,5 @@
 use Rattle.std.proofs.Common.{◌∙◌}
-use Rattle.exb_capture.specs.Asked.{seen}
+use Rattle.exb_capture.specs.ReaderAnswers.{seen}
 use Rattle.exb_capture.specs.Blocks.{most_held}
 use Rattle.exb_capture.proofs.PieceLaws.{asked_goes, asked_answers, turn_less}
 use Rattle.exb_capture.proofs.ReaderLemmas.{answer_is, left_is}

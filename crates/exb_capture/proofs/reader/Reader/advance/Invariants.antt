@@ -1,6 +1,6 @@
 use Rattle.std.proofs.Common.{◌≡◌, ◌+◌, ◌-◌, length}
 use Rattle.exb_capture.specs.Blocks.{most_held}
-use Rattle.exb_capture.specs.Pieces.{asked}
+use Rattle.exb_capture.specs.ReaderMachine.{asked}
 use Rattle.exb_capture.proofs.reader.Reader.advance.Given as goal
 
 abbrev pub invariant-turns : goal.invariant-turns

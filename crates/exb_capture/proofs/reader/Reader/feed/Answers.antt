@@ -1,7 +1,7 @@
 use Rattle.std.proofs.Common.{◌≤◌, ◌+◌, length, ap, ◌∙◌, arith, rules}
 use Rattle.std.proofs.lemmas.List.{with_items_is, places}
-use Rattle.exb_capture.specs.Asked.{stage_of}
-use Rattle.exb_capture.specs.Pieces.{fed}
+use Rattle.exb_capture.specs.ReaderAnswers.{stage_of}
+use Rattle.exb_capture.specs.ReaderMachine.{fed}
 use Rattle.exb_capture.proofs.BufferLemmas.{view_of, fed_view}
 use Rattle.exb_capture.proofs.reader.Reader.feed.Goals as goal
 

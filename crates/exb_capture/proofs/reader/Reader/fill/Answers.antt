@@ -1,8 +1,8 @@
 use Rattle.std.proofs.Common.{◌≤◌, ◌+◌, length, ap, ◌∙◌, arith, rules}
 use Rattle.std.proofs.lemmas.Grind.{common_steps}
 use Rattle.std.proofs.lemmas.List.{with_items_is, places}
-use Rattle.exb_capture.specs.Asked.{stage_of}
-use Rattle.exb_capture.specs.Pieces.{fed}
+use Rattle.exb_capture.specs.ReaderAnswers.{stage_of}
+use Rattle.exb_capture.specs.ReaderMachine.{fed}
 use Rattle.exb_capture.proofs.BufferLemmas.{view_of, filled_view, kept_view, on_err}
 use Rattle.exb_capture.proofs.reader.Reader.fill.Goals as goal
 

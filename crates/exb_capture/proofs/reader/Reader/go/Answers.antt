@@ -1,6 +1,6 @@
 use Rattle.std.proofs.Common.{ap, ◌∙◌, arith}
-use Rattle.exb_capture.specs.Asked.{stage_of}
-use Rattle.exb_capture.specs.Pieces.{gone}
+use Rattle.exb_capture.specs.ReaderAnswers.{stage_of}
+use Rattle.exb_capture.specs.ReaderMachine.{gone}
 use Rattle.exb_capture.proofs.BufferLemmas.{gone_view}
 use Rattle.exb_capture.proofs.reader.Reader.go.Goals as goal
 

@@ -1,7 +1,7 @@
 use Rattle.std.proofs.Common.{◌≡◌, true, ap, sym, ◌∙◌, arith}
 use Rattle.exb_capture.specs.Formats.{at_place}
 use Rattle.exb_capture.specs.Blocks.{most_held}
-use Rattle.exb_capture.specs.Pieces.{GoesOn, At, at_last, at_nothing}
+use Rattle.exb_capture.specs.ReaderMachine.{GoesOn, At, at_last, at_nothing}
 use Rattle.exb_capture.proofs.ReaderLemmas.{none_stage, turned_at, same_state, passed_over, stage_is, owing_is, place_is, held_is, found_is}
 use Rattle.exb_capture.proofs.reader.Reader.turn.Goals as goal
 

@@ -3,14 +3,14 @@ use Rattle.std.proofs.lemmas.Grind.{common_steps}
 use Rattle.std.specs.Prelude.{IfNone}
 use Rattle.exb_model.specs.Input.{Record}
 use Rattle.exb_shelf.specs.Files.{bytes_of}
-use Rattle.exb_capture.specs.Counts.{after_fault, after_halt}
-use Rattle.exb_capture.specs.declared.file.Halt.{Halt}
-use Rattle.exb_capture.specs.declared.file.Halt.TheVariants as stop
+use Rattle.exb_capture.specs.FaultCounts.{after_fault, after_halt}
+use Rattle.exb_capture.specs.declared.capture_file.Halt.{Halt}
+use Rattle.exb_capture.specs.declared.capture_file.Halt.TheVariants as stop
 use Rattle.exb_capture.specs.declared.replay.ReplayFault.TheVariants.{Changed}
-use Rattle.exb_capture.specs.Reading.{HasRead, HaltsBy, IsWhole}
-use Rattle.exb_capture.specs.Replaying.{Disagrees}
-use Rattle.exb_capture.proofs.Looking.{kept_bytes}
-use Rattle.exb_capture.proofs.Replaying.{fault_is, halted_disagrees, halted_place, ended_disagrees, played_whole}
+use Rattle.exb_capture.specs.CaptureFiles.{HasRead, HaltsBy, IsWhole}
+use Rattle.exb_capture.specs.Replays.{Disagrees}
+use Rattle.exb_capture.proofs.LookAhead.{kept_bytes}
+use Rattle.exb_capture.proofs.ReplayLemmas.{fault_is, halted_disagrees, halted_place, ended_disagrees, played_whole}
 use Rattle.exb_capture.proofs.replay.Replay.ahead.Goals as goal
 
 pub returns-then-comes_early : goal.returns-then-comes_early

@@ -3,10 +3,10 @@ use Rattle.std.proofs.lemmas.Grind.{common_steps}
 use Rattle.std.specs.Prelude.{IfNone}
 use Rattle.exb_model.specs.Input.{Record}
 use Rattle.exb_shelf.specs.Files.{bytes_of}
-use Rattle.exb_capture.specs.Counts.{after_halt}
-use Rattle.exb_capture.specs.declared.file.Halt.{Halt}
-use Rattle.exb_capture.specs.Reading.{HasRead, IsWhole}
-use Rattle.exb_capture.proofs.Replaying.{begins, early_goes_on, early_ends, early_comes, place_of}
+use Rattle.exb_capture.specs.FaultCounts.{after_halt}
+use Rattle.exb_capture.specs.declared.capture_file.Halt.{Halt}
+use Rattle.exb_capture.specs.CaptureFiles.{HasRead, IsWhole}
+use Rattle.exb_capture.proofs.ReplayLemmas.{begins, early_goes_on, early_ends, early_comes, place_of}
 use Rattle.exb_capture.proofs.replay.Replay.early.Goals as goal
 
 pub returns-then-bytes-end : goal.returns-then-bytes-end

@@ -3,7 +3,7 @@ use Rattle.exb_model.specs.declared.vlan.Kind.{Kind}
 use Rattle.exb_model.specs.Masks.{bits_of}
 use Rattle.exb_model.specs.Configuration.{kind_in}
 use Rattle.exb_model.specs.Refusals.{is_kind}
-use Rattle.exb_config.proofs.Masks.{tagged_mask, untagged_mask}
+use Rattle.exb_config.proofs.PortMasks.{tagged_mask, untagged_mask}
 use Rattle.exb_config.proofs.members.Members.mask.Goals as goal
 
 pub returns-in-Tagged : goal.returns-in-Tagged

@@ -1,5 +1,5 @@
 use Rattle.std.proofs.Common.{◌∙◌, sym}
-use Rattle.exb_config.proofs.Statics.{find_of, find_none}
+use Rattle.exb_config.proofs.StaticEntryLists.{find_of, find_none}
 use Rattle.exb_config.proofs.static_entries.StaticEntries.find.Goals as goal
 
 pub returns-then-is_empty : goal.returns-then-is_empty

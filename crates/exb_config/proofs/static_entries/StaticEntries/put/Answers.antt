@@ -1,6 +1,6 @@
 use Rattle.std.proofs.Common.{◌∙◌, ap}
 use Rattle.exb_config.specs.Rows.{statics_of}
-use Rattle.exb_config.proofs.Statics.{put_of}
+use Rattle.exb_config.proofs.StaticEntryLists.{put_of}
 use Rattle.exb_config.proofs.static_entries.StaticEntries.put.Goals as goal
 
 pub returns-clause-ok : goal.returns-clause-ok

@@ -1,6 +1,6 @@
 use Rattle.std.proofs.Common.{◌∙◌, sym, ap}
 use Rattle.exb_config.specs.Rows.{statics_of}
-use Rattle.exb_config.proofs.Statics.{removed_of, absent_of}
+use Rattle.exb_config.proofs.StaticEntryLists.{removed_of, absent_of}
 use Rattle.exb_config.proofs.static_entries.StaticEntries.remove.Goals as goal
 
 pub returns-in-Some : goal.returns-in-Some

@@ -1,6 +1,6 @@
 use Rattle.std.proofs.Common.{◌∙◌, ap}
 use Rattle.exb_control.specs.ActiveConfigs.{ActiveConfig, active_config_of, in_force}
-use Rattle.exb_control.proofs.Kept.{committed}
+use Rattle.exb_control.proofs.ActiveConfigInvariant.{committed}
 use Rattle.exb_control.proofs.GroupUses.{committed_uses}
 use Rattle.exb_control.proofs.active_config.ActiveConfig.commit.Goals as goal
 

@@ -3,11 +3,11 @@ use Rattle.exb_model.specs.Tree.{Shape}
 use Rattle.exb_config.specs.Tables.{bridge_of}
 use Rattle.exb_plan.proofs.WholePlans.{alike_has}
 use Rattle.exb_control.specs.declared.stage.Stage.TheVariants.{AtRest}
-use Rattle.exb_plan.specs.Spaces.{held_by}
+use Rattle.exb_plan.specs.SpaceContents.{held_by}
 use Rattle.exb_control.specs.ActiveConfigs.{ActiveConfig, active_config_of, held_at_end}
-use Rattle.exb_changing.specs.Plans.Held.{in_spaces}
+use Rattle.exb_control_spec.specs.Plans.HeldNumbers.{in_spaces}
 use Rattle.exb_control.specs.GroupUses.{AreUses, IsKept}
-use Rattle.exb_control.proofs.Kept.{ended}
+use Rattle.exb_control.proofs.ActiveConfigInvariant.{ended}
 use Rattle.exb_control.proofs.GroupUses.{ended_uses}
 use Rattle.exb_control.proofs.active_config.ActiveConfig.copy_at_rest.Goals as goal
 

@@ -1,7 +1,7 @@
 use Rattle.exb_config.specs.Tables.{bridge_of}
 use Rattle.exb_plan.proofs.WholePlans.{alike_has}
 use Rattle.exb_control.specs.ActiveConfigs.{ActiveConfig, active_config_of}
-use Rattle.exb_control.proofs.Kept.{ended, end_is}
+use Rattle.exb_control.proofs.ActiveConfigInvariant.{ended, end_is}
 use Rattle.exb_control.proofs.GroupUses.{ended_uses}
 use Rattle.exb_control.proofs.active_config.ActiveConfig.finish.Goals as goal
 

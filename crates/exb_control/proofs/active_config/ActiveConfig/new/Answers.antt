@@ -1,7 +1,7 @@
 use Rattle.std.proofs.Common.{◌∙◌}
 use Rattle.exb_config.specs.Tables.{bridge_of}
-use Rattle.exb_plan.specs.Spaces.{held_by}
-use Rattle.exb_control.proofs.Kept.{new_active}
+use Rattle.exb_plan.specs.SpaceContents.{held_by}
+use Rattle.exb_control.proofs.ActiveConfigInvariant.{new_active}
 use Rattle.exb_control.proofs.GroupUses.{counted_placed, first_counted}
 use Rattle.exb_control.proofs.active_config.ActiveConfig.new.Goals as goal
 

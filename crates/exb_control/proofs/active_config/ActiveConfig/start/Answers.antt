@@ -1,7 +1,7 @@
 use Rattle.std.proofs.Common.{◌∙◌, sym}
-use Rattle.exb_changing.specs.declared.planning.change.Decision.TheVariants.{Ready}
+use Rattle.exb_control_spec.specs.declared.plan.change.Decision.TheVariants.{Ready}
 use Rattle.exb_control.specs.ActiveConfigs.{ActiveConfig, active_config_of}
-use Rattle.exb_control.proofs.Kept.{rest_needed, start_needed, started_cause, started_stage, started_held, started}
+use Rattle.exb_control.proofs.ActiveConfigInvariant.{rest_needed, start_needed, started_cause, started_stage, started_held, started}
 use Rattle.exb_control.proofs.GroupUses.{rows_fit, start_counted, started_uses}
 use Rattle.exb_control.proofs.active_config.ActiveConfig.start.Goals as goal
 

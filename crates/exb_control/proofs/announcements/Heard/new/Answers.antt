@@ -1,4 +1,4 @@
-use Rattle.exb_control.proofs.Hearing.{none_heard}
+use Rattle.exb_control.proofs.HeardExtenders.{none_heard}
 use Rattle.exb_control.proofs.announcements.Heard.new.Goals as goal
 
 pub returns : goal.returns

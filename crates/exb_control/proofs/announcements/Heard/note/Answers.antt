@@ -1,6 +1,6 @@
 use Rattle.std.proofs.Common.{◌<◌, Bool, List, length, ap, ◌∙◌, arith}
-use Rattle.exb_control.specs.Steps.{heard_of, noted}
-use Rattle.exb_control.proofs.Hearing.{note_set}
+use Rattle.exb_control.specs.MachineSteps.{heard_of, noted}
+use Rattle.exb_control.proofs.HeardExtenders.{note_set}
 use Rattle.exb_control.proofs.announcements.Heard.note.Goals as goal
 
 pub returns : goal.returns

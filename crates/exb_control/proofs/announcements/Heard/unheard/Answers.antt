@@ -1,6 +1,6 @@
 use Rattle.std.proofs.Common.{◌≡◌, ◌+◌, ◌-◌, sym, ap, ◌∙◌, arith}
-use Rattle.exb_control.specs.Steps.{unheard_to}
-use Rattle.exb_control.proofs.Unheard.{unheard_none, unheard_next, unheard_few, one_at_most}
+use Rattle.exb_control.specs.MachineSteps.{unheard_to}
+use Rattle.exb_control.proofs.UnheardExtenders.{unheard_none, unheard_next, unheard_few, one_at_most}
 use Rattle.exb_control.proofs.announcements.Heard.unheard.Goals as goal
 
 pub overflow_add-count : goal.overflow_add-count

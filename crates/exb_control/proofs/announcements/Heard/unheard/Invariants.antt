@@ -1,5 +1,5 @@
 use Rattle.std.proofs.Common.{◌≡◌, ◌-◌}
-use Rattle.exb_control.specs.Steps.{unheard_to}
+use Rattle.exb_control.specs.MachineSteps.{unheard_to}
 use Rattle.exb_control.proofs.announcements.Heard.unheard.Given as goal
 
 abbrev pub invariant-loop-number : goal.invariant-loop-number

@@ -1,15 +1,15 @@
 use Rattle.std.proofs.Common.{◌≡◌, ◌+◌, ◌-◌, ◌*◌, ◌^◌, length, true, refl, sym, ap, subst, arith}
 use Rattle.exb_model.specs.Tree.{is_extender}
-use Rattle.exb_changing.specs.Machine.{answered}
-use Rattle.exb_control.specs.Boxes.{IsMoved}
+use Rattle.exb_control_spec.specs.Machine.{answered}
+use Rattle.exb_control.specs.CallEffects.{IsMoved}
 use Rattle.exb_control.specs.Controls.{Parts, state_of, decide_of}
-use Rattle.exb_changing.specs.Fitting.{AreFit}
+use Rattle.exb_control_spec.specs.JobsOfTree.{AreFit}
 use Rattle.exb_control.specs.Soundness.{to_come}
-use Rattle.exb_control.specs.Steps.{Reached}
-use Rattle.exb_control.specs.Insides.{parts_of}
+use Rattle.exb_control.specs.MachineSteps.{Reached}
+use Rattle.exb_control.specs.ControlParts.{parts_of}
 use Rattle.exb_control.proofs.Calls.{moved, steady_at}
-use Rattle.exb_control.proofs.Messages.{Spelled, answered_spelled, spells_on, asks_on}
-use Rattle.exb_control.proofs.Known.{extender_low}
+use Rattle.exb_control.proofs.EncodableMessages.{Spelled, answered_spelled, spells_on, asks_on}
+use Rattle.exb_control.proofs.KnownExtenders.{extender_low}
 use Rattle.exb_control.proofs.control.Control.answered.Goals as goal
 
 pub take-done-requires-clause-known : goal.take-done-requires-clause-known

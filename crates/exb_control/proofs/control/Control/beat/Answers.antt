@@ -1,12 +1,12 @@
 use Rattle.std.proofs.Common.{refl, sym, ap, subst, ◌∙◌}
-use Rattle.exb_changing.specs.Machine.{beats}
-use Rattle.exb_control.specs.declared.working.Core.{Core}
+use Rattle.exb_control_spec.specs.Machine.{beats}
+use Rattle.exb_control.specs.declared.change_execution.ChangeExecutor.{ChangeExecutor}
 use Rattle.exb_control.specs.declared.outbox.Outbox.{Outbox}
-use Rattle.exb_control.specs.Boxes.{IsMoved}
+use Rattle.exb_control.specs.CallEffects.{IsMoved}
 use Rattle.exb_control.specs.Controls.{Parts, state_of}
-use Rattle.exb_control.specs.Insides.{parts_of}
+use Rattle.exb_control.specs.ControlParts.{parts_of}
 use Rattle.exb_control.proofs.Calls.{when_ok, moved, kept_beat, beat_moves}
-use Rattle.exb_control.proofs.Messages.{Spelled, beats_spelled, asks_on}
+use Rattle.exb_control.proofs.EncodableMessages.{Spelled, beats_spelled, asks_on}
 use Rattle.exb_control.proofs.control.Control.beat.Goals as goal
 
 pub invariant_of-self-else-is_err : goal.invariant_of-self-else-is_err
@@ -25,7 +25,7 @@ returns-clause-ok c =
     (moved _ (parts_of w.core w.queue w.heard w.given w.failed) c.beat.new.core w.queue w.heard w.given w.failed c.empty.new.self.events c.empty.new.self.asks c.empty.new.self.downs out
     c.empty.ensures.events c.empty.ensures.asks c.empty.ensures.downs
     (beat_moves w.core c.beat.new.core w.queue w.heard w.given w.failed c.empty.new.self.events c.empty.new.self.asks c.beat.new.asks c.empty.new.self.downs made.rest made.sessions (when_ok _ fine made.asks))
-    (ap (λ (x : Core). x.active.shape) made.rest) (ap (λ (x : Core). x.active.limits) made.rest) refl)
+    (ap (λ (x : ChangeExecutor). x.active.shape) made.rest) (ap (λ (x : ChangeExecutor). x.active.limits) made.rest) refl)
 
 pub returns-clause-spelled : goal.returns-clause-spelled
 returns-clause-spelled c =

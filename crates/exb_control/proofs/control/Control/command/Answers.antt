@@ -1,15 +1,15 @@
 use Rattle.std.proofs.Common.{◌≡◌, ◌+◌, ◌-◌, ◌*◌, ◌^◌, ◌<◌, [], ◌∷◌, ◌++◌, length, refl, sym, ap, subst, ◌∙◌, arith}
-use Rattle.exb_changing.specs.declared.job.Job.TheVariants as job
-use Rattle.exb_changing.specs.Machine.{ordered}
+use Rattle.exb_control_spec.specs.declared.job.Job.TheVariants as job
+use Rattle.exb_control_spec.specs.Machine.{ordered}
 use Rattle.exb_model.specs.Setup.{NamesExternal}
-use Rattle.exb_control.specs.Boxes.{IsMoved}
+use Rattle.exb_control.specs.CallEffects.{IsMoved}
 use Rattle.exb_control.specs.Controls.{Parts, state_of, decide_of}
-use Rattle.exb_changing.specs.Fitting.{AreFit}
+use Rattle.exb_control_spec.specs.JobsOfTree.{AreFit}
 use Rattle.exb_control.specs.Soundness.{to_come}
-use Rattle.exb_control.specs.Steps.{Reached}
-use Rattle.exb_control.specs.Insides.{parts_of}
+use Rattle.exb_control.specs.MachineSteps.{Reached}
+use Rattle.exb_control.specs.ControlParts.{parts_of}
 use Rattle.exb_control.proofs.Calls.{when_ok, moved, steady_at}
-use Rattle.exb_control.proofs.Messages.{Spelled, ordered_spelled, spells_on, asks_on}
+use Rattle.exb_control.proofs.EncodableMessages.{Spelled, ordered_spelled, spells_on, asks_on}
 use Rattle.exb_control.proofs.control.Control.command.Goals as goal
 
 pub invariant_of-self-else-is_err : goal.invariant_of-self-else-is_err

@@ -1,5 +1,5 @@
 use Rattle.exb_control.specs.Controls.{work_at}
-use Rattle.exb_control.specs.Steps.{askers_of}
+use Rattle.exb_control.specs.MachineSteps.{askers_of}
 use Rattle.exb_control.specs.Soundness.{to_come}
 use Rattle.exb_control.proofs.Calls.{low_serials}
 use Rattle.exb_control.proofs.control.Control.has_low_serials.Goals as goal

@@ -1,6 +1,6 @@
 use Rattle.std.proofs.Common.{sym, ap, ◌∙◌}
-use Rattle.exb_changing.specs.Beginning.{first_jobs}
-use Rattle.exb_control.specs.Steps.{askers_of}
+use Rattle.exb_control_spec.specs.InitialState.{first_jobs}
+use Rattle.exb_control.specs.MachineSteps.{askers_of}
 use Rattle.exb_control.proofs.Calls.{when_ok}
 use Rattle.exb_control.proofs.Askers.{begun_all}
 use Rattle.exb_control.proofs.FirstState.{begins_as, begins_kept}

@@ -1,9 +1,9 @@
 use Rattle.std.proofs.Common.{◌≡◌, refl, subst, arith}
 use Rattle.std.specs.Result.{IfOk}
 use Rattle.std.proofs.lemmas.Result.{IfOk-weaker}
-use Rattle.exb_changing.specs.Counting.{planned}
+use Rattle.exb_control_spec.specs.PlannedExchanges.{planned}
 use Rattle.exb_control.specs.Controls.{Parts, state_of, decide_of, work_at}
-use Rattle.exb_control.specs.Steps.{askers_of}
+use Rattle.exb_control.specs.MachineSteps.{askers_of}
 use Rattle.exb_control.specs.Soundness.{to_come}
 use Rattle.exb_control.proofs.Calls.{room_of}
 use Rattle.exb_control.proofs.control.Control.planned.Goals as goal

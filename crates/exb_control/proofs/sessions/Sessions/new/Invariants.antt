@@ -1,5 +1,5 @@
 use Rattle.std.proofs.Common.{◌≡◌, replicate}
-use Rattle.exb_csp.specs.Sessions.Asking.{begun}
+use Rattle.exb_csp.specs.Sessions.AskingEnd.{begun}
 use Rattle.exb_control.proofs.sessions.Sessions.new.Given as goal
 
 abbrev pub invariant-loop : goal.invariant-loop

@@ -1,6 +1,6 @@
 use Rattle.std.proofs.Common.{◌≡◌, ◌<◌, List, length, ap, ◌∙◌, arith}
-use Rattle.exb_csp.specs.Sessions.Asking.{AskerState, took}
-use Rattle.exb_control.specs.Steps.{askers_of, put}
+use Rattle.exb_csp.specs.Sessions.AskingEnd.{AskerState, took}
+use Rattle.exb_control.specs.MachineSteps.{askers_of, put}
 use Rattle.exb_control.proofs.Askers.{put_set, read}
 use Rattle.exb_control.proofs.sessions.Sessions.take.Goals as goal
 

@@ -1,4 +1,4 @@
-use Rattle.exb_counters.proofs.Counts.{leads_first, leads_more, leads_last, fits_one}
+use Rattle.exb_counters.proofs.EventCounts.{leads_first, leads_more, leads_last, fits_one}
 use Rattle.exb_counters.proofs.counters.Counters.events.Goals as goal
 
 pub loop-event-init : goal.loop-event-init

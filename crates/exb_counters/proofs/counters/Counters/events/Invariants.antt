@@ -1,4 +1,4 @@
-use Rattle.exb_counters.proofs.Counts.{LeadsOn}
+use Rattle.exb_counters.proofs.EventCounts.{LeadsOn}
 use Rattle.exb_counters.proofs.counters.Counters.events.Given as goal
 
 abbrev pub invariant-loop-event : goal.invariant-loop-event

@@ -1,6 +1,6 @@
 use Rattle.std.proofs.Common.{List, ap, length, arith, ◌∙◌}
 use Rattle.std.proofs.lemmas.List.{length-replicate}
-use Rattle.exb_ecp.specs.Machine.{State, new_state}
+use Rattle.exb_ecp.specs.StopAndWait.{State, new_state}
 use Rattle.exb_ecp.specs.Ends.{near_of}
 use Rattle.exb_ecp.proofs.Ends.{none_sends}
 use Rattle.exb_model.proofs.NumberedTables.{at_all}

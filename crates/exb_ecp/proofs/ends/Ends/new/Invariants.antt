@@ -1,5 +1,5 @@
 use Rattle.std.proofs.Common.{◌≡◌, replicate}
-use Rattle.exb_ecp.specs.Machine.{new_state}
+use Rattle.exb_ecp.specs.StopAndWait.{new_state}
 use Rattle.exb_ecp.proofs.ends.Ends.new.Given as goal
 
 abbrev pub invariant-loop : goal.invariant-loop

@@ -1,6 +1,6 @@
 use Rattle.std.proofs.Common.{subst}
-use Rattle.exb_ecp.specs.Machine.{IsSound}
-use Rattle.exb_ecp.proofs.Sound.{state_sound}
+use Rattle.exb_ecp.specs.StopAndWait.{IsSound}
+use Rattle.exb_ecp.proofs.Soundness.{state_sound}
 use Rattle.exb_ecp.proofs.stop_and_wait.Ecp.idle.Goals as goal
 
 pub returns-clause-sound : goal.returns-clause-sound

@@ -1,4 +1,4 @@
-use Rattle.exb_extender.specs.Control.{state_in}
+use Rattle.exb_extender.specs.ExtenderParts.{state_in}
 use Rattle.exb_extender.specs.Machine.{Beats}
 use Rattle.exb_extender.specs.Tables.{tables_of}
 use Rattle.exb_extender.proofs.MachineLemmas.{reacted_same}

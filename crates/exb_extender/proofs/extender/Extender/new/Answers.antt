@@ -1,7 +1,7 @@
 use Rattle.std.proofs.Common.{◌≡◌, ℕ, ap, ◌∙◌, refl}
-use Rattle.exb_csp.specs.Execute.{ExtenderTables}
-use Rattle.exb_csp.specs.Words.{powered_on}
-use Rattle.exb_extender.specs.Control.{state_with}
+use Rattle.exb_csp.specs.Execution.{ExtenderTables}
+use Rattle.exb_csp.specs.PortMasks.{powered_on}
+use Rattle.exb_extender.specs.ExtenderParts.{state_with}
 use Rattle.exb_extender.proofs.extender.Extender.new.Goals as goal
 
 powered_ports : (ports : ℕ) → (powered_on ports).ports ≡ ports

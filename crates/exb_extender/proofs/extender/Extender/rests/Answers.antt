@@ -1,6 +1,6 @@
 use Rattle.std.proofs.Common.{ap, ◌∙◌}
 use Rattle.exb_extender.specs.Fields.{Fields, state_of}
-use Rattle.exb_extender.specs.Resting.{rests}
+use Rattle.exb_extender.specs.IdleExtender.{rests}
 use Rattle.exb_extender.specs.Tables.{tables_of}
 use Rattle.exb_extender.proofs.extender.Extender.rests.Goals as goal
 

@@ -1,4 +1,4 @@
-use Rattle.exb_extender.specs.Control.{state_in}
+use Rattle.exb_extender.specs.ExtenderParts.{state_in}
 use Rattle.exb_extender.specs.Machine.{Arrives}
 use Rattle.exb_extender.specs.declared.sends.Side.TheVariants.{Up}
 use Rattle.exb_extender.proofs.MachineLemmas.{reacted_same}

@@ -1,5 +1,5 @@
 use Rattle.std.proofs.Common.{◌<◌, ◌≤◌, ap, sym, subst, ◌∙◌}
-use Rattle.exb_csp.specs.Execute.{ExtenderTables}
+use Rattle.exb_csp.specs.Execution.{ExtenderTables}
 use Rattle.exb_extender.proofs.ExtendersByNumber.{not_none, tables_found}
 use Rattle.exb_extender.proofs.extenders.Extenders.cascade.Goals as goal
 

@@ -1,7 +1,7 @@
 use Rattle.std.proofs.Common.{ap, sym, ◌∙◌}
 use Rattle.exb_extender.specs.Fields.{state_of}
 use Rattle.exb_extender.specs.Machine.{ExtenderState, Arrives, react}
-use Rattle.exb_extender.specs.Resting.{rested}
+use Rattle.exb_extender.specs.IdleExtender.{rested}
 use Rattle.exb_extender.specs.Extenders.{far_of}
 use Rattle.exb_extender.proofs.ExtendersByNumber.{far_after, not_none, noted_same, same_found, tables_found}
 use Rattle.exb_extender.proofs.DataFrames.{can_take, same_sends, stays}

@@ -1,8 +1,8 @@
 use Rattle.std.proofs.Common.{subst, sym}
 use Rattle.std.specs.Prelude.{IfSome}
-use Rattle.exb_csp.specs.Execute.{ExtenderTables}
+use Rattle.exb_csp.specs.Execution.{ExtenderTables}
 use Rattle.exb_extender.specs.Fields.{state_of}
-use Rattle.exb_extender.specs.Passing.{GoesTo}
+use Rattle.exb_extender.specs.SingleSide.{GoesTo}
 use Rattle.exb_extender.specs.Extenders.{far_of}
 use Rattle.exb_extender.proofs.ExtendersByNumber.{tables_found}
 use Rattle.exb_extender.proofs.DataFrames.{can_take}

@@ -1,5 +1,5 @@
 use Rattle.std.proofs.Common.{◌∙◌, ◌==◌}
-use Rattle.exb_learn.proofs.Packing.{same_by_number}
+use Rattle.exb_learn.proofs.PackedKeys.{same_by_number}
 use Rattle.exb_learn.proofs.key.StationKeyPartialEq.eq.Goals as goal
 
 pub returns : goal.returns

@@ -1,5 +1,5 @@
 use Rattle.exb_learn.specs.Entries.{Entries}
-use Rattle.exb_learn.proofs.Places.{table-forget}
+use Rattle.exb_learn.proofs.LookupsAfterChange.{table-forget}
 use Rattle.exb_learn.proofs.learned.Learned.forget.Goals as goal
 
 pub returns-clause-table : goal.returns-clause-table

@@ -1,5 +1,5 @@
 use Rattle.exb_learn.specs.Entries.{Entries}
-use Rattle.exb_learn.proofs.Places.{has_live}
+use Rattle.exb_learn.proofs.LookupsAfterChange.{has_live}
 use Rattle.exb_learn.proofs.learned.Learned.held.Goals as goal
 
 pub returns : goal.returns

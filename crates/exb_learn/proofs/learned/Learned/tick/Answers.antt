@@ -1,6 +1,6 @@
 use Rattle.std.proofs.Common.{◌+◌, ap}
 use Rattle.exb_learn.specs.Entries.{Entries}
-use Rattle.exb_learn.proofs.Places.{table-tick}
+use Rattle.exb_learn.proofs.LookupsAfterChange.{table-tick}
 use Rattle.exb_learn.proofs.learned.Learned.tick.Goals as goal
 
 pub returns-clause-table : goal.returns-clause-table

@@ -1,8 +1,8 @@
 use Rattle.std.proofs.Common.{sym, ap, ◌∙◌}
-use Rattle.exb_learn.specs.Links.{first_of, links_of}
+use Rattle.exb_learn.specs.RingLinks.{first_of, links_of}
 use Rattle.exb_learn.specs.Stations.{is_elsewhere, AllPass}
-use Rattle.exb_learn.specs.Stored.{IsSeenAt}
-use Rattle.exb_learn.proofs.Slotted.{is_seen_at, none_at, if_some, if_none}
+use Rattle.exb_learn.specs.EntryRings.{IsSeenAt}
+use Rattle.exb_learn.proofs.StationRings.{is_seen_at, none_at, if_some, if_none}
 use Rattle.exb_learn.proofs.slots.Slots.first_at.Goals as goal
 
 pub returns-clause-some : goal.returns-clause-some

@@ -1,5 +1,5 @@
 use Rattle.std.proofs.Common.{◌∙◌}
-use Rattle.exb_learn.proofs.Slotted.{slotted_empty}
+use Rattle.exb_learn.proofs.StationRings.{slotted_empty}
 use Rattle.exb_learn.proofs.slots.Slots.new.Goals as goal
 
 pub returns : goal.returns

@@ -1,6 +1,6 @@
 use Rattle.std.proofs.Common.{◌≡◌, sym, ◌∙◌, []}
-use Rattle.exb_learn.specs.Stored.{IsOldest}
-use Rattle.exb_learn.proofs.Slotted.{is_oldest, no_oldest, if_some, if_none}
+use Rattle.exb_learn.specs.EntryRings.{IsOldest}
+use Rattle.exb_learn.proofs.StationRings.{is_oldest, no_oldest, if_some, if_none}
 use Rattle.exb_learn.proofs.slots.Slots.oldest.Goals as goal
 
 pub returns-clause-some : goal.returns-clause-some

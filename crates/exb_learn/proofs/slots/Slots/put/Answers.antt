@@ -1,7 +1,7 @@
 use Rattle.std.proofs.Common.{◌∙◌, subst}
-use Rattle.exb_learn.specs.Links.{moved_if, IsNow}
-use Rattle.exb_learn.specs.Stored.{IsPutting}
-use Rattle.exb_learn.proofs.Slotted.{slotted_known, slotted_new}
+use Rattle.exb_learn.specs.RingLinks.{moved_if, IsNow}
+use Rattle.exb_learn.specs.EntryRings.{IsPutting}
+use Rattle.exb_learn.proofs.StationRings.{slotted_known, slotted_new}
 use Rattle.exb_learn.proofs.slots.Slots.put.Goals as goal
 
 pub returns-in-Some : goal.returns-in-Some

@@ -1,4 +1,4 @@
-use Rattle.exb_learn.proofs.Slotted.{slotted_less}
+use Rattle.exb_learn.proofs.StationRings.{slotted_less}
 use Rattle.exb_learn.proofs.slots.Slots.remove.Goals as goal
 
 pub returns : goal.returns

@@ -1,5 +1,5 @@
 use Rattle.std.proofs.Common.{refl}
-use Rattle.exb_model.proofs.Words.{has_port-empty, fits-zeros}
+use Rattle.exb_model.proofs.PortBits.{has_port-empty, fits-zeros}
 use Rattle.exb_model.proofs.port_set.PortSet.empty.Goals as goal
 
 pub returns : goal.returns

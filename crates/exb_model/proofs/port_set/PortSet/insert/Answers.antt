@@ -1,6 +1,6 @@
 use Rattle.std.proofs.Common.{arith, ◌∙◌}
 use Rattle.std.proofs.lemmas.List.{length-set}
-use Rattle.exb_model.proofs.Words.{has_port-insert, fits-insert}
+use Rattle.exb_model.proofs.PortBits.{has_port-insert, fits-insert}
 use Rattle.exb_model.proofs.port_set.PortSet.insert.Goals as goal
 
 pub returns : goal.returns

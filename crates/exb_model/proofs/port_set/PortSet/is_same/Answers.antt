@@ -3,7 +3,7 @@ use Rattle.std.proofs.lemmas.Bool.{cases_Bool}
 use Rattle.std.proofs.lemmas.Grind.{same_number_lists}
 use Rattle.std.specs.Cmp.Lexicographic.{same_text, other_text}
 use Rattle.exb_model.specs.PortBits.{has_port}
-use Rattle.exb_model.proofs.Words.{same_word}
+use Rattle.exb_model.proofs.PortBits.{same_word}
 use Rattle.exb_model.proofs.port_set.PortSet.is_same.Goals as goal
 
 pub returns : goal.returns

@@ -1,6 +1,6 @@
 use Rattle.std.proofs.Common.{ℕ, replicate, ◌∙◌}
 use Rattle.std.proofs.lemmas.List.{length-set, length-replicate}
-use Rattle.exb_model.proofs.Words.{has_port-of_device, fits-of_device}
+use Rattle.exb_model.proofs.PortBits.{has_port-of_device, fits-of_device}
 use Rattle.exb_model.proofs.port_set.PortSet.of_device.Goals as goal
 
 pub invariant_of-result : goal.invariant_of-result

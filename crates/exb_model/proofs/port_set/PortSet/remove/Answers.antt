@@ -1,5 +1,5 @@
 use Rattle.std.proofs.Common.{arith}
-use Rattle.exb_model.proofs.Words.{has_port-remove}
+use Rattle.exb_model.proofs.PortBits.{has_port-remove}
 use Rattle.exb_model.proofs.port_set.PortSet.remove.Goals as goal
 
 pub returns : goal.returns

@@ -4,7 +4,7 @@ use Rattle.exb_model.specs.PortBits.{has_port}
 use Rattle.exb_model.specs.Tree.{Shape, IsTree, by_depth, is_port, on}
 use Rattle.exb_model.proofs.MaskLemmas.{word_is}
 use Rattle.exb_model.proofs.TreeLoops.{by_depth-range}
-use Rattle.exb_model.proofs.TreeCovered.{Marked, begins, skips, marks_up, marked_is}
+use Rattle.exb_model.proofs.TreeCover.{Marked, begins, skips, marks_up, marked_is}
 use Rattle.exb_model.proofs.tree.Tree.covered.Goals as goal
 
 pub loop-index-init : goal.loop-index-init

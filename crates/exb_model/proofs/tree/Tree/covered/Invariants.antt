@@ -1,5 +1,5 @@
 use Rattle.exb_model.specs.Ports.{port_in}
-use Rattle.exb_model.proofs.TreeCovered.{Marked}
+use Rattle.exb_model.proofs.TreeCover.{Marked}
 use Rattle.exb_model.proofs.tree.Tree.covered.Given as goal
 
 -- the extenders from this place on have had their turn

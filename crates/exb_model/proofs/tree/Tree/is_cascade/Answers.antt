@@ -1,6 +1,6 @@
 use Rattle.std.proofs.Common.{ap, ◌∙◌}
 use Rattle.exb_model.specs.Tree.{Shape, is_cascade}
-use Rattle.exb_model.proofs.TreeHung.{noted_cascade}
+use Rattle.exb_model.proofs.TreeTrunks.{noted_cascade}
 use Rattle.exb_model.proofs.tree.Tree.is_cascade.Goals as goal
 
 pub returns : goal.returns

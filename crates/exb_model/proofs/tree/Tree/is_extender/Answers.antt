@@ -1,6 +1,6 @@
 use Rattle.std.proofs.Common.{◌∙◌, sym, ap, arith}
 use Rattle.exb_model.specs.Tree.{Shape, is_extender}
-use Rattle.exb_model.proofs.TreeHung.{past_devices}
+use Rattle.exb_model.proofs.TreeTrunks.{past_devices}
 use Rattle.exb_model.proofs.tree.Tree.is_extender.Goals as goal
 
 pub returns-then-number-ge-DEVICES : goal.returns-then-number-ge-DEVICES

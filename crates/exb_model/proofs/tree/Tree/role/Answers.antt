@@ -1,6 +1,6 @@
 use Rattle.std.proofs.Common.{◌≡◌, ◌∙◌, sym, subst, true, ℕ, slice_index, arith}
 use Rattle.exb_model.specs.Tree.{Shape, is_port, is_external, HangsOn}
-use Rattle.exb_model.proofs.TreeHung.{external_from}
+use Rattle.exb_model.proofs.TreeTrunks.{external_from}
 use Rattle.exb_model.proofs.tree.Tree.role.Goals as goal
 
 pub returns-in-0 : goal.returns-in-0

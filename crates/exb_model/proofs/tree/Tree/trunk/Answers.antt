@@ -1,6 +1,6 @@
 use Rattle.std.proofs.Common.{◌≡◌, ◌∙◌, true, subst, sym, ap, arith, ℕ, ◌+◌}
 use Rattle.exb_model.specs.Tree.{Shape, is_extender, trunk}
-use Rattle.exb_model.proofs.TreeHung.{topped-low}
+use Rattle.exb_model.proofs.TreeTrunks.{topped-low}
 use Rattle.exb_model.proofs.tree.Tree.trunk.Goals as goal
 
 pub overflow_cast-result-2 : goal.overflow_cast-result-2

@@ -1,7 +1,7 @@
 use Rattle.std.proofs.Common.{◌∙◌, ℕ, List, ap, subst, arith}
 use Rattle.std.specs.Prelude.{Option}
 use Rattle.exb_numbers.specs.Channels.{channel_of}
-use Rattle.exb_numbers.proofs.Kept.{own_is, lowest_at, lowest_full, claimed, IsNext}
+use Rattle.exb_numbers.proofs.ChannelTables.{own_is, lowest_at, lowest_full, claimed, IsNext}
 use Rattle.exb_numbers.proofs.channels.Channels.claim.Goals as goal
 
 pub returns-then-channel-len-clause-lowest : goal.returns-then-channel-len-clause-lowest

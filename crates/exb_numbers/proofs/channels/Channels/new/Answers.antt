@@ -1,4 +1,4 @@
-use Rattle.exb_numbers.proofs.Kept.{first_kept}
+use Rattle.exb_numbers.proofs.ChannelTables.{first_kept}
 use Rattle.exb_numbers.proofs.channels.Channels.new.Goals as goal
 
 pub invariant_of-result : goal.invariant_of-result

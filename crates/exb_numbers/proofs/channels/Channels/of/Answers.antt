@@ -1,7 +1,7 @@
 use Rattle.std.proofs.Common.{◌≡◌, ◌∙◌, ℕ, ◌≤◌, List, ap, sym, arith}
 use Rattle.std.specs.Prelude.{Option, Some, None, IfSome}
 use Rattle.exb_numbers.specs.Channels.{channel_of}
-use Rattle.exb_numbers.proofs.Kept.{own, own_is, own_range, read_is}
+use Rattle.exb_numbers.proofs.ChannelTables.{own, own_is, own_range, read_is}
 use Rattle.exb_numbers.proofs.channels.Channels.of.Goals as goal
 
 -- what was read is the port's own

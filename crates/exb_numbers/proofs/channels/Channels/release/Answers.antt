@@ -1,7 +1,7 @@
 use Rattle.std.proofs.Common.{◌∙◌, List, ap, inl, inr, refl, ℕ}
 use Rattle.std.specs.Prelude.{Option, None}
 use Rattle.exb_numbers.specs.Channels.{is_used}
-use Rattle.exb_numbers.proofs.Kept.{held_by, holder_set, not_none, released, used_in}
+use Rattle.exb_numbers.proofs.ChannelTables.{held_by, holder_set, not_none, released, used_in}
 use Rattle.exb_numbers.proofs.channels.Channels.release.Goals as goal
 
 pub invariant_of-self : goal.invariant_of-self

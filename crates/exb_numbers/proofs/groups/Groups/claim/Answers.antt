@@ -2,11 +2,11 @@ use Rattle.std.proofs.Common.{◌∙◌, sym, ap, subst, List, map, arith}
 use Rattle.exb_model.specs.declared.port_set.PortSet.{PortSet}
 use Rattle.exb_model.specs.Ports.{ports_of}
 use Rattle.exb_numbers.specs.Groups.{Groups, group_of}
-use Rattle.exb_numbers.specs.Order.{key_of, put_key_at, rank_of, ranks_at, put_at, IsAt, IsEntered}
-use Rattle.exb_numbers.proofs.Kept.{none_some}
-use Rattle.exb_numbers.proofs.Places.{group_at, ports_at, ports_opt, get_put, get_put_other}
-use Rattle.exb_numbers.proofs.Ordered.{lowest_at, lowest_full, has_room, claimed, set_changed, IsNext}
-use Rattle.exb_numbers.proofs.Keys.{put_keys}
+use Rattle.exb_numbers.specs.GroupOrder.{key_of, put_key_at, rank_of, ranks_at, put_at, IsAt, IsEntered}
+use Rattle.exb_numbers.proofs.ChannelTables.{none_some}
+use Rattle.exb_numbers.proofs.GroupPlaces.{group_at, ports_at, ports_opt, get_put, get_put_other}
+use Rattle.exb_numbers.proofs.GroupTables.{lowest_at, lowest_full, has_room, claimed, set_changed, IsNext}
+use Rattle.exb_numbers.proofs.SetKeys.{put_keys}
 use Rattle.exb_numbers.proofs.groups.Groups.claim.Goals as goal
 
 pub returns-then-place-self-clause-lowest : goal.returns-then-place-self-clause-lowest

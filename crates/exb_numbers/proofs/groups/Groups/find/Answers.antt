@@ -1,7 +1,7 @@
 use Rattle.std.proofs.Common.{◌≡◌, ◌∙◌, sym, get_or}
 use Rattle.std.proofs.lemmas.Grind.{get_or_default_zero}
-use Rattle.exb_numbers.specs.Order.{rank_of, ranks_at, IsAt, SplitsAt}
-use Rattle.exb_numbers.proofs.Places.{group_at, group_absent}
+use Rattle.exb_numbers.specs.GroupOrder.{rank_of, ranks_at, IsAt, SplitsAt}
+use Rattle.exb_numbers.proofs.GroupPlaces.{group_at, group_absent}
 use Rattle.exb_numbers.proofs.groups.Groups.find.Goals as goal
 
 pub returns-in-Ok-clause-value : goal.returns-in-Ok-clause-value

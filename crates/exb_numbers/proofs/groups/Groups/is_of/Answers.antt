@@ -1,8 +1,8 @@
 use Rattle.std.proofs.Common.{◌≡◌, ◌∙◌, ℕ, ◌+◌, ◌-◌, get_or, ap, arith}
 use Rattle.std.specs.Prelude.{Some}
 use Rattle.std.proofs.lemmas.Grind.{get_or_default_zero}
-use Rattle.exb_numbers.proofs.Places.{get_at, group_known}
-use Rattle.exb_numbers.proofs.Keys.{as_long, held_by_key}
+use Rattle.exb_numbers.proofs.GroupPlaces.{get_at, group_known}
+use Rattle.exb_numbers.proofs.SetKeys.{as_long, held_by_key}
 use Rattle.exb_numbers.proofs.groups.Groups.is_of.Goals as goal
 
 pub returns-clause-group : goal.returns-clause-group

@@ -3,10 +3,10 @@ use Rattle.std.specs.Prelude.{Some, slice_get}
 use Rattle.exb_model.specs.declared.port_set.PortSet.{PortSet}
 use Rattle.exb_model.specs.Ports.{ports_of}
 use Rattle.exb_numbers.specs.Groups.{Groups, sets_of, set_of}
-use Rattle.exb_numbers.specs.Order.{rank_of, ranks_at, is_held, StandsAt, IsLeft}
-use Rattle.exb_numbers.proofs.Places.{ports_at, ports_opt, get_set, get_set_other, ranks_is, place_in, no_ports}
-use Rattle.exb_numbers.proofs.Ordered.{used_means, read_set, released, set_changed}
-use Rattle.exb_numbers.proofs.Keys.{none_key, set_keys}
+use Rattle.exb_numbers.specs.GroupOrder.{rank_of, ranks_at, is_held, StandsAt, IsLeft}
+use Rattle.exb_numbers.proofs.GroupPlaces.{ports_at, ports_opt, get_set, get_set_other, ranks_is, place_in, no_ports}
+use Rattle.exb_numbers.proofs.GroupTables.{used_means, read_set, released, set_changed}
+use Rattle.exb_numbers.proofs.SetKeys.{none_key, set_keys}
 use Rattle.exb_numbers.proofs.groups.Groups.release.Goals as goal
 
 pub leave-requires-clause-there : goal.leave-requires-clause-there

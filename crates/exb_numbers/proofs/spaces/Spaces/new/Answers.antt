@@ -1,6 +1,6 @@
 use Rattle.std.proofs.Common.{ap, arith, ◌∙◌}
 use Rattle.exb_model.specs.Tree.{is_cascade}
-use Rattle.exb_numbers.proofs.Built.{built_none, built_more, all_spaces, spaced}
+use Rattle.exb_numbers.proofs.SpacesByPort.{built_none, built_more, all_spaces, spaced}
 use Rattle.exb_numbers.proofs.spaces.Spaces.new.Goals as goal
 
 pub loop-number-init : goal.loop-number-init

@@ -1,4 +1,4 @@
-use Rattle.exb_numbers.proofs.Built.{AreBuilt}
+use Rattle.exb_numbers.proofs.SpacesByPort.{AreBuilt}
 use Rattle.exb_numbers.proofs.spaces.Spaces.new.Given as goal
 
 abbrev pub invariant-loop-number : goal.invariant-loop-number

@@ -1,9 +1,9 @@
 use Rattle.std.proofs.Common.{◌≡◌, ◌<◌, ◌∙◌, length, refl, arith}
 use Rattle.std.proofs.lemmas.Result.{on_err_weaker, on_ok_weaker}
 use Rattle.exb_outputs.specs.Manifests.{kind_at, output_count, output_name}
-use Rattle.exb_outputs.proofs.OutputLemmas.{by_kind, can_be_written, name_of_file, has_more_of, of_kind}
-use Rattle.exb_outputs.proofs.Cutting.{cut_at, cut_kind}
-use Rattle.exb_outputs.proofs.Sizes.{grows_at, ready_with}
+use Rattle.exb_outputs.proofs.WrittenTexts.{by_kind, can_be_written, name_of_file, has_more_of, of_kind}
+use Rattle.exb_outputs.proofs.OutputPrefixes.{cut_at, cut_kind}
+use Rattle.exb_outputs.proofs.CaptureSizes.{grows_at, ready_with}
 use Rattle.exb_outputs.proofs.outputs.Outputs.add_to.Goals as goal
 
 pub add-requires : goal.add-requires

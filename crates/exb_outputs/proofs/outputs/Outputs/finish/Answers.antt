@@ -1,11 +1,11 @@
 use Rattle.std.proofs.Common.{◌≡◌, ◌<◌, ◌∙◌, length, refl, arith}
 use Rattle.std.proofs.lemmas.Result.{err_from_is_err_and}
 use Rattle.exb_outputs.specs.Manifests.{output_count, output_name}
-use Rattle.exb_outputs.specs.Writing.{pieces_of}
-use Rattle.exb_outputs.proofs.OutputLemmas.{can_be_written, name_of_file, is_flushed, more_empty, all_written, of_kind}
-use Rattle.exb_outputs.proofs.Cutting.{cut_piece}
-use Rattle.exb_outputs.proofs.ShelvingLemmas.{writes_from}
-use Rattle.exb_outputs.proofs.Sizes.{ready_with}
+use Rattle.exb_outputs.specs.WrittenTexts.{pieces_of}
+use Rattle.exb_outputs.proofs.WrittenTexts.{can_be_written, name_of_file, is_flushed, more_empty, all_written, of_kind}
+use Rattle.exb_outputs.proofs.OutputPrefixes.{cut_piece}
+use Rattle.exb_outputs.proofs.ShelfEffects.{writes_from}
+use Rattle.exb_outputs.proofs.CaptureSizes.{ready_with}
 use Rattle.exb_outputs.proofs.outputs.Outputs.finish.Goals as goal
 
 pub flush-requires : goal.flush-requires

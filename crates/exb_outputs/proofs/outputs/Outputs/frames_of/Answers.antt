@@ -1,5 +1,5 @@
 use Rattle.std.proofs.Common.{◌<◌, sym, length, arith}
-use Rattle.exb_outputs.proofs.Sizes.{frames_of_file}
+use Rattle.exb_outputs.proofs.CaptureSizes.{frames_of_file}
 use Rattle.exb_outputs.proofs.outputs.Outputs.frames_of.Goals as goal
 
 pub returns : goal.returns

@@ -1,5 +1,5 @@
 use Rattle.std.proofs.Common.{◌<◌, length, arith}
-use Rattle.exb_outputs.proofs.Sizes.{size_of_file}
+use Rattle.exb_outputs.proofs.CaptureSizes.{size_of_file}
 use Rattle.exb_outputs.proofs.outputs.Outputs.size_of.Goals as goal
 
 pub overflow_add-size : goal.overflow_add-size

@@ -1,11 +1,11 @@
 use Rattle.std.proofs.Common.{ap, ◌∙◌, arith, ◌≤◌, refl}
 use Rattle.std.proofs.lemmas.Result.{on_err_weaker, on_ok_weaker}
 use Rattle.exb_outputs.specs.Manifests.{kind_at, port_count}
-use Rattle.exb_outputs.specs.Writing.{pieces_of}
-use Rattle.exb_outputs.proofs.Sizes.{same_captures}
-use Rattle.exb_outputs.proofs.ByKind.{stands_behind}
-use Rattle.exb_outputs.proofs.OutputLemmas.{more_spelled}
-use Rattle.exb_outputs.proofs.Cutting.{cut_spelled}
+use Rattle.exb_outputs.specs.WrittenTexts.{pieces_of}
+use Rattle.exb_outputs.proofs.CaptureSizes.{same_captures}
+use Rattle.exb_outputs.proofs.KindPlaces.{stands_behind}
+use Rattle.exb_outputs.proofs.WrittenTexts.{more_spelled}
+use Rattle.exb_outputs.proofs.OutputPrefixes.{cut_spelled}
 use Rattle.exb_outputs.proofs.outputs.Outputs.write.Goals as goal
 
 pub add_to-requires-clause-within : goal.add_to-requires-clause-within

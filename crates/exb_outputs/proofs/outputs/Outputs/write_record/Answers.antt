@@ -1,11 +1,11 @@
 use Rattle.std.proofs.Common.{rules, ◌≡◌, ◌<◌, ◌+◌, ◌++◌, ℕ, length, length-append, get_or, set, ap, ◌∙◌, arith, refl}
 use Rattle.std.proofs.lemmas.Result.{on_err_weaker, on_ok_weaker}
-use Rattle.exb_text.specs.declared.output.Output.TheVariants as output
+use Rattle.exb_journal.specs.declared.file_names.OutputKind.TheVariants as output
 use Rattle.exb_outputs.specs.Manifests.{kind_at, output_count, output_name, place_in}
-use Rattle.exb_outputs.proofs.OutputLemmas.{by_kind, can_be_written, has_more_of, name_of_file, of_kind}
-use Rattle.exb_outputs.proofs.ByKind.{placed}
-use Rattle.exb_outputs.proofs.Cutting.{cut_at, cut_kind}
-use Rattle.exb_outputs.proofs.Sizes.{frame_sent, ready_with}
+use Rattle.exb_outputs.proofs.WrittenTexts.{by_kind, can_be_written, has_more_of, name_of_file, of_kind}
+use Rattle.exb_outputs.proofs.KindPlaces.{placed}
+use Rattle.exb_outputs.proofs.OutputPrefixes.{cut_at, cut_kind}
+use Rattle.exb_outputs.proofs.CaptureSizes.{frame_sent, ready_with}
 use Rattle.exb_outputs.proofs.outputs.Outputs.write_record.Goals as goal
 
 pub index_mut-file-requires : goal.index_mut-file-requires

@@ -1,6 +1,6 @@
 use Rattle.std.proofs.Common.{◌≡◌, ◌-◌, [], ap, sym, ◌∙◌, rules}
 use Rattle.std.specs.Prelude.{slice_index_or}
-use Rattle.exb_plan.specs.Counted.{used_in}
+use Rattle.exb_plan.specs.UseCounts.{used_in}
 use Rattle.exb_plan.proofs.UseRows.{used_none}
 use Rattle.exb_plan.proofs.group_uses.GroupUses.used.Goals as goal
 

@@ -1,5 +1,5 @@
 use Rattle.std.proofs.Common.{◌-◌, ◌<◌, length, arith}
-use Rattle.exb_plan.specs.Counted.{padded}
+use Rattle.exb_plan.specs.UseCounts.{padded}
 use Rattle.exb_plan.proofs.UseRows.{padded_length, padded_raised}
 use Rattle.exb_plan.proofs.group_uses.SpaceUses.raise.Goals as goal
 

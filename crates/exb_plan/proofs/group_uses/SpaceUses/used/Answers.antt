@@ -1,5 +1,5 @@
 use Rattle.std.proofs.Common.{◌≤◌, length, ap, sym, ◌∙◌, arith}
-use Rattle.exb_plan.specs.Counted.{padded, used_in}
+use Rattle.exb_plan.specs.UseCounts.{padded, used_in}
 use Rattle.exb_plan.proofs.UseRows.{padded_count, padded_length, used_count}
 use Rattle.exb_plan.proofs.group_uses.SpaceUses.used.Goals as goal
 

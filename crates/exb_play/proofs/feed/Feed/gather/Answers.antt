@@ -3,9 +3,9 @@ use Rattle.std.proofs.lemmas.Result.{err_from_is_err_and}
 use Rattle.exb_model.specs.Input.{Eager, Seeded}
 use Rattle.exb_inputs.proofs.Outcomes.{some_at}
 use Rattle.exb_play.specs.Disks.{disk}
-use Rattle.exb_play.specs.Playing.{mode_of}
-use Rattle.exb_play.proofs.Gathering.{gathers-all, gathers-alone}
-use Rattle.exb_play.proofs.Touching.{reads-err, reads-ok, taken-read}
+use Rattle.exb_play.specs.BridgeRuns.{mode_of}
+use Rattle.exb_play.proofs.GatheredSeconds.{gathers-all, gathers-alone}
+use Rattle.exb_play.proofs.DiskEffects.{reads-err, reads-ok, taken-read}
 use Rattle.exb_play.proofs.feed.Feed.gather.Goals as goal
 
 pub returns-in-Eager-clause-gathered : goal.returns-in-Eager-clause-gathered

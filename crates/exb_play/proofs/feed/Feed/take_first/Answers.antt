@@ -1,7 +1,7 @@
 use Rattle.std.proofs.Common.{rules}
 use Rattle.exb_inputs.proofs.Outcomes.{some_at}
 use Rattle.exb_play.specs.Disks.{disk}
-use Rattle.exb_play.proofs.Gathering.{takes-one}
+use Rattle.exb_play.proofs.GatheredSeconds.{takes-one}
 use Rattle.exb_play.proofs.feed.Feed.take_first.Goals as goal
 
 pub returns-in_ok-put-in-Some-Record-clause-taken : goal.returns-in_ok-put-in-Some-Record-clause-taken

@@ -1,10 +1,10 @@
 use Rattle.std.proofs.Common.{refl, [], ◌∷◌}
 use Rattle.std.proofs.lemmas.Result.{err_from_is_err_and}
-use Rattle.exb_merge.specs.Replays.{ids_in}
-use Rattle.exb_outputs.proofs.Keeping.{replays-read}
+use Rattle.exb_timeline.specs.CaptureMerges.{ids_in}
+use Rattle.exb_outputs.proofs.UntouchedInputs.{replays-read}
 use Rattle.exb_play.specs.Disks.{disk}
-use Rattle.exb_play.proofs.Gathering.{gathers-more, gathers-same}
-use Rattle.exb_play.proofs.Touching.{read-then, reads-err, reads-ok, taken-read}
+use Rattle.exb_play.proofs.GatheredSeconds.{gathers-more, gathers-same}
+use Rattle.exb_play.proofs.DiskEffects.{read-then, reads-err, reads-ok, taken-read}
 use Rattle.exb_play.proofs.feed.Feed.take_second.Goals as goal
 
 pub second-preserved : goal.second-preserved

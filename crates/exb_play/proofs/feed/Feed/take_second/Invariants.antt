@@ -1,6 +1,6 @@
-use Rattle.exb_merge.specs.Programmes.{left_of}
+use Rattle.exb_timeline.specs.Timelines.{left_of}
 use Rattle.exb_play.specs.Disks.{disk}
-use Rattle.exb_play.specs.UnderWay.{CanFeed, HasRead, HasTakenSecond}
+use Rattle.exb_play.specs.RunInvariants.{CanFeed, HasRead, HasTakenSecond}
 use Rattle.exb_play.proofs.feed.Feed.take_second.Given as goal
 
 abbrev pub invariant-second : goal.invariant-second

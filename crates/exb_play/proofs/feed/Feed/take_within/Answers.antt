@@ -1,15 +1,15 @@
 use Rattle.std.proofs.Common.{◌≡◌, false, rules, sym, subst}
 use Rattle.std.specs.Prelude.{Option, IfNone}
 use Rattle.exb_inputs.proofs.Outcomes.{some_at}
-use Rattle.exb_merge.specs.Agendas.{begins_in, still_to_come}
-use Rattle.exb_merge.specs.declared.programme.Next.{Next}
-use Rattle.exb_merge.specs.declared.programme.Programme.{Programme}
-use Rattle.exb_merge.specs.Programmes.{played_with}
-use Rattle.exb_merge.specs.Replays.{ids_in}
-use Rattle.exb_outputs.proofs.Keeping.{replays-unread}
+use Rattle.exb_timeline.specs.MergeOrder.{begins_in, still_to_come}
+use Rattle.exb_timeline.specs.declared.bridge_timeline.Next.{Next}
+use Rattle.exb_timeline.specs.declared.bridge_timeline.Timeline.{Timeline}
+use Rattle.exb_timeline.specs.Timelines.{played_with}
+use Rattle.exb_timeline.specs.CaptureMerges.{ids_in}
+use Rattle.exb_outputs.proofs.UntouchedInputs.{replays-unread}
 use Rattle.exb_play.specs.Disks.{disk}
-use Rattle.exb_play.specs.UnderWay.{HasStreams, NoMoreIn}
-use Rattle.exb_play.proofs.Gathering.{takes-one}
+use Rattle.exb_play.specs.RunInvariants.{HasStreams, NoMoreIn}
+use Rattle.exb_play.proofs.GatheredSeconds.{takes-one}
 use Rattle.exb_play.proofs.feed.Feed.take_within.Goals as goal
 
 pub returns-in_ok-put-in-Some-Record-clause-taken : goal.returns-in_ok-put-in-Some-Record-clause-taken
@@ -41,8 +41,8 @@ returns-in-None-clause-end g c t is streams replays =
     let q = c.next_within.new.self in
     let same : q ≡ p = subst (λ (o : Option Next). IfNone o (q ≡ p)) c.in-None.is c.in_ok-came.ensures.same in
     let none : NoMoreIn c.args.second (disk S c.args.shelf.now) p = subst (λ (o : Option Next). IfNone o (NoMoreIn c.args.second (disk S c.args.shelf.now) p)) c.in-None.is (c.in_ok-came.ensures.other t) in
-    let before = subst (λ (x : Programme). HasStreams (disk S c.next_within.new.shelf) x streams) same replays in
-    subst (λ (x : Programme). begins_in c.args.second (still_to_come (played_with streams x)) ≡ false) (sym same)
+    let before = subst (λ (x : Timeline). HasStreams (disk S c.next_within.new.shelf) x streams) same replays in
+    subst (λ (x : Timeline). begins_in c.args.second (still_to_come (played_with streams x)) ≡ false) (sym same)
     (none streams
     (replays-unread (S.file c.args.shelf.now) (S.file c.next_within.new.shelf) (S.ids c.args.shelf.now) (S.ids c.next_within.new.shelf) (ids_in p.captures) p.captures.sources.items streams
     c.requires.feed.programme.opened.each (record { files = c.next_within.ensures.files; reads = c.next_within.ensures.reads }) before))

@@ -2,7 +2,7 @@ use Rattle.std.proofs.Common.{◌≡◌, ◌∙◌, ℕ, ◌+◌, ◌*◌, ◌/�
 use Rattle.std.proofs.lemmas.Nat.Bits.{shr_and_one}
 use Rattle.exb_model.specs.Masks.{bits_of}
 use Rattle.exb_model.proofs.MaskLemmas.{bit_at-bits_of, bit_is_one}
-use Rattle.exb_relay.specs.Words.{is_hearer}
+use Rattle.exb_relay.specs.SendsBySource.{is_hearer}
 use Rattle.exb_relay.proofs.hearers.Hearers.has.Goals as goal
 
 pub returns : goal.returns

@@ -4,7 +4,7 @@ use Rattle.exb_model.specs.Configuration.{kind_in}
 use Rattle.exb_model.specs.Refusals.{is_kind}
 use Rattle.exb_model.proofs.MaskLemmas.{bits_of-same}
 use Rattle.exb_config.specs.Tables.{bridge_of}
-use Rattle.exb_config.proofs.Masks.{mask_both, mask_except}
+use Rattle.exb_config.proofs.PortMasks.{mask_both, mask_except}
 use Rattle.exb_relay.proofs.hearers.Hearers.mask.Goals as goal
 
 and_true : (b : Bool) → b ≡ (b && true)

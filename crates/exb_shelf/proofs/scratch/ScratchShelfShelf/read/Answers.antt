@@ -1,9 +1,9 @@
 use Rattle.std.proofs.Common.{arith, ◌≡◌}
 use Rattle.std.proofs.lemmas.Grind.{common_steps}
 use Rattle.exb_shelf.specs.Files.{bytes_of}
-use Rattle.exb_shelf.specs.Memory.{scratch_files as files_of, scratch_ids as ids_of}
-use Rattle.exb_shelf.proofs.EntryLemmas.{entries}
-use Rattle.exb_shelf.proofs.MemoryLemmas.{end_as}
+use Rattle.exb_shelf.specs.ScratchFiles.{scratch_files as files_of, scratch_ids as ids_of}
+use Rattle.exb_shelf.proofs.OpenFileLemmas.{entries}
+use Rattle.exb_shelf.proofs.ScratchLemmas.{end_as}
 use Rattle.exb_shelf.proofs.scratch.ScratchShelfShelf.read.Goals as goal
 
 pub returns-clause-end : goal.returns-clause-end

@@ -1,7 +1,7 @@
 use Rattle.std.proofs.Common.{arith, ◌≡◌}
-use Rattle.exb_shelf.specs.Entries.{id_at}
-use Rattle.exb_shelf.proofs.EntryLemmas.{entries}
-use Rattle.exb_shelf.proofs.MemoryLemmas.{put_whole}
+use Rattle.exb_shelf.specs.OpenFiles.{id_at}
+use Rattle.exb_shelf.proofs.OpenFileLemmas.{entries}
+use Rattle.exb_shelf.proofs.ScratchLemmas.{put_whole}
 use Rattle.exb_shelf.proofs.scratch.ScratchShelfShelf.write.Goals as goal
 
 pub returns-in-Ok-clause-appended : goal.returns-in-Ok-clause-appended

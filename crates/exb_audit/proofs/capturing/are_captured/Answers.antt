@@ -1,7 +1,0 @@
-use Rattle.std.specs.Prelude.{slice_index}
-use Rattle.exb_model.proofs.Words.{get_or-same}
-use Rattle.std.proofs.Common.{ℕ, List, ◌∙◌, ap}
-use Rattle.exb_audit.proofs.capturing.are_captured.Goals as goal
-
-pub count_all-requires-clause-none : goal.count_all-requires-clause-none
-count_all-requires-clause-none c = λ p. ap (λ (xs : List ℕ). slice_index xs p) (c.as_mut_slice.ensures.value ∙ c.in_ok-counts.ensures.items_if_clones_equal (λ y e. e)) ∙ get_or-same {X = ℕ} 4160 p 0

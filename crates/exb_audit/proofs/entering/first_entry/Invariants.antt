@@ -1,6 +1,0 @@
-use Rattle.std.proofs.Common.{◌≡◌, drop}
-use Rattle.exb_legal.specs.Entering.{entries}
-use Rattle.exb_audit.proofs.entering.first_entry.Given as goal
-
-abbrev pub invariant-loop-i : goal.invariant-loop-i
-invariant-loop-i l = entries (drop l.i l.lines) ≡ entries l.lines

@@ -1,5 +1,0 @@
-use Rattle.exb_audit.proofs.Watched.{rest_is}
-use Rattle.exb_audit.proofs.watching.behind.Goals as goal
-
-pub returns : goal.returns
-returns c = λ more. rest_is c.args.part.now c.args.frame.now c.strip_prefix.result more c.strip_prefix.ensures.cases

@@ -1,5 +1,0 @@
-use Rattle.exb_audit.proofs.Watched.{own_upstream}
-use Rattle.exb_audit.proofs.watching.is_own.Goals as goal
-
-pub returns-then-side-ne0-clause-value : goal.returns-then-side-ne0-clause-value
-returns-then-side-ne0-clause-value c = own_upstream c.args.side c.args.place c.args.bytes.now c.args.sends.now.first.items c.args.sends.now.second.items c.if-side-ne0.true

@@ -1,0 +1,13 @@
+pub mod ToldFiles
+pub mod UniqueEnd
+pub mod AuditSteps
+pub mod PortRange
+pub mod AuditCounts
+pub mod KnownFrames
+pub mod RunFiles
+pub mod FrameFiles
+pub mod CaptureFrames
+pub mod LineFeeds
+pub mod UniqueAnswers
+pub mod TextFiles
+pub mod FileCounts

@@ -1,0 +1,9 @@
+pub mod Scopes
+pub mod Audits
+pub mod OpenedFiles
+pub mod AuditLaws
+pub mod RunFiles
+pub mod FrameFiles
+pub mod CaptureFrames
+pub mod Lines
+pub mod LineFeeds

@@ -1,7 +1,0 @@
-pub mod Told
-pub mod Once
-pub mod Steps
-pub mod Ports
-pub mod Counted
-pub mod Given
-pub mod Found

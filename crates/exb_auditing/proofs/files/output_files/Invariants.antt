@@ -1,8 +1,0 @@
-use Rattle.std.proofs.Common.{◌≡◌}
-use Rattle.std.specs.Prelude.{flat_map}
-use Rattle.exb_model.specs.Ports.{below}
-use Rattle.exb_auditing.specs.Scopes.{output_file}
-use Rattle.exb_auditing.proofs.files.output_files.Given as goal
-
-abbrev pub invariant-ports : goal.invariant-ports
-invariant-ports l = l.files.items ≡ flat_map (output_file l.tree l.prefix) (below l.number)

@@ -1,2 +1,0 @@
-pub mod RowPorts
-pub mod Outs

@@ -1,6 +1,0 @@
-use Rattle.std.proofs.Common.{refl}
-use Rattle.exb_boxes.proofs.RowPorts.{row_empty}
-use Rattle.exb_boxes.proofs.rows.Row.none.Goals as goal
-
-pub returns-clause-ports : goal.returns-clause-ports
-returns-clause-ports c = row_empty (record { device = c.args.device; ports = 0 }) refl

@@ -1,4 +1,0 @@
-use Rattle.exb_bridge.proofs.asking.put_deeper.Given as goal
-
-abbrev pub ghost-put : goal.ghost-put
-ghost-put g a = g.rest

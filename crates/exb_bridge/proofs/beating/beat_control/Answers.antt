@@ -1,7 +1,0 @@
-use Rattle.std.proofs.Common.{sym, ◌∙◌}
-use Rattle.exb_bridge.specs.Worlds.{whole}
-use Rattle.exb_bridge.proofs.Beats.{beats_settled}
-use Rattle.exb_bridge.proofs.beating.beat_control.Goals as goal
-
-pub returns-then-settled : goal.returns-then-settled
-returns-then-settled g c = beats_settled c.args.site.now.tree c.args.site.now (whole g.rest c.args.bridge.now) c.args.room.now.post.log (sym c.settled.ensures ∙ c.if-settled.true) c.requires.0

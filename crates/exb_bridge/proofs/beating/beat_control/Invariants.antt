@@ -1,4 +1,0 @@
-use Rattle.exb_bridge.proofs.beating.beat_control.Given as goal
-
-abbrev pub ghost-beat_working : goal.ghost-beat_working
-ghost-beat_working g a = g.rest

@@ -1,4 +1,0 @@
-use Rattle.exb_bridge.proofs.beating.beat_near.Given as goal
-
-abbrev pub ghost-send_to_extender : goal.ghost-send_to_extender
-ghost-send_to_extender g a = g.rest

@@ -1,4 +1,0 @@
-use Rattle.exb_bridge.proofs.beating.beat_near_any.Given as goal
-
-abbrev pub ghost-beat_near : goal.ghost-beat_near
-ghost-beat_near g a = g.rest

@@ -1,4 +1,0 @@
-use Rattle.exb_bridge.proofs.relaying.come.Given as goal
-
-abbrev pub ghost-relay_on : goal.ghost-relay_on
-ghost-relay_on g a = g.rest

@@ -1,0 +1,4 @@
+pub mod FullestPort
+pub mod StartCommands
+pub mod SetCounts
+pub mod NeedLaws

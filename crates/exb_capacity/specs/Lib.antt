@@ -1,0 +1,3 @@
+pub mod NeededNumbers
+pub mod Lines
+pub mod Laws

@@ -1,5 +1,0 @@
-use Rattle.exb_capture.proofs.BlockLemmas.{blocks_are_a_format}
-use Rattle.exb_capture.proofs.blocks.BlocksFormat.is_a_format.Goals as goal
-
-pub returns : goal.returns
-returns c = blocks_are_a_format

@@ -1,5 +1,0 @@
-use Rattle.exb_changing.proofs.Runs.Serials.{one_waits_always}
-use Rattle.exb_changing.proofs.laws.one_waits_always.Goals as goal
-
-pub returns : goal.returns
-returns c = one_waits_always

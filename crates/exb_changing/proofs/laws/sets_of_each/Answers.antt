@@ -1,5 +1,0 @@
-use Rattle.exb_changing.proofs.Plans.SpaceSets.{sets_of_each}
-use Rattle.exb_changing.proofs.laws.sets_of_each.Goals as goal
-
-pub returns : goal.returns
-returns c = sets_of_each

@@ -1,0 +1,12 @@
+use Rattle.std.proofs.Common.{◌∙◌, ap, map, option_map, string_bytes}
+use Rattle.exb_cli.specs.CommandLines.{Check, items_of}
+use Rattle.exb_cli.specs.ParserSteps.{ask_of}
+use Rattle.exb_cli.proofs.Invocations.{check-is}
+use Rattle.exb_cli.proofs.command_line.check.Goals as goal
+
+pub returns-in_err-topology : goal.returns-in_err-topology
+returns-in_err-topology c =
+    ap (option_map ask_of) c.from_residual.ensures ∙ (ap (option_map Check) c.in_err-topology.ensures ∙ check-is (items_of (map string_bytes c.args.words.now)))
+
+pub returns : goal.returns
+returns c = ap (option_map Check) c.in_ok-topology.ensures ∙ check-is (items_of (map string_bytes c.args.words.now))

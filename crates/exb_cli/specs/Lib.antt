@@ -1,0 +1,4 @@
+pub mod CommandLines
+pub mod ParserSteps
+pub mod Laws
+pub mod Kinds

@@ -1,0 +1,11 @@
+pub mod Plans
+pub mod FreshGroups
+pub mod ReleasedNumbers
+pub mod CascadePlaces
+pub mod Commands
+pub mod Claims
+pub mod RequestCounts
+pub mod FirstClaims
+pub mod FirstJobs
+pub mod KnownExtenders
+pub mod Runs

@@ -1,4 +1,0 @@
-pub mod Frames
-pub mod Capturing
-pub mod Lines
-pub mod Feeding

@@ -1,9 +1,0 @@
-//! The tables of `exb_hostile`. One that can't be read ends its test.
-use exb_hostile::hex;
-use std::alloc::Global;
-use std::process::Abort;
-
-/// The bytes of a text of hexadecimal digits.
-pub(crate) fn bytes_of(rt: &impl Abort, alloc: Global, text: &str) -> Vec<u8> {
-    hex::bytes_of(alloc, text).expect(rt, "bytes as hexadecimal digits")
-}

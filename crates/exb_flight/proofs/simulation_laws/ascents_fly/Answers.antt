@@ -1,0 +1,5 @@
+use Rattle.exb_flight.proofs.SimulatedAscents.{ascents_fly}
+use Rattle.exb_flight.proofs.simulation_laws.ascents_fly.Goals as goal
+
+pub returns : goal.returns
+returns c = ascents_fly c.tag_round_trip.ensures c.sends_are_words.ensures c.sends_leave_as_flat.ensures

@@ -1,5 +1,0 @@
-use Rattle.exb_flying.proofs.Carrying.{ascents_fly}
-use Rattle.exb_flying.proofs.laws.ascents_fly.Goals as goal
-
-pub returns : goal.returns
-returns c = ascents_fly c.tag_round_trip.ensures c.sends_are_words.ensures c.sends_leave_as_flat.ensures

@@ -1,5 +1,0 @@
-use Rattle.exb_flying.proofs.Promising.{all_stand}
-use Rattle.exb_flying.proofs.laws.runs_stand.Goals as goal
-
-pub returns : goal.returns
-returns c = all_stand c.tag_round_trip.ensures c.sends_are_words.ensures c.sends_leave_as_flat.ensures

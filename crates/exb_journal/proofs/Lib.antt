@@ -1,0 +1,2 @@
+pub mod FileNameLemmas
+mod TextLemmas

@@ -1,9 +1,0 @@
-use Rattle.std.proofs.Common.{◌≡◌, length}
-use Rattle.exb_learn.specs.Stations.{is_elsewhere, KeepsAlike}
-use Rattle.exb_learn.proofs.forgetting.forget_port.Given as goal
-
-abbrev pub invariant-loop-slot : goal.invariant-loop-slot
-invariant-loop-slot l = KeepsAlike (is_elsewhere l.port) l.fn.store.entries l.store.entries × (l.store.room ≡ l.fn.store.room)
-
-abbrev pub decreases-loop-slot : goal.decreases-loop-slot
-decreases-loop-slot l = length l.store.entries

@@ -1,5 +1,0 @@
-use Rattle.exb_made.proofs.Validity.{made_valid}
-use Rattle.exb_made.proofs.laws.made_is_valid.Goals as goal
-
-pub returns : goal.returns
-returns c = made_valid

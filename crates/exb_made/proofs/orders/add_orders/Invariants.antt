@@ -1,8 +1,0 @@
-use Rattle.std.specs.List.{range_with_len}
-use Rattle.exb_made.specs.Draws.{Adds, for_each}
-use Rattle.exb_made.specs.Drawing.{order}
-use Rattle.exb_made.proofs.orders.add_orders.Given as goal
-
--- the commands so far
-abbrev pub invariant-loop-number : goal.invariant-loop-number
-invariant-loop-number l = Adds (for_each order (range_with_len 0 l.number)) l.fn.timed l.timed l.fn.rng l.rng

@@ -1,0 +1,5 @@
+pub mod Draws
+pub mod GeneratedTree
+pub mod DrawOrder
+pub mod GeneratedInputs
+pub mod GeneratedParts

@@ -1,5 +1,0 @@
-use Rattle.exb_merge.proofs.NetStart.{dues_are}
-use Rattle.exb_merge.proofs.laws.dues_of_all.Goals as goal
-
-pub returns : goal.returns
-returns c = dues_are

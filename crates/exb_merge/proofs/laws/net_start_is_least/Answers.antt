@@ -1,5 +1,0 @@
-use Rattle.exb_merge.proofs.NetStart.{start_is}
-use Rattle.exb_merge.proofs.laws.net_start_is_least.Goals as goal
-
-pub returns : goal.returns
-returns c = start_is

@@ -1,9 +1,0 @@
-pub mod Streams
-pub mod Turns
-pub mod Agendas
-pub mod Programmes
-pub mod Replays
-pub mod NetAgendas
-pub mod Counting
-pub mod Calls
-pub mod Laws

@@ -1,5 +1,0 @@
-use Rattle.exb_motion.proofs.Runs.Settles.{settling_always_plays}
-use Rattle.exb_motion.proofs.laws.runs.settling_always_plays.Goals as goal
-
-pub returns : goal.returns
-returns c = settling_always_plays c.tag_round_trip.ensures c.sends_are_words.ensures c.sends_leave_as_flat.ensures c.steps_tell.ensures c.steps_stay_written.ensures

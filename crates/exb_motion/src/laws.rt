@@ -1,3 +1,0 @@
-//! What is true of worlds in motion.
-pub mod motion;
-pub mod runs;

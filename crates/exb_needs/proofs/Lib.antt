@@ -1,4 +1,0 @@
-pub mod Fullest
-pub mod Opening
-pub mod Seen
-pub mod Lawful

@@ -1,3 +1,0 @@
-pub mod Needed
-pub mod Lines
-pub mod Laws

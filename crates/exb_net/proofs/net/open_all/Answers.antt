@@ -1,0 +1,49 @@
+use Rattle.std.proofs.Common.{◌<◌, ◌≤◌, ◌^◌, length, ap, arith}
+use Rattle.exb_net.proofs.ListPlaces.{all_written, begins_so_far, one_more_at, still_all}
+use Rattle.exb_net.proofs.net.open_all.Goals as goal
+
+pub loop-node-init : goal.loop-node-init
+loop-node-init g c = record { done = begins_so_far _ c.args.nodes.now.items c.deref_mut-node-items.result.now c.deref_mut-node-items.ensures.value; falls = begins_so_far _ c.args.nodes.now.items c.deref_mut-node-items.result.now c.deref_mut-node-items.ensures.value }
+
+pub open_one-requires : goal.open_one-requires
+open_one-requires g c =
+    let xs = c.args.nodes.now.items in
+    let ys = c.loop-node.node-items in
+    let i = c.loop-node.node-index in
+    let same = ap (λ zs. length zs) c.deref_mut-node-items.ensures.value in
+    let long = c.loop-node.invariant.done.long in
+    let inside : i < length ys = omega (arith, c.loop-node-test.true, same, long) in
+    still_all _ xs ys i (λ x. (goal.Fate-dyn g (x.fate.vtable, x.fate.value)).left x.fate.value < 2 ^ 57) c.node-item.result c.requires.few c.loop-node.invariant.done inside c.node-item.is
+
+pub loop-node-preserved : goal.loop-node-preserved
+loop-node-preserved g c =
+    let xs = c.args.nodes.now.items in
+    let ys = c.loop-node.node-items in
+    let i = c.loop-node.node-index in
+    let same = ap (λ zs. length zs) c.deref_mut-node-items.ensures.value in
+    let long = c.loop-node.invariant.done.long in
+    let inside : i < length ys = omega (arith, c.loop-node-test.true, same, long) in
+    record {
+      done = one_more_at _ xs ys i c.node-item.result c.open_one.new.node c.loop-node.invariant.done inside c.node-item.is c.in_ok-open_one.ensures.ok;
+      falls = one_more_at _ xs ys i c.node-item.result c.open_one.new.node c.loop-node.invariant.falls inside c.node-item.is c.in_ok-open_one.ensures.fate;
+    }
+
+pub returns-clause-ok : goal.returns-clause-ok
+returns-clause-ok g c =
+    let xs = c.args.nodes.now.items in
+    let ys = c.loop-node.node-items in
+    let i = c.loop-node.node-index in
+    let same = ap (λ zs. length zs) c.deref_mut-node-items.ensures.value in
+    let long = c.loop-node.invariant.done.long in
+    let end : length ys ≤ i = omega (arith, c.loop-node-test.false, same, long) in
+    all_written _ xs ys i c.args.nodes.now.len (omega (arith, c.args.nodes.now.ok.0)) c.loop-node.invariant.done end
+
+pub returns-clause-fates : goal.returns-clause-fates
+returns-clause-fates g c =
+    let xs = c.args.nodes.now.items in
+    let ys = c.loop-node.node-items in
+    let i = c.loop-node.node-index in
+    let same = ap (λ zs. length zs) c.deref_mut-node-items.ensures.value in
+    let long = c.loop-node.invariant.done.long in
+    let end : length ys ≤ i = omega (arith, c.loop-node-test.false, same, long) in
+    all_written _ xs ys i c.args.nodes.now.len (omega (arith, c.args.nodes.now.ok.0)) c.loop-node.invariant.falls end

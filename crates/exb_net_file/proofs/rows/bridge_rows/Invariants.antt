@@ -1,8 +1,0 @@
-use Rattle.exb_net_file.specs.Rows.{bridge_item}
-use Rattle.exb_keys.specs.Keys.{each, same_state}
-use Rattle.toml.specs.View.{items_view}
-use Rattle.exb_keys.proofs.Each.{So}
-use Rattle.exb_net_file.proofs.rows.bridge_rows.Given as goal
-
-abbrev pub invariant-loop-index : goal.invariant-loop-index
-invariant-loop-index l = So bridge_item same_state l.items l.index tt l.rows (each bridge_item same_state tt 0 (items_view l.items))

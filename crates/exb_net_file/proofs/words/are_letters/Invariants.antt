@@ -1,7 +1,0 @@
-use Rattle.std.proofs.Common.{◌≡◌, drop}
-use Rattle.std.specs.List.{list_all}
-use Rattle.exb_net_file.specs.Words.{is_letter}
-use Rattle.exb_net_file.proofs.words.are_letters.Given as goal
-
-abbrev pub invariant-loop-byte : goal.invariant-loop-byte
-invariant-loop-byte l = list_all is_letter (drop l.byte-index l.bytes) ≡ list_all is_letter l.bytes

@@ -1,9 +1,0 @@
-pub mod Lists
-pub mod Causes
-pub mod Opened
-pub mod Members
-pub mod Alone
-pub mod Refused
-pub mod Given
-pub mod Whole
-pub mod Loops

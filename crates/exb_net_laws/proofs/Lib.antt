@@ -1,0 +1,6 @@
+mod BridgeRuns
+mod NetRunLaws
+mod CountersGoOn
+mod Deliveries
+mod EventCounts
+mod OpenedBridges

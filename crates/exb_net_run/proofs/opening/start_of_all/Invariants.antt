@@ -1,8 +1,0 @@
-use Rattle.std.proofs.Common.{take}
-use Rattle.exb_inputs.proofs.Beginning.{IsLeastOf}
-use Rattle.exb_net_run.specs.Reopening.{seconds_of_all}
-use Rattle.exb_net_run.proofs.opening.start_of_all.Given as goal
-
--- The least second so far is that of the bridges so far.
-abbrev pub invariant-loop-captures : goal.invariant-loop-captures
-invariant-loop-captures l = IsLeastOf (seconds_of_all (take l.captures-index l.checked)) l.least

@@ -1,5 +1,0 @@
-use Rattle.exb_nets.proofs.Order.{dues_are_here, dues_in_order}
-use Rattle.exb_nets.proofs.laws.dues_are_in_order.Goals as goal
-
-pub returns : goal.returns
-returns c = λ n timely. (dues_are_here n, dues_in_order n timely)

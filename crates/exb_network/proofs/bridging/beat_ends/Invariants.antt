@@ -1,4 +1,0 @@
-use Rattle.exb_network.proofs.bridging.beat_ends.Given as goal
-
-abbrev pub ghost-beat_ends : goal.ghost-beat_ends
-ghost-beat_ends g a = g.rest

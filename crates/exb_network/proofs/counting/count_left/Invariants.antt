@@ -1,7 +1,0 @@
-use Rattle.std.proofs.Common.{◌≡◌, ◌≤◌, ◌*◌, length, take}
-use Rattle.exb_bridge.specs.Worlds.{all_left}
-use Rattle.exb_network.proofs.counting.count_left.Given as goal
-
--- those so far, at most 64 of each
-abbrev pub invariant-loop-frame : goal.invariant-loop-frame
-invariant-loop-frame l = (l.total ≡ length (all_left (take l.frame-index l.left))) × (l.total ≤ 64 * l.frame-index)

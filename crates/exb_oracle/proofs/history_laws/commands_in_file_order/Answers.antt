@@ -1,5 +1,0 @@
-use Rattle.exb_oracle.proofs.FileOrder.{commands_in_file_order}
-use Rattle.exb_oracle.proofs.history_laws.commands_in_file_order.Goals as goal
-
-pub returns : goal.returns
-returns c = commands_in_file_order

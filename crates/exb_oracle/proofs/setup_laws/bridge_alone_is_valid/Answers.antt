@@ -1,5 +1,0 @@
-use Rattle.exb_oracle.proofs.Alone.{bridge_alone_is_valid}
-use Rattle.exb_oracle.proofs.setup_laws.bridge_alone_is_valid.Goals as goal
-
-pub returns : goal.returns
-returns c = bridge_alone_is_valid

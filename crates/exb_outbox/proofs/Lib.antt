@@ -1,0 +1,2 @@
+pub mod PortMapBits
+pub mod OutputLines

@@ -1,6 +1,0 @@
-use Rattle.std.proofs.Common.{◌≡◌, take}
-use Rattle.exb_plan.proofs.asks.put_register.Given as goal
-
--- the rows so far are pushed
-abbrev pub invariant-loop-row : goal.invariant-loop-row
-invariant-loop-row l = l.many ≡ take l.row-index l.rows

@@ -1,7 +1,0 @@
-use Rattle.std.proofs.Common.{◌≡◌, take}
-use Rattle.exb_plan.specs.Working.{rows_of_covered}
-use Rattle.exb_plan.proofs.group_asks.rows_at.Given as goal
-
--- the rows of the groups so far
-abbrev pub invariant-loop-group : goal.invariant-loop-group
-invariant-loop-group l = l.rows.items ≡ rows_of_covered (take l.group-index l.covered) l.extender

@@ -1,8 +1,0 @@
-use Rattle.std.proofs.Common.{◌∙◌, sym}
-use Rattle.exb_plan.proofs.PartLists.{adds_none}
-use Rattle.exb_plan.proofs.touched.add_entry_for.Goals as goal
-
-pub returns-else-is_for : goal.returns-else-is_for
-returns-else-is_for g c t branches =
-    let d = g.V.View.bridge c.args.view.now in
-    rw (sym c.is_for.ensures ∙ c.if-is_for.false) (adds_none t d c.args.parts.now.items)

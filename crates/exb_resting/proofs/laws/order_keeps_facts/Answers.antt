@@ -1,5 +1,0 @@
-use Rattle.exb_resting.proofs.Orderly.{order_keeps_facts}
-use Rattle.exb_resting.proofs.laws.order_keeps_facts.Goals as goal
-
-pub returns : goal.returns
-returns c = order_keeps_facts c.tag_round_trip.ensures

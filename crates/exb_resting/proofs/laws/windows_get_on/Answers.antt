@@ -1,5 +1,0 @@
-use Rattle.exb_resting.proofs.Windows.{windows_get_on}
-use Rattle.exb_resting.proofs.laws.windows_get_on.Goals as goal
-
-pub returns : goal.returns
-returns c = windows_get_on c.tag_round_trip.ensures

@@ -1,4 +1,0 @@
-pub mod Schemas
-pub mod Rows
-pub mod Commands
-pub mod Tables

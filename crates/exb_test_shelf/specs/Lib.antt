@@ -1,0 +1,2 @@
+pub mod DisturbedFiles
+pub mod MemoryFiles

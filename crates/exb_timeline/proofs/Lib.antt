@@ -1,0 +1,25 @@
+pub mod SortedByMoment
+pub mod Arrivals
+pub mod ListMembers
+pub mod TournamentTree
+pub mod Racers
+pub mod InputMerge
+pub mod CommandsAmongRecords
+pub mod StartSecond
+pub mod PortOrder
+pub mod TimelineNext
+pub mod ListPlaces
+pub mod SourcePositions
+pub mod SourceTurns
+pub mod ToldSources
+pub mod SourcesOnShelf
+pub mod AddedSource
+pub mod NextRecord
+mod FaultCounts
+pub mod StableSort
+pub mod NetOrder
+pub mod NetStart
+pub mod NetIds
+pub mod ListTurns
+pub mod NetSteps
+pub mod TimelineProgress

@@ -1,0 +1,9 @@
+pub mod Streams
+pub mod Tournaments
+pub mod MergeOrder
+pub mod Timelines
+pub mod CaptureMerges
+pub mod NetMergeOrder
+pub mod FaultCounts
+pub mod CallContracts
+pub mod Laws

@@ -1,0 +1,4 @@
+pub mod Faults
+pub mod TextValues
+pub mod Keys
+pub mod Documents

@@ -1,0 +1,3 @@
+pub mod ItemCounts
+pub mod CaptureKeys
+pub mod CommandLimits

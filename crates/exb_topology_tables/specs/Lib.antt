@@ -1,0 +1,4 @@
+pub mod Schemas
+pub mod Elements
+pub mod Commands
+pub mod Tables

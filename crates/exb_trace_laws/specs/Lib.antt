@@ -1,0 +1,7 @@
+pub mod LinkEnds
+pub mod TraceRelation
+pub mod TraceConditions
+pub mod TraceLaws
+pub mod RunTraces
+pub mod JournalHistories
+pub mod TracePrefixes

@@ -1,0 +1,17 @@
+pub mod TextFields
+pub mod JournalLines
+pub mod TraceTexts
+pub mod Traversals
+pub mod Rule1Places
+pub mod Rule2Extenders
+pub mod Rule3Links
+pub mod Rule4Captures
+pub mod Rule5Relays
+pub mod LegalTrace
+pub mod RoundTrips
+pub mod WrongTraces
+pub mod Rules
+pub mod TraceChecker
+pub mod CheckerLaws
+pub mod WritableLines
+pub mod InputFrames

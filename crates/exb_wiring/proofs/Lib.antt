@@ -1,6 +1,0 @@
-mod Bridges
-mod Nets
-mod Counting
-mod Delivering
-mod More
-mod Newly

@@ -1,5 +1,0 @@
-use Rattle.exb_wiring.proofs.Delivering.{bridges_handle}
-use Rattle.exb_wiring.proofs.laws.bridges_handle.Goals as goal
-
-pub returns : goal.returns
-returns c = bridges_handle c.tag_round_trip.ensures c.sends_are_words.ensures c.sends_leave_as_flat.ensures c.steps_tell.ensures c.steps_stay_written.ensures

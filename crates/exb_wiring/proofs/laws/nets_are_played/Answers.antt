@@ -1,5 +1,0 @@
-use Rattle.exb_wiring.proofs.Nets.{nets_are_played}
-use Rattle.exb_wiring.proofs.laws.nets_are_played.Goals as goal
-
-pub returns : goal.returns
-returns c = nets_are_played c.tag_round_trip.ensures c.sends_are_words.ensures c.sends_leave_as_flat.ensures c.steps_tell.ensures c.steps_stay_written.ensures

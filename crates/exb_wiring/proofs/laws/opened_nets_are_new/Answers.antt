@@ -1,5 +1,0 @@
-use Rattle.exb_wiring.proofs.Newly.{opened_nets_are_new}
-use Rattle.exb_wiring.proofs.laws.opened_nets_are_new.Goals as goal
-
-pub returns : goal.returns
-returns c = opened_nets_are_new c.runs_are_few.ensures c.runs_are_under_way.ensures

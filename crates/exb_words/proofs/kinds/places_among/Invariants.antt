@@ -1,9 +1,0 @@
-use Rattle.std.proofs.Common.{◌≡◌, ◌<◌, ℕ, length, slice_index}
-use Rattle.exb_words.specs.Kinds.{place_among}
-use Rattle.exb_words.proofs.kinds.places_among.Given as goal
-
-abbrev pub invariant-loop-number : goal.invariant-loop-number
-invariant-loop-number l = record {
-  sized : length l.places ≡ 4;
-  each : (n : ℕ) → n < l.number → slice_index l.places n ≡ place_among n l.kinds;
-}

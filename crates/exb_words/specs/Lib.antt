@@ -1,4 +1,0 @@
-pub mod Words
-pub mod Asking
-pub mod Laws
-pub mod Kinds

@@ -1,0 +1,12 @@
+pub mod StepBeginnings
+pub mod ExtenderBeats
+pub mod Beats
+pub mod WorldInvariant
+pub mod StepLines
+pub mod ExtenderEgress
+pub mod ExtenderReactions
+pub mod ExtenderSends
+pub mod IdleExtenders
+pub mod LinkTurns
+pub mod FirstWorlds
+pub mod CallResults

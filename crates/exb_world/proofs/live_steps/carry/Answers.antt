@@ -1,0 +1,13 @@
+use Rattle.std.proofs.lemmas.Result.{on_ok_weaker}
+use Rattle.exb_world_spec.specs.Worlds.{Carry}
+use Rattle.exb_world.specs.Steps.{way_of}
+use Rattle.exb_world.proofs.StepLines.{enough, makes}
+use Rattle.exb_world.proofs.live_steps.carry.Goals as goal
+
+pub tell_rest-requires : goal.tell_rest-requires
+tell_rest-requires c = enough c.args.site.now c.args.core.now c.carry.new.core _ _ _ c.args.room.now.post.log _ _ c.in_ok-from.ensures c.in_ok-carry.ensures
+
+pub returns : goal.returns
+returns c =
+    on_ok_weaker c.tell_rest.result (λ told.
+    makes c.args.site.now c.args.core.now c.carry.new.core (Carry c.args.link (way_of c.args.way)) c.args.room.now.post.log _ _ _ _ c.stays_live.ensures.stays c.requires.can tt tt c.has_low_serials.ensures c.in_ok-from.ensures c.in_ok-carry.ensures told) c.tell_rest.ensures

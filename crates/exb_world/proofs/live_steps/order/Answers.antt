@@ -1,0 +1,12 @@
+use Rattle.std.proofs.lemmas.Result.{on_ok_weaker}
+use Rattle.exb_world_spec.specs.Worlds.{Order}
+use Rattle.exb_world.proofs.StepLines.{enough, makes}
+use Rattle.exb_world.proofs.live_steps.order.Goals as goal
+
+pub tell_rest-requires : goal.tell_rest-requires
+tell_rest-requires c = enough c.args.site.now c.args.core.now c.order.new.core _ _ _ c.args.room.now.post.log _ _ c.tell_nothing-from.ensures c.in_ok-order.ensures
+
+pub returns : goal.returns
+returns c =
+    on_ok_weaker c.tell_rest.result (λ told.
+    makes c.args.site.now c.args.core.now c.order.new.core (Order c.args.command.now) c.args.room.now.post.log _ _ _ _ c.stays_live.ensures.stays c.requires.can tt c.names_vlan.ensures c.has_low_serials.ensures c.tell_nothing-from.ensures c.in_ok-order.ensures told) c.tell_rest.ensures

@@ -1,0 +1,11 @@
+pub mod ArrivalPorts
+pub mod Steps
+pub mod ReachedWorlds
+pub mod LinkTurns
+pub mod MachineWorlds
+pub mod WorldContracts
+pub mod ExtenderEgress
+pub mod IdleExtenders
+pub mod StepLines
+pub mod LiveSteps
+pub mod Indices

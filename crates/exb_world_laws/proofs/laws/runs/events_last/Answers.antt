@@ -1,0 +1,5 @@
+use Rattle.exb_world_laws.proofs.Runs.OneBridge.{events_last}
+use Rattle.exb_world_laws.proofs.laws.runs.events_last.Goals as goal
+
+pub returns : goal.returns
+returns c = events_last c.tag_round_trip.ensures c.sends_are_words.ensures c.sends_leave_as_flat.ensures c.steps_tell.ensures c.steps_stay_written.ensures

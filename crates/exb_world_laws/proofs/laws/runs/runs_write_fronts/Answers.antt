@@ -1,0 +1,5 @@
+use Rattle.exb_world_laws.proofs.Runs.SegmentRuns.{runs_write_fronts}
+use Rattle.exb_world_laws.proofs.laws.runs.runs_write_fronts.Goals as goal
+
+pub returns : goal.returns
+returns c = runs_write_fronts c.tag_round_trip.ensures c.sends_are_words.ensures c.sends_leave_as_flat.ensures c.steps_tell.ensures c.steps_stay_written.ensures

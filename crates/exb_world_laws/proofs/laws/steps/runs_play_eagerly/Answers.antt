@@ -1,0 +1,5 @@
+use Rattle.exb_world_laws.proofs.HistoryPrefixes.{runs_play_eagerly}
+use Rattle.exb_world_laws.proofs.laws.steps.runs_play_eagerly.Goals as goal
+
+pub returns : goal.returns
+returns c = runs_play_eagerly c.tag_round_trip.ensures c.sends_are_words.ensures c.sends_leave_as_flat.ensures c.steps_tell.ensures c.steps_stay_written.ensures

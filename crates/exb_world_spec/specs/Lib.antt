@@ -1,0 +1,11 @@
+pub mod Worlds
+pub mod Effects
+pub mod ExtenderSteps
+pub mod BridgeLearning
+pub mod ControlFrames
+pub mod DataFrames
+pub mod Steps
+pub mod TraceLines
+pub mod AllowedSteps
+pub mod Settling
+pub mod Runs

@@ -1,7 +1,0 @@
-use Rattle.std.proofs.Common.{◌≡◌, take}
-use Rattle.exb_text.specs.Tallies.{counts_of}
-use Rattle.exb_writers.proofs.Counting.{count_events}
-use Rattle.exb_writers.proofs.counted.count_all.Given as goal
-
-abbrev pub invariant-loop-event : goal.invariant-loop-event
-invariant-loop-event l = counts_of l.tally ≡ count_events (counts_of l.fn.tally) (take l.event-index l.events)

@@ -1,4 +1,0 @@
-pub mod Texts
-pub mod Counts
-pub mod Leaving
-pub mod Telling
