@@ -9,8 +9,7 @@ use Rattle.exb_model.specs.Setup.{IsValid, limits_of, shape_of}
 use Rattle.exb_model.specs.Tree.{external_ports}
 use Rattle.exb_world.specs.WorldContracts.{Network}
 use Rattle.exb_bridge.specs.BridgeWorlds.{all_left}
-use Rattle.exb_world_laws.specs.WorldInvariant.{HasVid}
-use Rattle.exb_world_laws.specs.Runs.Settling.{beginning}
+use Rattle.exb_world_spec.specs.Runs.ReachedWorlds.{HasVid, beginning}
 use Rattle.exb_net_spec.specs.declared.wires.NetSetup.{NetSetup}
 use Rattle.exb_net_spec.specs.declared.wires.Wire.{Wire}
 use Rattle.exb_net_spec.specs.Nets.{Net, IsNet}

@@ -18,7 +18,7 @@ use Rattle.exb_bridge.specs.TreeIndexes.{Site}
 use Rattle.exb_bridge.specs.TreeIndexes.{limits_in as limits_at}
 use Rattle.exb_bridge.specs.BridgeWorlds.{all_left}
 use Rattle.exb_world_laws.specs.OneBridgeSteps.{IsGiving}
-use Rattle.exb_world_laws.specs.Runs.Settling.{MayTakeAll}
+use Rattle.exb_world_spec.specs.Runs.ReachedWorlds.{MayTakeAll}
 use Rattle.exb_schedule.specs.StepSequences.{IsMoved}
 use Rattle.exb_schedule.specs.PlayedSegments.{IsPlayedOut}
 use Rattle.exb_net_spec.specs.Nets.{Net}

@@ -15,7 +15,7 @@ use Rattle.exb_world.specs.WorldContracts.{Network, bounds_of, tree_of, world_of
 use Rattle.exb_bridge.specs.TreeIndexes.{Site}
 use Rattle.exb_bridge.specs.TreeIndexes.{limits_in as limits_at}
 use Rattle.exb_bridge.specs.BridgeWorlds.{all_left}
-use Rattle.exb_world_laws.specs.Runs.Settling.{MayTakeAll}
+use Rattle.exb_world_spec.specs.Runs.ReachedWorlds.{MayTakeAll}
 use Rattle.exb_schedule.specs.StepSequences.{IsMoved}
 use Rattle.exb_net_spec.specs.Nets.{Net, is_wired}
 use Rattle.exb_net_laws.specs.NetRuns.{Between, Dones, Handles, MayPass, does, limits_in, pass, tree_in}

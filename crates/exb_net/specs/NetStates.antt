@@ -3,7 +3,7 @@ use Rattle.std.specs.Prelude.{◌≡◌, ℕ, ◌+◌, ◌≤◌, ◌<◌, true,
 use Rattle.exb_model.specs.declared.setup.Setup.{Setup}
 use Rattle.exb_world_spec.specs.Settling.{nothing}
 use Rattle.exb_world_spec.specs.Worlds.{Step}
-use Rattle.exb_world_laws.specs.Runs.Settling.{beginning}
+use Rattle.exb_world_spec.specs.Runs.ReachedWorlds.{beginning}
 use Rattle.exb_net_spec.specs.declared.wires.NetSetup.{NetSetup}
 use Rattle.exb_net_spec.specs.Nets.{Net, IsNet, is_wired}
 use Rattle.exb_net_laws.specs.NetRuns.{AreOpened, Between, Dones, Empties, Handles, MayPass, pass}

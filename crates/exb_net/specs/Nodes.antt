@@ -5,8 +5,7 @@ use Rattle.exb_model.specs.declared.arrival.Arrival.{Arrival}
 use Rattle.exb_model.specs.Setup.{limits_of, shape_of}
 use Rattle.exb_model.specs.Tree.{external_ports}
 use Rattle.exb_world_spec.specs.Worlds.{Step, Arrive, Tick, Left}
-use Rattle.exb_world_laws.specs.WorldInvariant.{HasVid}
-use Rattle.exb_world_laws.specs.Runs.Settling.{beginning}
+use Rattle.exb_world_spec.specs.Runs.ReachedWorlds.{HasVid, beginning}
 use Rattle.exb_world.specs.WorldContracts.{Network, IsQuiet, IsSame, IsStepped, bounds_of, tree_of, world_of}
 use Rattle.exb_bridge.specs.BridgeWorlds.{all_left}
 use Rattle.exb_schedule.specs.PlayedSegments.{IsPlayedOut}

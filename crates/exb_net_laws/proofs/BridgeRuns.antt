@@ -33,11 +33,11 @@ use Rattle.exb_world_spec.specs.Runs.FrameBytes.{StepsStayWritten}
 use Rattle.exb_world_spec.proofs.Rounds.{run_then}
 use Rattle.exb_flight.proofs.KeptPromises.{then_append}
 use Rattle.exb_world_laws.specs.WorldInput.{Given, Came, Told, given_by, arrivals_of, arrivals_at, commands_of, basis_with}
-use Rattle.exb_world_laws.specs.WorldInvariant.{MayStart, HasVid, MayDoAll, given_in, Kept, basis_of}
+use Rattle.exb_world_laws.specs.WorldInvariant.{MayStart, MayDoAll, given_in, Kept, basis_of}
+use Rattle.exb_world_spec.specs.Runs.ReachedWorlds.{HasVid, MayTakeAll, beginning}
 use Rattle.exb_world_laws.specs.OneBridgeSteps.{IsGiving, told_of, IsOneEvent}
 use Rattle.exb_world_laws.specs.SegmentRuns.{Plays, nothing_given}
 use Rattle.exb_world_laws.specs.OneBridge.{Stands}
-use Rattle.exb_world_laws.specs.Runs.Settling.{MayTakeAll, beginning}
 use Rattle.exb_world_laws.proofs.FrameBytes.{setups_go_on}
 use Rattle.exb_world_laws.proofs.LongerHistories.{HasCommands, longer, bridge_stays, learned_stays, flat_stays, opening_stays}
 use Rattle.exb_world_laws.proofs.InvariantSteps.{commands_append}

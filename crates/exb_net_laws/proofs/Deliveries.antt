@@ -31,7 +31,7 @@ use Rattle.exb_world_laws.specs.WorldInput.{commands_of, basis_with}
 use Rattle.exb_world_laws.specs.WorldInvariant.{basis_of, given_in}
 use Rattle.exb_world_laws.specs.OneBridgeSteps.{IsGiving, told_of}
 use Rattle.exb_world_laws.specs.Runs.Crossings.{IsAlone, MayCross}
-use Rattle.exb_world_laws.specs.Runs.Settling.{MayTakeAll, beginning}
+use Rattle.exb_world_spec.specs.Runs.ReachedWorlds.{MayTakeAll, beginning}
 use Rattle.exb_world_laws.proofs.LongerHistories.{longer}
 use Rattle.exb_world_laws.proofs.Runs.Crossings.{commands_send_nothing, leaves_may_cross}
 use Rattle.exb_net_spec.specs.declared.wires.End.{End}

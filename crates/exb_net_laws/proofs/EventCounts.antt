@@ -25,7 +25,7 @@ use Rattle.exb_world_spec.specs.Runs.Sessions.{Each}
 use Rattle.exb_world_spec.specs.Runs.FrameBytes.{StepsStayWritten}
 use Rattle.exb_world_laws.specs.Runs.SegmentRuns.{none_counted}
 use Rattle.exb_flight.proofs.KeptPromises.{then_append}
-use Rattle.exb_world_laws.specs.Runs.Settling.{beginning}
+use Rattle.exb_world_spec.specs.Runs.ReachedWorlds.{beginning}
 use Rattle.exb_net_spec.specs.declared.wires.End.{End}
 use Rattle.exb_net_spec.specs.QueueTermination.{QueuesEndSoon, named_in}
 use Rattle.exb_net_spec.specs.Nets.{Net, IsNet, far_end, is_wired}

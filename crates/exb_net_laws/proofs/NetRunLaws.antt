@@ -27,9 +27,8 @@ use Rattle.exb_world_spec.specs.Runs.PassedFrames.{passed_over}
 use Rattle.exb_world_spec.specs.Runs.Sessions.{Each}
 use Rattle.exb_world_spec.specs.Runs.FrameBytes.{StepsStayWritten}
 use Rattle.exb_world_spec.proofs.Rounds.{run_then}
-use Rattle.exb_world_laws.specs.WorldInvariant.{HasVid}
+use Rattle.exb_world_spec.specs.Runs.ReachedWorlds.{HasVid, MayTakeAll, beginning}
 use Rattle.exb_world_laws.specs.OneBridgeSteps.{told_of}
-use Rattle.exb_world_laws.specs.Runs.Settling.{MayTakeAll, beginning}
 use Rattle.exb_net_spec.specs.declared.wires.End.{End}
 use Rattle.exb_net_spec.specs.declared.wires.Wire.{Wire}
 use Rattle.exb_net_spec.specs.Nets.{Net, IsEnd, IsNet, across, far_end, first_or, is_at, ends_of}

@@ -12,9 +12,9 @@ use Rattle.exb_world_spec.specs.Settling.{run}
 use Rattle.exb_world_spec.specs.Steps.{Stepped}
 use Rattle.exb_world_spec.specs.Worlds.{Step, Left, Mark}
 use Rattle.exb_world_laws.specs.WorldInput.{Given, arrivals_of, commands_of}
-use Rattle.exb_world_laws.specs.WorldInvariant.{HasVid, given_in}
+use Rattle.exb_world_laws.specs.WorldInvariant.{given_in}
+use Rattle.exb_world_spec.specs.Runs.ReachedWorlds.{HasVid, MayTakeAll, beginning}
 use Rattle.exb_world_laws.specs.Runs.SegmentRuns.{PlaysIn, RunsAreFew, RunsAreUnderWay}
-use Rattle.exb_world_laws.specs.Runs.Settling.{MayTakeAll, beginning}
 use Rattle.exb_world_laws.proofs.SegmentHistories.{each_moves}
 use Rattle.exb_net_laws.specs.NetRuns.{Opens}
 use Rattle.exb_net_laws.specs.EventCounts.{OpenedNetsAreNew}

@@ -10,8 +10,7 @@ use Rattle.exb_world_spec.specs.Settling.{run}
 use Rattle.exb_world_spec.specs.Steps.{Stepped}
 use Rattle.exb_world_spec.specs.Worlds.{Step, Arrive, Order}
 use Rattle.exb_world_spec.specs.Runs.Sessions.{Each}
-use Rattle.exb_world_laws.specs.WorldInvariant.{HasVid}
-use Rattle.exb_world_laws.specs.Runs.Settling.{MayTakeAll, beginning}
+use Rattle.exb_world_spec.specs.Runs.ReachedWorlds.{HasVid, MayTakeAll, beginning}
 use Rattle.exb_net_spec.specs.Nets.{Net, IsNet, is_wired}
 use Rattle.exb_net_spec.specs.NetHistory.{Crossing, named_at}
 use Rattle.exb_net_laws.specs.NetRuns.{Dones, Between, Handles, Delivers, MayPass, AreOpened, tree_in, limits_in, pass}

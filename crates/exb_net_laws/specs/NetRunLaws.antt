@@ -5,7 +5,7 @@ use Rattle.exb_model.specs.History.{◌then◌}
 use Rattle.exb_model.specs.Tree.{is_external}
 use Rattle.exb_world_spec.specs.Runs.PassedFrames.{passed_over}
 use Rattle.exb_world_spec.specs.Worlds.{left_at}
-use Rattle.exb_world_laws.specs.WorldInvariant.{HasVid}
+use Rattle.exb_world_spec.specs.Runs.ReachedWorlds.{HasVid}
 use Rattle.exb_net_spec.specs.Nets.{Net, IsNet}
 use Rattle.exb_net_spec.specs.NetHistory.{Due, Histories, Goes, NetEager, basis_in, dues, openings}
 use Rattle.exb_net_spec.specs.InputOrder.{AreHere, AreInOrder, AreTimely}

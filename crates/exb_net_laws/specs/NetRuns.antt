@@ -13,7 +13,7 @@ use Rattle.exb_world_spec.specs.Worlds.{World, Step, Arrive, Order, Tick, Mark, 
 use Rattle.exb_world_spec.specs.Runs.SessionLaws.{IsMove}
 use Rattle.exb_world_spec.specs.Runs.Sessions.{Each}
 use Rattle.exb_world_laws.specs.OneBridgeSteps.{IsGiving}
-use Rattle.exb_world_laws.specs.Runs.Settling.{MayTakeAll, beginning}
+use Rattle.exb_world_spec.specs.Runs.ReachedWorlds.{MayTakeAll, beginning}
 use Rattle.exb_net_spec.specs.Nets.{Net, far_end}
 use Rattle.exb_net_spec.specs.NetHistory.{Crossing, Due, crosses, basis_in, due_second}
 

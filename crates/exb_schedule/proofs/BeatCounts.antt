@@ -11,7 +11,7 @@ use Rattle.exb_world_spec.specs.Steps.{stepped}
 use Rattle.exb_world_spec.specs.Worlds.{World, Step, Arrive, Carry, Control, Lose, Beat, Tick, Order, Mark, next_beat}
 use Rattle.exb_world.specs.WorldContracts.{Network, world_of, tree_of, bounds_of}
 use Rattle.exb_settling_laws.specs.Rounds.{RoundsAreWhole}
-use Rattle.exb_world_laws.specs.Runs.Settling.{beginning}
+use Rattle.exb_world_spec.specs.Runs.ReachedWorlds.{beginning}
 use Rattle.exb_settling_laws.proofs.AgeingAndBeats.{beat_is_counted, step_stays}
 use Rattle.exb_schedule.specs.OneBridgeRuns.{SettlingCounts}
 use Rattle.exb_schedule.specs.ReachedWorlds.{Reached}

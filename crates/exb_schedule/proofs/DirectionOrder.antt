@@ -11,7 +11,7 @@ use Rattle.exb_world_spec.specs.Worlds.{World, Way, Up, Down, Beat}
 use Rattle.exb_world.specs.WorldContracts.{Network, world_of, tree_of, bounds_of, IsStepped}
 use Rattle.exb_bridge.specs.TreeIndexes.{Site, limits_in}
 use Rattle.exb_world.specs.LinkTurns.{order_of}
-use Rattle.exb_world_laws.specs.Runs.Settling.{MayTake}
+use Rattle.exb_world_spec.specs.Runs.ReachedWorlds.{MayTake}
 use Rattle.exb_schedule.specs.StepSequences.{HasGone}
 use Rattle.exb_schedule.specs.Rounds.{goes_along, goes_one_way, HasAsked, Leads}
 use Rattle.exb_schedule.proofs.StepSequences.{Play, gone_step, gone_world, leads_begin, leads_by, leads_end, leads_on, leads_same, run_step, then_end}

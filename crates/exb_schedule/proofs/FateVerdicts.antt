@@ -7,7 +7,7 @@ use Rattle.exb_link.specs.declared.link_frame.LinkFrame.{LinkFrame}
 use Rattle.exb_link.specs.LinkFrames.{is_control, leading}
 use Rattle.exb_world_spec.specs.Worlds.{Way, Control, Lose}
 use Rattle.exb_world.specs.WorldContracts.{Network, world_of, tree_of, IsStepped}
-use Rattle.exb_world_laws.specs.Runs.Settling.{MayTake}
+use Rattle.exb_world_spec.specs.Runs.ReachedWorlds.{MayTake}
 use Rattle.exb_schedule.specs.Rounds.{HasTaken}
 use Rattle.exb_schedule.proofs.StepSequences.{run_nothing, run_step}
 

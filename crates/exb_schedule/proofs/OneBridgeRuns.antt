@@ -26,7 +26,7 @@ use Rattle.exb_world_laws.specs.OneBridge.{Stands}
 use Rattle.exb_settling_laws.specs.SettlingBound.{costs}
 use Rattle.exb_world_laws.specs.Runs.Crossings.{IsAlone}
 use Rattle.exb_settling_laws.specs.Rounds.{IsGoneThrough, IsWhole, RoundsAreWhole}
-use Rattle.exb_world_laws.specs.Runs.Settling.{MayTakeAll, reached_by}
+use Rattle.exb_world_spec.specs.Runs.ReachedWorlds.{MayTakeAll, reached_by}
 use Rattle.exb_world_laws.specs.Runs.OneBridge.{IsCopyOut, IsLasting, IsLastingWith, IsPlayedStanding, RunsLast, EventsLast, PlaysStand}
 use Rattle.exb_schedule.specs.OneBridgeRuns.{EventsGoOn, PlayedStands, RoundsAreWholeOn, RunsStayStanding, SettledOwes}
 use Rattle.exb_schedule.specs.StepSequences.{HasRun, IsMoved}

@@ -17,13 +17,12 @@ use Rattle.exb_world_spec.specs.Worlds.{World, Step, Mark, Left, first_world}
 use Rattle.exb_world_spec.proofs.Rounds.{run_then}
 use Rattle.exb_world_spec.specs.Runs.SessionLaws.{IsMove}
 use Rattle.exb_world_spec.specs.Runs.Sessions.{Each}
-use Rattle.exb_world_laws.specs.WorldInvariant.{HasVid}
+use Rattle.exb_world_spec.specs.Runs.ReachedWorlds.{HasVid, MayTake, MayTakeAll}
 use Rattle.exb_world_laws.specs.SegmentRuns.{Gives}
 use Rattle.exb_world.specs.WorldContracts.{Network, world_of, tree_of, bounds_of, IsQuiet, IsStepped}
 use Rattle.exb_bridge.specs.TreeIndexes.{Site, limits_in}
 use Rattle.exb_bridge.specs.BridgeWorlds.{all_left}
 use Rattle.exb_world_laws.specs.Runs.SegmentRuns.{begin_of}
-use Rattle.exb_world_laws.specs.Runs.Settling.{MayTake, MayTakeAll}
 use Rattle.exb_schedule.specs.StepSequences.{HasRun, HasGone, HasEnded}
 use Rattle.exb_model.specs.declared.arrival.Arrival.{Arrival}
 use Rattle.exb_schedule.specs.SegmentRuns.{gives, HasPlayed, IsSegment}

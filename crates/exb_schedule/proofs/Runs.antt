@@ -6,7 +6,7 @@ use Rattle.exb_model.specs.Tree.{Shape}
 use Rattle.exb_world_spec.specs.Settling.{nothing, followed_by, run}
 use Rattle.exb_world_spec.specs.Steps.{Stepped, stepped}
 use Rattle.exb_world_spec.specs.Worlds.{World, Step, Left, Line}
-use Rattle.exb_world_laws.specs.Runs.Settling.{MayTakeAll}
+use Rattle.exb_world_spec.specs.Runs.ReachedWorlds.{MayTakeAll}
 
 pub then_nothing : (a : Stepped) → followed_by a (nothing a.world) ≡ a
 then_nothing a =

@@ -21,7 +21,7 @@ use Rattle.exb_world_laws.specs.WorldInvariant.{given_in}
 use Rattle.exb_world_laws.specs.SegmentRuns.{seconds_by, seconds_in, IsUnmarked}
 use Rattle.exb_world.specs.WorldContracts.{Network, world_of, tree_of, bounds_of, IsStepped}
 use Rattle.exb_bridge.specs.TreeIndexes.{Site}
-use Rattle.exb_world_laws.specs.Runs.Settling.{MayTake}
+use Rattle.exb_world_spec.specs.Runs.ReachedWorlds.{MayTake}
 use Rattle.exb_schedule.specs.SeededSegments.{left_of, seconds_of, MayCome, MayComeAll, MayOrderAll, IsReady, GoesOn, HasDrawn, Keeps}
 use Rattle.exb_schedule.specs.declared.remaining_input.RemainingInput.{RemainingInput}
 use Rattle.exb_schedule.specs.SegmentRuns.{arrive, gives, orders, CanAll, CanFrom, IsSegment}

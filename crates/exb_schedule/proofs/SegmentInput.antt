@@ -23,7 +23,7 @@ use Rattle.exb_world_laws.specs.WorldInvariant.{given_in}
 use Rattle.exb_world_laws.specs.SegmentRuns.{seconds_in, IsUnmarked, Gives, IsEager, nothing_given}
 use Rattle.exb_world.specs.WorldContracts.{Network, world_of, tree_of, bounds_of, IsStepped}
 use Rattle.exb_bridge.specs.TreeIndexes.{Site, limits_in}
-use Rattle.exb_world_laws.specs.Runs.Settling.{MayTake}
+use Rattle.exb_world_spec.specs.Runs.ReachedWorlds.{MayTake}
 use Rattle.exb_schedule.specs.StepSequences.{HasRun}
 use Rattle.exb_schedule.specs.SegmentRuns.{arrive, gives, letters_in, orders, tick, CanAll, CanFrom, IsSegment}
 use Rattle.exb_schedule.proofs.StepSequences.{run_nothing, run_step, run_steps}

@@ -13,10 +13,10 @@ use Rattle.exb_world_spec.specs.Runs.SessionLaws.{IsMove}
 use Rattle.exb_world_spec.specs.Runs.Sessions as machine
 use Rattle.exb_world_spec.proofs.Rounds.{run_then}
 use Rattle.exb_flight.specs.Items.{Each}
-use Rattle.exb_world_laws.specs.WorldInvariant.{HasVid, given_in}
+use Rattle.exb_world_laws.specs.WorldInvariant.{given_in}
+use Rattle.exb_world_spec.specs.Runs.ReachedWorlds.{HasVid, MayTakeAll}
 use Rattle.exb_world_laws.specs.SegmentRuns.{seconds_in, IsUnmarked, Plays, PlayAll, IsEager, marked_each, nothing_given}
 use Rattle.exb_world_laws.specs.Runs.SegmentRuns.{begin_of, AreOrdered, PlaysIn}
-use Rattle.exb_world_laws.specs.Runs.Settling.{MayTakeAll}
 use Rattle.exb_schedule.proofs.Runs.{take_then}
 
 -- ---- marks

@@ -14,7 +14,8 @@ use Rattle.exb_world.specs.WorldContracts.{Network, world_of, tree_of, bounds_of
 use Rattle.exb_bridge.specs.TreeIndexes.{Site, limits_in}
 use Rattle.exb_settling_laws.specs.SettlingBound.{costs}
 use Rattle.exb_settling_laws.specs.SettlingLaws.{RoundsSpend}
-use Rattle.exb_world_laws.specs.Runs.Settling.{Settles, reached_by}
+use Rattle.exb_world_laws.specs.Runs.Settling.{Settles}
+use Rattle.exb_world_spec.specs.Runs.ReachedWorlds.{reached_by}
 use Rattle.exb_schedule.specs.ReachedWorlds.{Reached}
 use Rattle.exb_schedule.specs.Rounds.{HasAsked, HasSettled, Leads, rounds_made}
 use Rattle.exb_schedule.proofs.StepSequences.{costs_then, same_then, leads_begin, leads_by, leads_end, leads_on, gone_world}

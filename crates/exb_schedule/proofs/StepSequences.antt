@@ -16,7 +16,7 @@ use Rattle.exb_world.specs.WorldContracts.{Network, world_of, tree_of, bounds_of
 use Rattle.exb_bridge.specs.TreeIndexes.{Site, limits_in}
 use Rattle.exb_bridge.specs.BridgeWorlds.{all_left}
 use Rattle.exb_settling_laws.specs.SettlingBound.{costs}
-use Rattle.exb_world_laws.specs.Runs.Settling.{MayTake, MayTakeAll}
+use Rattle.exb_world_spec.specs.Runs.ReachedWorlds.{MayTake, MayTakeAll}
 use Rattle.exb_schedule.specs.StepSequences.{IsMoved, HasRun, HasGone}
 use Rattle.exb_schedule.specs.Rounds.{HasAsked, Leads}
 use Rattle.exb_schedule.proofs.Runs.{then_nothing, then_then, one_step, take_then}

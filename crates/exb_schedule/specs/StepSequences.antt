@@ -9,7 +9,7 @@ use Rattle.exb_world_spec.specs.Runs.SessionLaws.{IsMove}
 use Rattle.exb_world_spec.specs.Runs.Sessions.{Each}
 use Rattle.exb_world.specs.WorldContracts.{Network, world_of, tree_of, bounds_of, IsSame}
 use Rattle.exb_bridge.specs.BridgeWorlds.{all_left}
-use Rattle.exb_world_laws.specs.Runs.Settling.{MayTakeAll}
+use Rattle.exb_world_spec.specs.Runs.ReachedWorlds.{MayTakeAll}
 
 -- The network is where this was done: its world is that, and what was told and has left stands behind what was told and had left
 -- before; so do the lines of its trace, where one is kept, and else none is added.

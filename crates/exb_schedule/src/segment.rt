@@ -6,7 +6,7 @@ ghost use Rattle.exb_world_spec.specs.AllowedSteps.{Can, IsSettled};
 ghost use Rattle.exb_world_spec.specs.Worlds.{Mark, Order};
 ghost use Rattle.exb_world.specs.WorldContracts.{world_of, tree_of, bounds_of, IsSame, IsStepped};
 ghost use Rattle.exb_bridge.specs.BridgeWorlds.{all_left};
-ghost use Rattle.exb_world_laws.specs.Runs.Settling.{MayTake};
+ghost use Rattle.exb_world_spec.specs.Runs.ReachedWorlds.{MayTake};
 ghost use Rattle.exb_schedule.specs.StepSequences.{HasEnded, HasRun};
 ghost use Rattle.exb_schedule.specs.SegmentRuns.{gives, letters_in, orders, CanAll, HasPlayed, PlaysOn};
 ghost use Rattle.exb_schedule.specs.PlayedSegments.{IsPlayedOut};

@@ -23,7 +23,7 @@ use Rattle.exb_world_laws.specs.WorldInvariant.{given_in as given_of}
 use Rattle.exb_world_laws.specs.SettledHistories.{SettledIsOrderly}
 use Rattle.exb_world_laws.specs.SegmentRuns.{marked_each}
 use Rattle.exb_world_laws.specs.Runs.SegmentRuns.{begin_of}
-use Rattle.exb_world_laws.specs.Runs.Settling.{MayTakeAll}
+use Rattle.exb_world_spec.specs.Runs.ReachedWorlds.{MayTakeAll}
 use Rattle.exb_world_laws.proofs.Runs.SegmentRuns.{start, settled, runs_write_legally}
 use Rattle.exb_world_laws.proofs.Runs.PartialRuns.{all_given}
 use Rattle.exb_trace_spec.specs.Rule5Relays.{NamesRecord, Enters, IsStep, AreSteps}

@@ -20,7 +20,7 @@ use Rattle.exb_world_laws.proofs.InvariantSteps.{kept_pvids}
 use Rattle.exb_world_laws.proofs.UpwardFrames.{record_of}
 use Rattle.exb_world_laws.proofs.Setups.{setups_may_start}
 use Rattle.exb_world_laws.proofs.OneBridge.{kept_is_clean}
-use Rattle.exb_world_laws.specs.Runs.Settling.{MayTakeAll, beginning}
+use Rattle.exb_world_spec.specs.Runs.ReachedWorlds.{MayTakeAll, beginning}
 use Rattle.exb_world_laws.proofs.Runs.Settling.{IsRun, step_run, begins, runs_stay_low}
 use Rattle.exb_trace_laws.specs.TraceLaws.{BeginsTraced, BeginsServing, RunsStayTraced, SettledIsLegal, StaysReady, given_in}
 use Rattle.exb_world_spec.specs.TraceLines.{all_told}

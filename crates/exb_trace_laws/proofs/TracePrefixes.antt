@@ -33,7 +33,8 @@ use Rattle.exb_trace_spec.specs.LegalTrace.{LegalTrace}
 use Rattle.exb_world_laws.specs.WorldInput.{Given, Came, Told, arrivals_of, indices_of, basis_with}
 use Rattle.exb_world_laws.specs.WorldInput.{arrivals_at as given_at}
 use Rattle.exb_world_laws.specs.FrameBytes.{MayGoAll}
-use Rattle.exb_world_laws.specs.WorldInvariant.{MayStart, HasVid, MayDoAll, given_in, basis_of}
+use Rattle.exb_world_laws.specs.WorldInvariant.{MayStart, MayDoAll, given_in, basis_of}
+use Rattle.exb_world_spec.specs.Runs.ReachedWorlds.{HasVid}
 use Rattle.exb_world_laws.specs.SegmentRuns.{nothing_given, marked_each, PlayAll, IsTimely}
 use Rattle.exb_world_laws.specs.Runs.SegmentRuns.{begin_of}
 use Rattle.exb_world_laws.proofs.FrameBytes.{runs_go_on}

@@ -33,7 +33,7 @@ use Rattle.exb_world_laws.specs.WorldInvariant.{MayStart, MayDoAll, basis_of}
 use Rattle.exb_world_laws.specs.OneBridge.{IsWordOf, Stands}
 use Rattle.exb_world_laws.proofs.FrameBytes.{going}
 use Rattle.exb_world_laws.proofs.Setups.{setups_may_start}
-use Rattle.exb_world_laws.specs.Runs.Settling.{MayTakeAll, beginning, reached_by}
+use Rattle.exb_world_spec.specs.Runs.ReachedWorlds.{MayTakeAll, beginning, reached_by}
 use Rattle.exb_world_laws.proofs.Runs.Settling.{IsRun, begins, go_after, run_after, step_run}
 use Rattle.exb_trace_laws.specs.TraceLaws.{RunsStayTraced, StaysReady}
 use Rattle.exb_trace_laws.specs.TraceConditions.{AwaitsNext, IsRecord, Serves, ServesStations}

@@ -10,11 +10,10 @@ use Rattle.exb_world_spec.specs.Steps.{Stepped}
 use Rattle.exb_world_spec.specs.Worlds.{Step, Left}
 use Rattle.exb_model.specs.Traces.{TraceLine}
 use Rattle.exb_world_laws.specs.WorldInput.{Given, arrivals_of}
-use Rattle.exb_world_laws.specs.WorldInvariant.{HasVid}
+use Rattle.exb_world_spec.specs.Runs.ReachedWorlds.{HasVid, MayTakeAll, beginning, reached_by}
 use Rattle.exb_world_laws.specs.SegmentRuns.{IsTimely}
 use Rattle.exb_world_laws.specs.OneBridge.{Stands}
 use Rattle.exb_world_laws.specs.Runs.SegmentRuns.{PlaysIn}
-use Rattle.exb_world_laws.specs.Runs.Settling.{MayTakeAll, beginning, reached_by}
 use Rattle.exb_trace_laws.specs.TraceLaws.{given_in, told_after}
 use Rattle.exb_trace_spec.specs.InputFrames.{frames_in, frames_out}
 use Rattle.exb_trace_spec.specs.LegalTrace.{LegalTrace}

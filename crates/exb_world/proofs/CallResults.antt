@@ -7,7 +7,7 @@ use Rattle.exb_bridge.specs.TreeIndexes.{Site}
 use Rattle.exb_world.specs.declared.parts.WorldParts.{WorldParts}
 use Rattle.exb_world.specs.LiveSteps.{Makes}
 use Rattle.exb_world.specs.WorldContracts.{Network, IsStepped, network_of, tree_of, world_of}
-use Rattle.exb_world_laws.specs.Runs.Settling.{MayTake}
+use Rattle.exb_world_spec.specs.Runs.ReachedWorlds.{MayTake}
 
 pub closes : {T E : Type 0} {v : T} (made : Result T E) (step : Step) (s : Site) (c d : WorldParts) (old new : Log) (n : Network) (failed after : Bool) → network_of s c old failed ≡ n →
     OnOk made (Makes step s c d old new) → (made ≡ Ok v) × (after ≡ failed) → IsStepped step n (network_of s d new after)

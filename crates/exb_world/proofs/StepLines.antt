@@ -18,8 +18,7 @@ use Rattle.exb_world.specs.WorldContracts.{IsStepped, network_of}
 use Rattle.exb_bridge.specs.TreeIndexes.{Site, limits_in}
 use Rattle.exb_outbox.specs.Logs.{if_tracing}
 use Rattle.exb_bridge.specs.BridgeWorlds.{all_left}
-use Rattle.exb_world_laws.specs.WorldInvariant.{HasVidIn}
-use Rattle.exb_world_laws.specs.Runs.Settling.{MayTake}
+use Rattle.exb_world_spec.specs.Runs.ReachedWorlds.{HasVidIn, MayTake}
 use Rattle.exb_world.specs.MachineWorlds.{world_in, Does}
 
 -- ---- where a trace is kept, and where it isn't

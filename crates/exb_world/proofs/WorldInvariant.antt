@@ -24,9 +24,7 @@ use Rattle.exb_outbox.specs.declared.log.Log.{Log}
 use Rattle.exb_world.specs.declared.parts.WorldParts.{WorldParts}
 use Rattle.exb_world.specs.IdleExtenders.{IsIdle}
 use Rattle.exb_world.specs.WorldContracts.{IsLive}
-use Rattle.exb_world.specs.ReachedWorlds.{IsReached}
-use Rattle.exb_world_laws.specs.WorldInvariant.{HasVid, HasVidIn}
-use Rattle.exb_world_laws.specs.Runs.Settling.{MayTake, MayTakeAll, beginning, reached_by}
+use Rattle.exb_world_spec.specs.Runs.ReachedWorlds.{IsReached, HasVid, HasVidIn, MayTake, MayTakeAll, beginning, reached_by}
 use Rattle.exb_world_spec.specs.Steps.{Stepped}
 use Rattle.exb_world_spec.proofs.Rounds.{run_then}
 use Rattle.exb_bridge.specs.TreeIndexes.{Site, limits_in}

@@ -1,6 +1,5 @@
 pub mod ArrivalPorts
 pub mod Steps
-pub mod ReachedWorlds
 pub mod LinkTurns
 pub mod MachineWorlds
 pub mod WorldContracts

@@ -8,8 +8,7 @@ use Rattle.exb_outbox.specs.declared.log.Log.{Log}
 use Rattle.exb_bridge.specs.TreeIndexes.{Site, limits_in}
 use Rattle.exb_world.specs.declared.parts.WorldParts.{WorldParts}
 use Rattle.exb_world.specs.WorldContracts.{IsLive, IsStepped, network_of}
-use Rattle.exb_world_laws.specs.WorldInvariant.{HasVidIn}
-use Rattle.exb_world_laws.specs.Runs.Settling.{MayTake}
+use Rattle.exb_world_spec.specs.Runs.ReachedWorlds.{HasVidIn, MayTake}
 use Rattle.exb_world.specs.MachineWorlds.{world_in, Does}
 
 -- The parts make a step: they are live behind it, and it is one of the network, whether memory had run out before or not.

@@ -13,7 +13,7 @@ use Rattle.exb_world_spec.specs.Runs.Simulation.{IsSound}
 use Rattle.exb_world_spec.specs.Runs.FrameBytes.{AreWritten}
 use Rattle.exb_bridge.specs.TreeIndexes.{Site, limits_in}
 use Rattle.exb_world.specs.Steps.{way_of}
-use Rattle.exb_world.specs.ReachedWorlds.{IsReached}
+use Rattle.exb_world_spec.specs.Runs.ReachedWorlds.{IsReached}
 use Rattle.exb_bridge.specs.BridgeWorlds.{all_left}
 use Rattle.exb_world.specs.MachineWorlds.{world_in, IsAt}
 

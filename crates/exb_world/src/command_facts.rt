@@ -1,6 +1,6 @@
 //! What the type of commands brings, as a fact for whoever calls these functions. They do nothing.
 ghost use Rattle.std.specs.Prelude.{All};
-ghost use Rattle.exb_world_laws.specs.WorldInvariant.{HasVid};
+ghost use Rattle.exb_world_spec.specs.Runs.ReachedWorlds.{HasVid};
 
 use exb_model::command::Command;
 

@@ -27,7 +27,8 @@ use Rattle.exb_world_spec.specs.Runs.FrameBytes.{StepsStayWritten}
 use Rattle.exb_flight.specs.Items.{Each}
 use Rattle.exb_world_laws.specs.WorldInput.{basis_with}
 use Rattle.exb_world_laws.specs.FrameBytes.{MayGoAll}
-use Rattle.exb_world_laws.specs.WorldInvariant.{MayStart, HasVid, MayDoAll, given_in, basis_of}
+use Rattle.exb_world_laws.specs.WorldInvariant.{MayStart, MayDoAll, given_in, basis_of}
+use Rattle.exb_world_spec.specs.Runs.ReachedWorlds.{HasVid}
 use Rattle.exb_world_laws.specs.SegmentRuns.{nothing_given, marked_each, PlayAll, IsTimely, IsEager, RunsPlayEagerly}
 use Rattle.exb_flight.proofs.KeptPromises.{then_append}
 use Rattle.exb_world_laws.proofs.EagerHistories.{IsSingle, eager_singles, eager_is, tick_in, with_tick_is}

@@ -67,7 +67,8 @@ use Rattle.exb_flight.proofs.WorldPromises.{all_fly}
 use Rattle.exb_flight.proofs.KeptPromises.{then_append, stood_promises, step_stands}
 use Rattle.exb_world_laws.specs.WorldInput.{Given, Came, Told, given_by, arrivals_at, commands_of, indices_of, basis_with}
 use Rattle.exb_world_laws.specs.OneBridge.{FollowsGiven, IsWordOf, NamesGiven}
-use Rattle.exb_world_laws.specs.WorldInvariant.{HasVid, HasVidIn, MayStart, MayDo, IsSurely, Kept, StepsKeep}
+use Rattle.exb_world_laws.specs.WorldInvariant.{MayStart, MayDo, IsSurely, Kept, StepsKeep}
+use Rattle.exb_world_spec.specs.Runs.ReachedWorlds.{HasVid, HasVidIn}
 use Rattle.exb_world_laws.proofs.DecidedJobs.{IsJust, AreJust, journal_just}
 use Rattle.exb_world_laws.proofs.LongerHistories.{HasCommands, longer, bridge_stays, table_stays, flat_stays, surely_stays, pvids_after}
 use Rattle.exb_world_laws.proofs.JobOrder.{decided_of}

@@ -27,7 +27,8 @@ use Rattle.exb_learn.proofs.HistoryTables.{looks_learned}
 use Rattle.exb_config.specs.Pvids.{HasPvids}
 use Rattle.exb_flight.specs.Items.{Each}
 use Rattle.exb_flight.proofs.IndexLists.{numbered_more}
-use Rattle.exb_world_laws.specs.WorldInvariant.{HasVid, IsSurely}
+use Rattle.exb_world_laws.specs.WorldInvariant.{IsSurely}
+use Rattle.exb_world_spec.specs.Runs.ReachedWorlds.{HasVid}
 
 -- the command of an event was given
 abbrev pub HasCommand : Basis → Event → Type 0

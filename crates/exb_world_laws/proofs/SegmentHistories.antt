@@ -34,7 +34,8 @@ use Rattle.exb_flight.specs.NamedArrivals.{times, firsts}
 use Rattle.exb_flight.proofs.KeptPromises.{then_append}
 use Rattle.exb_world_laws.specs.WorldInput.{Given, Came, Told, given_by, arrivals_of, arrivals_at, commands_of, indices_of, basis_with}
 use Rattle.exb_world_laws.specs.OneBridge.{up_port, IsOfArrival, IsRightly, IsRisen, Stands}
-use Rattle.exb_world_laws.specs.WorldInvariant.{MayStart, HasVid, MayDoAll, given_in, Kept, basis_of}
+use Rattle.exb_world_laws.specs.WorldInvariant.{MayStart, MayDoAll, given_in, Kept, basis_of}
+use Rattle.exb_world_spec.specs.Runs.ReachedWorlds.{HasVid}
 use Rattle.exb_world_laws.specs.SettledHistories.{IsOrderly, IsPlayed}
 use Rattle.exb_world_laws.specs.SegmentRuns.{seconds_by, seconds_in, IsUnmarked, Plays, nothing_given, marked_each, PlayAll, IsTimely, RunsPlayLegally, IsEager, SettlingPlays}
 use Rattle.exb_world_laws.specs.FrameBytes.{MayGoAll}

@@ -13,7 +13,8 @@ use Rattle.exb_model.proofs.PortBits.{get_or-same}
 use Rattle.exb_config.specs.Pvids.{HasPvids}
 use Rattle.exb_control_spec.proofs.Runs.InitialMachine.{setups_begin}
 use Rattle.exb_world_spec.proofs.Setups.{few_ports}
-use Rattle.exb_world_laws.specs.WorldInvariant.{HasVid, SetupsMayStart}
+use Rattle.exb_world_laws.specs.WorldInvariant.{SetupsMayStart}
+use Rattle.exb_world_spec.specs.Runs.ReachedWorlds.{HasVid}
 use Rattle.exb_world_laws.proofs.LongerHistories.{pvids_command}
 
 -- ---- what is no extender hangs nowhere

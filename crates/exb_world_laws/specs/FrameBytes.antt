@@ -12,7 +12,8 @@ use Rattle.exb_world_spec.specs.Runs.SessionLaws.{HasBytes, AreBytes}
 use Rattle.exb_world_spec.specs.Runs.Sessions.{AreLow}
 use Rattle.exb_world_spec.specs.Runs.FrameBytes.{AreWritten, AreShort}
 use Rattle.exb_world_laws.specs.WorldInput.{Given}
-use Rattle.exb_world_laws.specs.WorldInvariant.{MayStart, HasVid, HasVidIn, MayDo, MayDoAll, Kept}
+use Rattle.exb_world_laws.specs.WorldInvariant.{MayStart, MayDo, MayDoAll, Kept}
+use Rattle.exb_world_spec.specs.Runs.ReachedWorlds.{HasVid, HasVidIn}
 
 -- A step that may be made, with a frame of bytes, serials that fit their field and VLANs in their range. All but `can` are
 -- facts of the code's types.

@@ -14,7 +14,8 @@ use Rattle.exb_world_spec.specs.Steps.{Stepped}
 use Rattle.exb_world_spec.specs.Worlds.{World, Step, Tick, Mark, first_world}
 use Rattle.exb_flight.specs.Items.{Each}
 use Rattle.exb_world_laws.specs.WorldInput.{arrivals_of, commands_of}
-use Rattle.exb_world_laws.specs.WorldInvariant.{HasVid, given_in}
+use Rattle.exb_world_laws.specs.WorldInvariant.{given_in}
+use Rattle.exb_world_spec.specs.Runs.ReachedWorlds.{HasVid}
 use Rattle.exb_world_laws.specs.FrameBytes.{MayGoAll}
 
 -- the seconds that pass

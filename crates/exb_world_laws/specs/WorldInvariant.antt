@@ -1,7 +1,5 @@
 -- What every step keeps, and the laws of worlds in motion.
-use Rattle.std.specs.Prelude.{◌≡◌, ℕ, ◌++◌, ◌<◌, ◌≤◌, true, false, List, [], ◌∷◌, Some, All}
-use Rattle.exb_model.specs.declared.command.Command.{Command}
-use Rattle.exb_model.specs.declared.command.Command.TheVariants as command
+use Rattle.std.specs.Prelude.{◌≡◌, ℕ, ◌++◌, ◌<◌, true, false, List, [], ◌∷◌, Some, All}
 use Rattle.exb_model.specs.declared.event.Event.{Event}
 use Rattle.exb_model.specs.declared.event.Event.TheVariants as event
 use Rattle.exb_model.specs.declared.setup.Setup.{Setup}
@@ -24,7 +22,8 @@ use Rattle.exb_world_spec.specs.Settling.{run}
 use Rattle.exb_world_spec.specs.Runs.Simulation.{jobs_in, jobs_after}
 use Rattle.exb_world_spec.specs.Runs.Stamps.{AreStamped}
 use Rattle.exb_world_spec.specs.Steps.{stepped}
-use Rattle.exb_world_spec.specs.Worlds.{World, Step, Order, Left, first_world, left_at}
+use Rattle.exb_world_spec.specs.Worlds.{World, Step, Left, first_world, left_at}
+use Rattle.exb_world_spec.specs.Runs.ReachedWorlds.{HasVid, HasVidIn}
 use Rattle.exb_flight.specs.Items.{Each}
 use Rattle.exb_flight.specs.Promises.{owed_at, IsClean}
 use Rattle.exb_flight.specs.SimulationRelation.{Stood}
@@ -32,11 +31,6 @@ use Rattle.exb_world_laws.specs.WorldInput.{Given, given_by, arrivals_at, comman
 use Rattle.exb_world_laws.specs.OneBridge.{FollowsGiven, NamesGiven, Stands}
 
 -- ---- where a world begins
--- a VLAN that a command sets as that of a port is 1 to 4094
-abbrev pub HasVid : Command → Type 0
-HasVid (command.Pvid p v) = (1 ≤ v) × (v ≤ 4094)
-HasVid _ = Unit {0}
-
 -- A tree and limits of which the laws speak, and a configuration with which a world may begin.
 pub record MayStart (t : Shape) (l : Limits) (i : Basis) : Type 0 where
   pub setting : IsSetting t l
@@ -54,11 +48,6 @@ abbrev pub SetupsMayStart : Type 0
 SetupsMayStart = (s : Setup) → IsValid s → All HasVid s.start → MayStart (shape_of s) (limits_of s) (basis_of s)
 
 -- ---- steps
--- what a command that is given has by its type
-abbrev pub HasVidIn : Step → Type 0
-HasVidIn (Order c) = HasVid c
-HasVidIn _ = Unit {0}
-
 -- A step that may be made. All but `can` are facts of the code's types.
 pub record MayDo (t : Shape) (l : Limits) (w : World) (step : Step) : Type 0 where
   pub may : MayMake t l w step

@@ -3,6 +3,7 @@ pub mod CascadeChannels
 pub mod Sessions
 pub mod Simulation
 pub mod SessionLaws
+pub mod ReachedWorlds
 pub mod Journal
 pub mod Stamps
 pub mod Requests

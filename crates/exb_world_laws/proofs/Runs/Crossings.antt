@@ -31,7 +31,7 @@ use Rattle.exb_world_laws.proofs.OneBridgeSteps.{kept_ageing}
 use Rattle.exb_world_laws.proofs.Setups.{setups_may_start}
 use Rattle.exb_world_laws.proofs.OneBridge.{kept_stands}
 use Rattle.exb_world_laws.specs.Runs.Crossings.{IsAlone, left_by, MayCross, LeavesMayCross, CommandsSendNothing, CrossingsMayArrive}
-use Rattle.exb_world_laws.specs.Runs.Settling.{beginning, reached_by}
+use Rattle.exb_world_spec.specs.Runs.ReachedWorlds.{beginning, reached_by}
 use Rattle.exb_world_laws.proofs.Runs.Copies.{left_each}
 use Rattle.exb_world_laws.proofs.Runs.ExternalPorts.{IsOutside}
 use Rattle.exb_world_laws.proofs.Runs.Settling.{IsRun, begins, run_after, go_after}

@@ -51,7 +51,7 @@ use Rattle.exb_world_laws.specs.Runs.SegmentRuns.{begin_of, PlaysIn, arrivals_in
 use Rattle.exb_world_laws.proofs.Runs.SegmentRuns.{start, kept, settled, commands}
 use Rattle.exb_world_laws.proofs.Runs.SegmentInput.{plays_arrivals}
 use Rattle.exb_world_laws.proofs.Runs.PartialRuns.{passed}
-use Rattle.exb_world_laws.specs.Runs.Settling.{MayTakeAll}
+use Rattle.exb_world_spec.specs.Runs.ReachedWorlds.{MayTakeAll}
 
 -- ---- events
 -- of an arrival one is told, of a command one

@@ -34,7 +34,7 @@ use Rattle.exb_world_laws.proofs.Setups.{setups_may_start}
 use Rattle.exb_world_laws.proofs.OneBridge.{kept_is_clean, kept_stands}
 use Rattle.exb_world_laws.specs.SegmentRuns.{marked_each, nothing_given}
 use Rattle.exb_world_laws.specs.Runs.SegmentRuns.{begin_of}
-use Rattle.exb_world_laws.specs.Runs.Settling.{beginning, reached_by}
+use Rattle.exb_world_spec.specs.Runs.ReachedWorlds.{beginning, reached_by}
 use Rattle.exb_world_laws.specs.Runs.OneBridge.{IsCopyOut, RunsLast, EventsLast, PlaysStand}
 use Rattle.exb_world_laws.proofs.Runs.Copies.{IsCopy, IsSentCopy, each_front, flat_copies, left_each}
 use Rattle.exb_world_laws.proofs.Runs.EventCounts.{few_flat}

@@ -31,7 +31,7 @@ use Rattle.exb_world_laws.proofs.SegmentArrivals.{all_came}
 use Rattle.exb_world_laws.proofs.InvariantSteps.{kept_pvids}
 use Rattle.exb_world_laws.proofs.OneBridge.{kept_stands}
 use Rattle.exb_world_laws.specs.Runs.SegmentRuns.{begin_of, PlaysIn, arrivals_in, IsCopyOfAny, IsUnderWay, RunsAreUnderWay}
-use Rattle.exb_world_laws.specs.Runs.Settling.{MayTakeAll}
+use Rattle.exb_world_spec.specs.Runs.ReachedWorlds.{MayTakeAll}
 use Rattle.exb_world_laws.proofs.Runs.Copies.{IsCopy, IsSentCopy, flat_copies, each_front, left_each}
 use Rattle.exb_world_laws.proofs.Runs.ExternalPorts.{IsOutside, Passes, step_passes}
 use Rattle.exb_world_laws.proofs.Runs.SegmentRuns.{start, kept, commands}

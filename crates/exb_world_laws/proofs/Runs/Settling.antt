@@ -37,7 +37,8 @@ use Rattle.exb_world_laws.proofs.OneBridge.{begins_kept}
 use Rattle.exb_settling_laws.specs.SettlingFacts.{OnLink, carries, delivers, loses}
 use Rattle.exb_settling_laws.specs.SessionInvariant.{HasRoom, IsGoing, IsOrderly}
 use Rattle.exb_settling_laws.specs.SettlingLaws.{MayMove, MayMoveAll, KeepsOrder, KeepsFacts}
-use Rattle.exb_world_laws.specs.Runs.Settling.{MayTake, MayTakeAll, AreRoomy, beginning, reached_by, RunsAreReady, RunsStayLow, Settles, SettlingAlwaysPlays}
+use Rattle.exb_world_laws.specs.Runs.Settling.{AreRoomy, RunsAreReady, RunsStayLow, Settles, SettlingAlwaysPlays}
+use Rattle.exb_world_spec.specs.Runs.ReachedWorlds.{MayTake, MayTakeAll, beginning, reached_by}
 use Rattle.exb_settling_laws.proofs.InvariantSteps.{step_going, beat_going}
 use Rattle.exb_settling_laws.proofs.OrderlyWorlds.{setups_begin_going, order_keeps_facts}
 use Rattle.exb_settling_laws.proofs.OrderFacts.{orderly}

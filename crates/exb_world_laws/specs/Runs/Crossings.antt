@@ -10,8 +10,7 @@ use Rattle.exb_world_spec.specs.Settling.{run}
 use Rattle.exb_world_spec.specs.Worlds.{World, Step, Arrive, Order, Left, left_at}
 use Rattle.exb_world_spec.specs.Runs.SessionLaws.{IsMove}
 use Rattle.exb_world_spec.specs.Runs.Sessions.{Each}
-use Rattle.exb_world_laws.specs.WorldInvariant.{HasVid}
-use Rattle.exb_world_laws.specs.Runs.Settling.{MayTakeAll, beginning, reached_by}
+use Rattle.exb_world_spec.specs.Runs.ReachedWorlds.{HasVid, MayTakeAll, beginning, reached_by}
 
 -- Steps of a world that a run of a valid setup reaches and that is settled: it is given something, and settles by moves.
 pub record IsAlone (s : Setup) (before : List Step) (step : Step) (moves : List Step) : Type 0 where

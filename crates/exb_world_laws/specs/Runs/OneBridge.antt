@@ -15,12 +15,12 @@ use Rattle.exb_world_spec.specs.Runs.PassedFrames.{passed_over}
 use Rattle.exb_world_spec.specs.Runs.Sessions.{Each}
 use Rattle.exb_flight.specs.Promises.{IsClean}
 use Rattle.exb_world_laws.specs.WorldInput.{Given, arrivals_of, commands_of, basis_with}
-use Rattle.exb_world_laws.specs.WorldInvariant.{HasVid, basis_of, given_in}
+use Rattle.exb_world_laws.specs.WorldInvariant.{basis_of, given_in}
+use Rattle.exb_world_spec.specs.Runs.ReachedWorlds.{HasVid, MayTakeAll, beginning, reached_by}
 use Rattle.exb_world_laws.specs.OneBridgeSteps.{IsGiving, IsOneEvent}
 use Rattle.exb_world_laws.specs.OneBridge.{Stands}
 use Rattle.exb_world_laws.specs.Runs.Crossings.{IsAlone}
 use Rattle.exb_world_laws.specs.Runs.SegmentRuns.{PlaysIn, arrivals_in}
-use Rattle.exb_world_laws.specs.Runs.Settling.{MayTakeAll, beginning, reached_by}
 
 -- a frame that left an external port, at the moment of one of these arrivals, with at most 9,220 bytes
 pub record IsCopyOut (t : Shape) (arrivals : List Arrival) (x : Left) : Type 0 where

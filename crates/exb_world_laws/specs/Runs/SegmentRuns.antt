@@ -15,9 +15,8 @@ use Rattle.exb_world_spec.specs.Settling.{run}
 use Rattle.exb_world_spec.specs.Steps.{Stepped}
 use Rattle.exb_world_spec.specs.Worlds.{World, Step, Left, first_world, left_at}
 use Rattle.exb_world_spec.specs.Runs.PassedFrames.{passed_over}
-use Rattle.exb_world_laws.specs.WorldInvariant.{HasVid}
+use Rattle.exb_world_spec.specs.Runs.ReachedWorlds.{HasVid, MayTakeAll}
 use Rattle.exb_world_laws.specs.SegmentRuns.{IsEager, IsTimely, PlayAll, marked_each, nothing_given}
-use Rattle.exb_world_laws.specs.Runs.Settling.{MayTakeAll}
 
 -- the world with which the setup of an input begins
 abbrev pub begin_of : Input → World

@@ -1,47 +1,24 @@
 -- Settling from every world that a run of a valid setup reaches.
-use Rattle.std.specs.Prelude.{◌≡◌, ℕ, ◌≤◌, ◌<◌, ◌^◌, true, List, [], ◌∷◌, ◌++◌, All}
+use Rattle.std.specs.Prelude.{◌≡◌, ℕ, ◌≤◌, ◌<◌, ◌^◌, true, List, ◌++◌, All}
 use Rattle.exb_model.specs.declared.setup.Setup.{Setup}
 use Rattle.exb_model.specs.declared.setup.Verdict.{Verdict}
 use Rattle.exb_model.specs.History.{Basis}
 use Rattle.exb_model.specs.Input.{Segment}
 use Rattle.exb_model.specs.Rounds.{rounds}
-use Rattle.exb_model.specs.Setup.{Limits, IsValid, shape_of, limits_of, start_of}
-use Rattle.exb_model.specs.Tree.{Shape}
+use Rattle.exb_model.specs.Setup.{IsValid, shape_of, limits_of}
 use Rattle.exb_csp.specs.Sessions.AskingEnd.{AskerState}
-use Rattle.exb_world_spec.specs.AllowedSteps.{Can}
 use Rattle.exb_world_spec.specs.Settling.{run, settled_within, is_settled, planned_in}
-use Rattle.exb_world_spec.specs.Steps.{stepped}
-use Rattle.exb_world_spec.specs.Worlds.{World, Step, first_world}
-use Rattle.exb_world_spec.specs.Runs.SessionLaws.{HasBytes}
+use Rattle.exb_world_spec.specs.Worlds.{Step}
+use Rattle.exb_world_spec.specs.Runs.ReachedWorlds.{MayTakeAll, beginning, reached_by, HasVid}
 use Rattle.exb_world_laws.specs.FrameBytes.{MayGoAll}
-use Rattle.exb_world_laws.specs.WorldInvariant.{HasVid, HasVidIn}
 use Rattle.exb_world_laws.specs.SegmentRuns.{Gives, IsPlayedBy}
 use Rattle.exb_settling_laws.specs.SettlingBound.{costs}
 use Rattle.exb_settling_laws.specs.SessionInvariant.{IsOrderly}
 use Rattle.exb_settling_laws.specs.SettlingLaws.{KeepsFacts}
 
--- ---- runs
--- A step that may be made. That a frame is bytes and that a VLAN is in its range are facts of the code's types.
-pub record MayTake (t : Shape) (w : World) (step : Step) : Type 0 where
-  pub can : Can t w step
-  pub has : HasBytes step
-  pub vid : HasVidIn step
-
-abbrev pub MayTakeAll : Shape → Limits → World → List Step → Type 0
-MayTakeAll t l w [] = Unit {0}
-MayTakeAll t l w (step ∷ steps) = MayTake t w step × MayTakeAll t l (stepped t l step w).world steps
-
 -- the serials of all requests are below 2 ^ 38
 abbrev pub AreRoomy : (ℕ → AskerState) → Type 0
 AreRoomy askers = (n : ℕ) → (askers n).serial < 2 ^ 38
-
--- the world as a setup begins
-abbrev pub beginning : Setup → World
-beginning s = first_world (shape_of s) (limits_of s) (start_of s) s.ageing
-
--- the world after these steps
-abbrev pub reached_by : Setup → List Step → World
-reached_by s steps = (run (shape_of s) (limits_of s) steps (beginning s)).world
 
 -- ---- the laws
 -- Every world that a run reaches is orderly, its serials are low, and it keeps the facts that the bound on settling asks.

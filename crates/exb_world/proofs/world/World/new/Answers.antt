@@ -1,6 +1,6 @@
 use Rattle.std.proofs.Common.{subst}
 use Rattle.std.specs.Prelude.{All}
-use Rattle.exb_world_laws.specs.WorldInvariant.{HasVid}
+use Rattle.exb_world_spec.specs.Runs.ReachedWorlds.{HasVid}
 use Rattle.exb_world.proofs.WorldInvariant.{live_first}
 use Rattle.exb_world.proofs.world.World.new.Goals as goal
 
