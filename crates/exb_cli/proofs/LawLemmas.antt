@@ -12,7 +12,7 @@ use Rattle.std.proofs.lemmas.Fmt.{digits_decimal, digits_value-decimal, decimal_
 use Rattle.std.specs.Prelude.{IfSome, codes}
 use Rattle.exb_cli.specs.CommandLines.{Ask, Run, Check, Make, Audit, Net, Item, Name, Trace, Counters, Seed, if_short, number_in, item_of, items_of, with_item, names_in, traces_in, counters_in, seeds_in, at_most_one, run_of, name_alone, check_of, make_of, audit_of, net_of, words_of}
 use Rattle.exb_cli.specs.ParserSteps.{with_all, gathered, nothing_said, run_from, name_from, net_from}
-use Rattle.exb_cli.proofs.Invocations.{at_once, with_all-is, run-is, name-is, check-is, make-is, audit-is, net-is}
+use Rattle.exb_cli.proofs.InvocationLemmas.{at_once, with_all-is, run-is, name-is, check-is, make-is, audit-is, net-is}
 use Rattle.exb_cli.specs.Laws.{SaySame, OrderIsFree, DashesEndOptions, WrittenIsRead, written}
 
 -- ---- numbers as they are written

@@ -1,5 +1,5 @@
 pub mod Digits
 pub mod ParserSteps
-pub mod Invocations
+pub mod InvocationLemmas
 pub mod LawLemmas
 pub mod KindLemmas

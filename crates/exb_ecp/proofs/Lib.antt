@@ -3,4 +3,4 @@ pub mod Sequences
 pub mod Soundness
 pub mod LineLaws
 pub mod CallLaws
-pub mod Ends
+pub mod EndLemmas

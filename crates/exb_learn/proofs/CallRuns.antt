@@ -5,7 +5,7 @@ use Rattle.std.specs.List.{list_any}
 use Rattle.exb_model.specs.Learning.{kept_unless}
 use Rattle.exb_learn.specs.Calls.{Call, See, Tick, Forget, if_live, port_of, run, look_in}
 use Rattle.exb_learn.specs.Sightings.{Sighting, followed, last_see, unless_forgotten, clock_after, is_forget_of, look_after}
-use Rattle.exb_learn.proofs.Ageing.{see_live, later_live, still_live, forget_live, port_of_live}
+use Rattle.exb_learn.proofs.AgeingLemmas.{see_live, later_live, still_live, forget_live, port_of_live}
 
 kept_all : (o : Option (ℕ × ℕ)) → kept_unless (λ p. false) o ≡ o
 kept_all None = refl

@@ -10,7 +10,7 @@ use Rattle.exb_model.specs.History.{Basis, History, command_of, bridge_after, no
 use Rattle.exb_model.specs.Learning.{passes, teaches_in, kept_unless, is_down_of, remembered, learned}
 use Rattle.exb_model.proofs.LearningSteps.{remembered-none, remembered-relay, remembered-other, kept_unless-none}
 use Rattle.exb_learn.specs.Calls.{See, Table, if_live, port_of, look_in}
-use Rattle.exb_learn.proofs.Ageing.{see_live, later_live, still_live, forget_live, port_of_live}
+use Rattle.exb_learn.proofs.AgeingLemmas.{see_live, later_live, still_live, forget_live, port_of_live}
 use Rattle.exb_learn.specs.Histories.{relay_call, command_call, after_any, table_after}
 
 pub record Follows (i : Basis) (h : History) (t : Table) : Type 0 where

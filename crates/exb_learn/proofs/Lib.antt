@@ -1,4 +1,4 @@
-pub mod Ageing
+pub mod AgeingLemmas
 pub mod RingLinks
 pub mod SlotRings
 pub mod LinkTables

@@ -7,7 +7,7 @@ mod QuietBridges
 mod BridgeSteps
 mod Deliveries
 mod NetCalls
-mod Assembly
+mod AssemblyLemmas
 pub mod OutputUpdates
 pub mod ManifestsApart
 pub mod BridgeFiles
@@ -30,7 +30,7 @@ pub mod NetTurns
 pub mod FileCreation
 pub mod NetResults
 pub mod UntouchedCaptures
-pub mod Preparation
+pub mod PreparationLemmas
 pub mod PreparedFiles
 pub mod ReadyNets
 pub mod CombinedEffects

@@ -39,7 +39,7 @@ use Rattle.exb_net.specs.Preparation.{CanPlay, IsPrepared, run_of}
 use Rattle.exb_net.specs.NetInvariants.{AreOfRests, Begins, IsWithin, LeadsOn}
 use Rattle.exb_net.proofs.BridgeFiles.{mapped_some}
 use Rattle.exb_net.proofs.PreparedFiles.{can_play}
-use Rattle.exb_net.proofs.Preparation.{made_of, net_is, setup_of}
+use Rattle.exb_net.proofs.PreparationLemmas.{made_of, net_is, setup_of}
 use Rattle.exb_net.proofs.UntouchedCaptures.{captures_apart}
 
 -- ---- ids of captures

@@ -20,7 +20,7 @@ pub mod TouchedParts
 pub mod TouchedSources
 pub mod RisingNumbers
 pub mod GoneNumbers
-pub mod Recount
+pub mod RecountLemmas
 pub mod Presences
 pub mod LostUses
 pub mod TouchedSets

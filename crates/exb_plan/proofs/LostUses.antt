@@ -10,7 +10,7 @@ use Rattle.exb_plan.specs.PlanValues.{IsPlaced}
 use Rattle.exb_plan.specs.UseCounts.{count_at}
 use Rattle.exb_plan.specs.Recount.{parts_at, AreOwn}
 use Rattle.exb_plan.specs.LostUses.{is_left}
-use Rattle.exb_plan.proofs.Recount.{both_ways, one_at, none_at, parts_more}
+use Rattle.exb_plan.proofs.RecountLemmas.{both_ways, one_at, none_at, parts_more}
 
 -- ---- of one part more
 neither : (p q r : Bool) → (p && false || q && false) ≡ (r && false)

@@ -4,7 +4,7 @@ pub mod RunStart
 pub mod CapturePorts
 pub mod ToldSegments
 pub mod PortCounts
-pub mod Segments
+pub mod SegmentLemmas
 pub mod TakenEvents
 pub mod GatheredSeconds
 pub mod UntouchedFiles

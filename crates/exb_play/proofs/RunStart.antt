@@ -30,7 +30,7 @@ use Rattle.exb_play.specs.RunInvariants.{CanBegin, IsRunOf, LeadsOn}
 use Rattle.exb_outputs.specs.CaptureSizes.{HasSent}
 use Rattle.exb_outputs.specs.WrittenTexts.{HasTexts, IsReady, first_text, pieces_of}
 use Rattle.exb_inputs.proofs.FirstRecords.{passing, ports_in, all-told, StartIsLeast, numbers-one, has-named, low-bytes, rising-given, MergeOfAll, merged}
-use Rattle.exb_play.proofs.Segments.{segments-begin}
+use Rattle.exb_play.proofs.SegmentLemmas.{segments-begin}
 use Rattle.exb_outputs.proofs.InputsApart.{apart-named}
 
 pub timely : (t : Shape) (commands : List Timed) (fate : List Verdict) (i : Input) → IsScript t commands fate → i.commands ≡ map given_by commands → IsTimely i

@@ -39,7 +39,7 @@ use Rattle.exb_play.proofs.EarlyEnds.{cut_before}
 use Rattle.exb_play.proofs.SegmentOrder.{can-play, commands-are, follows, going-on, is-segment, leading-on, letters-are, taken}
 use Rattle.exb_play.proofs.UntouchedFiles.{apart-written, files-read, leads-written, programme-written, told-read}
 use Rattle.exb_play.proofs.PortCounts.{sizes-fit}
-use Rattle.exb_play.proofs.Segments.{segments_after-end}
+use Rattle.exb_play.proofs.SegmentLemmas.{segments_after-end}
 use Rattle.exb_play.proofs.TakenEvents.{HasCommands, came_by, comes-ids}
 use Rattle.exb_play.proofs.ToldSegments.{arrivals-low, cleared-played}
 

@@ -29,7 +29,7 @@ use Rattle.exb_play.specs.declared.feed.Feed.{Feed}
 use Rattle.exb_play.specs.BridgeRuns.{CanBeKept}
 use Rattle.exb_play.specs.RunInvariants.{CanGoOn, CanFollow, IsGathered, IsGoingOn, IsSinceLast, LeadsOn, commands_played, second_by, seconds_played}
 use Rattle.exb_play.proofs.NextIndices.{arrive_next, order_next, order_given, tick_next, tick_given}
-use Rattle.exb_play.proofs.Segments.{segments_after-next}
+use Rattle.exb_play.proofs.SegmentLemmas.{segments_after-next}
 use Rattle.exb_play.proofs.TakenEvents.{GoesOnBehind, HasCommands, HavePlaces, IsFit, arrivals-fit, arrivals_by, at-more, at_port, came_by, comes-commands, comes-from, comes-later, comes-size, comes-start, goes-behind, group-is, has-commands, take-front}
 
 -- ---- steps that may be made

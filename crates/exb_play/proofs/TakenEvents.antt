@@ -19,7 +19,7 @@ use Rattle.exb_timeline.specs.Timelines.{IsComing, IsFrom, left_of, what}
 use Rattle.exb_timeline.specs.CaptureMerges.{HasCome, HasPort, Standing, gone_on, ids_in, left_in, number_of, standings}
 use Rattle.exb_timeline.proofs.TimelineProgress.{command_is, from_earlier, has_before, number_other, number_own, second_high, second_low}
 use Rattle.exb_play.specs.RunInvariants.{ComeAll, second_by}
-use Rattle.exb_play.proofs.Segments.{together}
+use Rattle.exb_play.proofs.SegmentLemmas.{together}
 
 -- what came, without where it lies in memory
 abbrev pub came_by : List Next → List Coming

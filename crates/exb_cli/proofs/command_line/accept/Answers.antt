@@ -1,6 +1,6 @@
 use Rattle.std.proofs.Common.{map, string_bytes}
 use Rattle.exb_cli.proofs.ParserSteps.{texts-first, texts-none}
-use Rattle.exb_cli.proofs.Invocations.{words-none, words-run, words-check, words-make, words-audit, words-net, words-other}
+use Rattle.exb_cli.proofs.InvocationLemmas.{words-none, words-run, words-check, words-make, words-audit, words-net, words-other}
 use Rattle.exb_cli.proofs.command_line.accept.Goals as goal
 
 pub returns-in_default : goal.returns-in_default

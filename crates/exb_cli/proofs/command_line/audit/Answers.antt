@@ -1,7 +1,7 @@
 use Rattle.std.proofs.Common.{◌∙◌, ap, map, option_map, string_bytes}
 use Rattle.exb_cli.specs.CommandLines.{Audit, items_of}
 use Rattle.exb_cli.specs.ParserSteps.{ask_of}
-use Rattle.exb_cli.proofs.Invocations.{audit-is}
+use Rattle.exb_cli.proofs.InvocationLemmas.{audit-is}
 use Rattle.exb_cli.proofs.command_line.audit.Goals as goal
 
 pub returns-in_err-topology : goal.returns-in_err-topology

@@ -1,7 +1,7 @@
 use Rattle.std.proofs.Common.{◌∙◌, ap, map, option_map, string_bytes}
 use Rattle.exb_cli.specs.CommandLines.{Check, items_of}
 use Rattle.exb_cli.specs.ParserSteps.{ask_of}
-use Rattle.exb_cli.proofs.Invocations.{check-is}
+use Rattle.exb_cli.proofs.InvocationLemmas.{check-is}
 use Rattle.exb_cli.proofs.command_line.check.Goals as goal
 
 pub returns-in_err-topology : goal.returns-in_err-topology

@@ -1,7 +1,7 @@
 use Rattle.std.proofs.Common.{◌∙◌, ap, map, option_map, option_and_then, string_bytes}
 use Rattle.exb_cli.specs.CommandLines.{Make, items_of, number_in}
 use Rattle.exb_cli.specs.ParserSteps.{ask_of}
-use Rattle.exb_cli.proofs.Invocations.{make-is}
+use Rattle.exb_cli.proofs.InvocationLemmas.{make-is}
 use Rattle.exb_cli.proofs.command_line.make.Goals as goal
 
 pub returns-in_err-only_name : goal.returns-in_err-only_name

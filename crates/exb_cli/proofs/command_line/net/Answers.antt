@@ -1,6 +1,6 @@
 use Rattle.std.proofs.Common.{◌∙◌, ap, map, option_map, option_and_then, string_bytes}
 use Rattle.exb_cli.specs.ParserSteps.{ask_of, net_from}
-use Rattle.exb_cli.proofs.Invocations.{net-is}
+use Rattle.exb_cli.proofs.InvocationLemmas.{net-is}
 use Rattle.exb_cli.proofs.command_line.net.Goals as goal
 
 pub returns-in_err-read : goal.returns-in_err-read

@@ -1,6 +1,6 @@
 use Rattle.std.proofs.Common.{◌∙◌, ap, map, option_map, option_and_then, string_bytes}
 use Rattle.exb_cli.specs.ParserSteps.{name_from}
-use Rattle.exb_cli.proofs.Invocations.{name-is}
+use Rattle.exb_cli.proofs.InvocationLemmas.{name-is}
 use Rattle.exb_cli.proofs.command_line.only_name.Goals as goal
 
 pub returns-in_err-read : goal.returns-in_err-read

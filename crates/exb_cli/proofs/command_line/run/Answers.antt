@@ -1,6 +1,6 @@
 use Rattle.std.proofs.Common.{◌∙◌, ap, map, option_map, option_and_then, string_bytes, Some, None}
 use Rattle.exb_cli.specs.ParserSteps.{run_from, ask_of}
-use Rattle.exb_cli.proofs.Invocations.{run-is, run-said}
+use Rattle.exb_cli.proofs.InvocationLemmas.{run-is, run-said}
 use Rattle.exb_cli.proofs.command_line.run.Goals as goal
 
 pub returns-in_err-said : goal.returns-in_err-said

@@ -1,7 +1,7 @@
 use Rattle.std.proofs.Common.{◌≡◌, ◌∙◌, ◌+◌, ◌<◌, length, take, length-drop, refl, ap, subst, arith}
 use Rattle.std.proofs.lemmas.List.{take_all}
 use Rattle.exb_net.specs.PairedLists.{AreEach}
-use Rattle.exb_net.proofs.Assembly.{front_is, next_is, no_pairs, none_first, rest_is}
+use Rattle.exb_net.proofs.AssemblyLemmas.{front_is, next_is, no_pairs, none_first, rest_is}
 use Rattle.exb_net.proofs.assembly.make_all.Goals as goal
 
 pub loop-bridge-init : goal.loop-bridge-init

@@ -5,7 +5,7 @@ use Rattle.exb_net_spec.specs.declared.wires.Wire.{Wire}
 use Rattle.exb_net.specs.PairedLists.{AreEach}
 use Rattle.exb_net.specs.Assembly.{AreFirst}
 use Rattle.exb_net.specs.Nodes.{IsFirst}
-use Rattle.exb_net.proofs.Assembly.{one_first, one_pair}
+use Rattle.exb_net.proofs.AssemblyLemmas.{one_first, one_pair}
 use Rattle.exb_net.proofs.ListPlaces.{at_place}
 use Rattle.exb_net.proofs.assembly.make_one.Goals as goal
 

@@ -12,7 +12,7 @@ use Rattle.exb_net.specs.OpenOrder.{WritesNetOutput}
 use Rattle.exb_net.specs.Outputs.{AreNetFronts}
 use Rattle.exb_net.specs.NetInvariants.{HasWritten, IsCutOff}
 use Rattle.exb_net.proofs.NetResults.{cut_fronts, made_fronts, played, played_fronts}
-use Rattle.exb_net.proofs.Preparation.{net_is, prepared, trees_are}
+use Rattle.exb_net.proofs.PreparationLemmas.{net_is, prepared, trees_are}
 use Rattle.exb_net.proofs.UntouchedCaptures.{captures_stay, members_same, net_same}
 use Rattle.exb_net.proofs.ManifestsApart.{only_all_then}
 use Rattle.exb_net.proofs.CombinedEffects.{either_way, made_as, made_then_read}

@@ -11,7 +11,7 @@ use Rattle.exb_net.specs.Preparation.{IsToBeOpened, run_of}
 use Rattle.exb_net.specs.NetInvariants.{AreOfRests, IsCutOff}
 use Rattle.exb_net.proofs.ReadyNets.{as_many, fates_few, into_can, opens_on, within_of}
 use Rattle.exb_net.proofs.PreparedFiles.{cut_unopened}
-use Rattle.exb_net.proofs.Preparation.{net_is, setup_of}
+use Rattle.exb_net.proofs.PreparationLemmas.{net_is, setup_of}
 use Rattle.exb_net.proofs.ShelfEffects.{err-own}
 use Rattle.exb_net.proofs.play.play_into.Goals as goal
 

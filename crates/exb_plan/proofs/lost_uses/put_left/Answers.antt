@@ -5,7 +5,7 @@ use Rattle.exb_plan.specs.SpaceContents.{held_by}
 use Rattle.exb_control_spec.specs.Plans.HeldNumbers.{group_in}
 use Rattle.exb_plan.specs.UseCounts.{count_at}
 use Rattle.exb_plan.specs.RisingNumbers.{is_among}
-use Rattle.exb_plan.proofs.Recount.{looked_up}
+use Rattle.exb_plan.proofs.RecountLemmas.{looked_up}
 use Rattle.exb_plan.proofs.LostUses.{left_goes, left_stays, left_absent}
 use Rattle.exb_plan.proofs.lost_uses.put_left.Goals as goal
 

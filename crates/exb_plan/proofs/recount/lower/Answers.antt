@@ -1,7 +1,7 @@
 use Rattle.std.proofs.Common.{◌-◌, Some, None}
 use Rattle.exb_model.specs.Ports.{ports_of}
 use Rattle.exb_control_spec.specs.Plans.Sets.{seen}
-use Rattle.exb_plan.proofs.Recount.{looked_up, lowered_none, lowered_one, none_else}
+use Rattle.exb_plan.proofs.RecountLemmas.{looked_up, lowered_none, lowered_one, none_else}
 use Rattle.exb_plan.proofs.recount.lower.Goals as goal
 
 pub lower-requires-clause-used : goal.lower-requires-clause-used

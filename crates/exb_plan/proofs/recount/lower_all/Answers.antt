@@ -3,7 +3,7 @@ use Rattle.exb_control_spec.specs.Plans.Sets.{PortsAt, seen}
 use Rattle.exb_plan.specs.PlanValues.{IsPlaced}
 use Rattle.exb_plan.proofs.Lists.{image_next}
 use Rattle.exb_plan.specs.Recount.{AreLowered}
-use Rattle.exb_plan.proofs.Recount.{parts_next, still_used, lowered_more}
+use Rattle.exb_plan.proofs.RecountLemmas.{parts_next, still_used, lowered_more}
 use Rattle.exb_plan.proofs.recount.lower_all.Goals as goal
 
 pub lower-requires-clause-used : goal.lower-requires-clause-used

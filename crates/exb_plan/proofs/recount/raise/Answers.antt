@@ -5,7 +5,7 @@ use Rattle.exb_model.specs.Refusals.{is_empty_set}
 use Rattle.exb_control_spec.specs.Plans.Sets.{seen}
 use Rattle.exb_plan.specs.SpaceContents.{held_by}
 use Rattle.exb_control_spec.proofs.Plans.GroupOwners.{IsGroupOf, group_found}
-use Rattle.exb_plan.proofs.Recount.{looked_up, raised_none, raised_one}
+use Rattle.exb_plan.proofs.RecountLemmas.{looked_up, raised_none, raised_one}
 use Rattle.exb_plan.proofs.recount.raise.Goals as goal
 
 pub raise-requires-clause-there : goal.raise-requires-clause-there

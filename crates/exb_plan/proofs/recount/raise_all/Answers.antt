@@ -5,7 +5,7 @@ use Rattle.exb_control_spec.specs.declared.plan.set_at.SetAt.{SetAt}
 use Rattle.exb_control_spec.specs.Plans.Sets.{PortsAt, seen}
 use Rattle.exb_plan.proofs.Lists.{image_next}
 use Rattle.exb_plan.specs.Recount.{AreRaised}
-use Rattle.exb_plan.proofs.Recount.{raised_begins, raised_more}
+use Rattle.exb_plan.proofs.RecountLemmas.{raised_begins, raised_more}
 use Rattle.exb_plan.proofs.recount.raise_all.Goals as goal
 
 pub loop-part-init : goal.loop-part-init

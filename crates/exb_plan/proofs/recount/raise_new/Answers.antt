@@ -3,7 +3,7 @@ use Rattle.exb_control_spec.specs.Plans.Sets.{PortsAt, seen}
 use Rattle.exb_plan.specs.PlanValues.{IsPlaced}
 use Rattle.exb_plan.proofs.Lists.{image_next}
 use Rattle.exb_plan.specs.Recount.{AreRaised}
-use Rattle.exb_plan.proofs.Recount.{parts_next, new_few, raised_more}
+use Rattle.exb_plan.proofs.RecountLemmas.{parts_next, new_few, raised_more}
 use Rattle.exb_plan.proofs.recount.raise_new.Goals as goal
 
 pub raise_few-requires-clause-few : goal.raise_few-requires-clause-few

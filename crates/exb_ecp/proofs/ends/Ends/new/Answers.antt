@@ -2,7 +2,7 @@ use Rattle.std.proofs.Common.{List, ap, length, arith, ◌∙◌}
 use Rattle.std.proofs.lemmas.List.{length-replicate}
 use Rattle.exb_ecp.specs.StopAndWait.{State, new_state}
 use Rattle.exb_ecp.specs.Ends.{near_of}
-use Rattle.exb_ecp.proofs.Ends.{none_sends}
+use Rattle.exb_ecp.proofs.EndLemmas.{none_sends}
 use Rattle.exb_model.proofs.NumberedTables.{at_all}
 use Rattle.exb_ecp.proofs.ends.Ends.new.Goals as goal
 

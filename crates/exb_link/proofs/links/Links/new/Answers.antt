@@ -2,7 +2,7 @@ use Rattle.std.proofs.Common.{List, [], ap, length, arith, ◌∙◌}
 use Rattle.std.proofs.lemmas.List.{length-replicate}
 use Rattle.exb_link.specs.declared.link_frame.LinkFrame.{LinkFrame}
 use Rattle.exb_link.specs.Links.{words_of}
-use Rattle.exb_link.proofs.Links.{none_busy}
+use Rattle.exb_link.proofs.LinkLemmas.{none_busy}
 use Rattle.exb_model.proofs.NumberedTables.{at_all}
 use Rattle.exb_link.proofs.links.Links.new.Goals as goal
 

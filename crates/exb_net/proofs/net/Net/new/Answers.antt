@@ -1,5 +1,5 @@
 use Rattle.std.proofs.Common.{length, refl, ap}
-use Rattle.exb_net.proofs.Assembly.{all_valid, begun_so}
+use Rattle.exb_net.proofs.AssemblyLemmas.{all_valid, begun_so}
 use Rattle.exb_net.proofs.QuietBridges.{all_marked}
 use Rattle.exb_net.proofs.net.Net.new.Goals as goal
 
