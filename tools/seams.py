@@ -22,7 +22,7 @@ def files(crate, *endings):
     for folder, folders, names in os.walk(os.path.join(CRATES, crate)):
         folders[:] = [f for f in folders if f != 'out']
         for name in names:
-            if name.endswith(endings):
+            if f'/{name}'.endswith(endings):
                 yield os.path.join(folder, name)
 
 
@@ -94,7 +94,7 @@ def code_seams(crate, needs, sources):
 
 
 def proof_seams(crate, source):
-    for path in files(os.path.join(crate, 'proofs'), 'Answers.antt', 'Invariants.antt', 'Proof.antt'):
+    for path in files(os.path.join(crate, 'proofs'), '/Answers.antt', '/Invariants.antt', '/Proof.antt'):
         function = os.path.basename(os.path.dirname(path)).split('+')[0]
         if not re.search(rf'\bfn {re.escape(function)}\b', source):
             yield f'{path}: no function {function}'

@@ -16,7 +16,7 @@ use Rattle.exb_outbox.specs.PortMaps.{ports_in}
 use Rattle.exb_link.specs.Links.{words_of}
 use Rattle.exb_extender.specs.Extenders.{Devices, far_of, has_extender}
 use Rattle.exb_ecp.specs.Ends.{near_of}
-use Rattle.exb_world.specs.Indices.{next_of}
+use Rattle.exb_bridge.specs.Indices.{next_of}
 use Rattle.exb_outbox.specs.Logs.{if_tracing}
 use Rattle.exb_bridge.specs.declared.bridge.Bridge.{Bridge}
 use Rattle.exb_bridge.specs.TreeIndexes.{Site, limits_in}

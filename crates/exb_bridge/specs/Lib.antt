@@ -1,3 +1,4 @@
+pub mod Indices
 pub mod TreeIndexes
 pub mod BridgeWorlds
 pub mod RemainingEffects

@@ -17,7 +17,7 @@ use Rattle.exb_bridge.specs.BridgeWorlds.{Whole}
 use Rattle.exb_extender.specs.Extenders.{far_of, first_far, has_extender}
 use Rattle.exb_link.specs.Links.{words_of}
 use Rattle.exb_ecp.specs.Ends.{near_of}
-use Rattle.exb_world.specs.Indices.{next_of}
+use Rattle.exb_bridge.specs.Indices.{next_of}
 use Rattle.exb_bridge.specs.TreeIndexes.{Site, limits_in}
 use Rattle.exb_bridge.specs.BridgeWorlds.{world_in, IsAt}
 use Rattle.exb_model.proofs.NumberedTables.{alike}

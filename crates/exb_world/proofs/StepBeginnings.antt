@@ -22,7 +22,7 @@ use Rattle.exb_outbox.specs.declared.log.Log.{Log}
 use Rattle.exb_bridge.specs.BridgeWorlds.{Whole}
 use Rattle.exb_world.specs.ArrivalPorts.{IsPortAt}
 use Rattle.exb_link.specs.Links.{words_of}
-use Rattle.exb_world.specs.Indices.{next_of}
+use Rattle.exb_bridge.specs.Indices.{next_of}
 use Rattle.exb_bridge.specs.TreeIndexes.{Site}
 use Rattle.exb_bridge.specs.BridgeWorlds.{world_in, all_left, IsAt, Does, KeepsTrace}
 use Rattle.exb_bridge.proofs.PartChanges.{tells_nothing}

@@ -7,4 +7,3 @@ pub mod ExtenderEgress
 pub mod IdleExtenders
 pub mod StepLines
 pub mod LiveSteps
-pub mod Indices

@@ -1,7 +1,7 @@
 //! The index of the next record of each port.
 ghost use Rattle.std.specs.Prelude.{◌≡◌, ◌+◌, ◌<◌, ◌^◌, IfOk};
 ghost use Rattle.exb_model.specs.Tables.{at};
-ghost use Rattle.exb_world.specs.Indices.{next_of};
+ghost use Rattle.exb_bridge.specs.Indices.{next_of};
 
 use exb_model::memory::NoMemory;
 use exb_model::port::{PORTS, PortId};
