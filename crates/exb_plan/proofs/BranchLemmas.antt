@@ -1,6 +1,7 @@
 -- The trunks of extenders, and the ports below a bridge port.
 use Rattle.std.proofs.Common.{◌≡◌, ℕ, ◌+◌, ◌/◌, ◌%◌, ◌<◌, ◌≤◌, ◌==◌, ◌&&◌, Bool, true, false, not, cond, List, length, slice_index, slice_set, refl, ◌∙◌, ap, inl, inr, arith, nat_le}
-use Rattle.std.proofs.lemmas.Bool.{cases_eq, cases_Bool, lt-ltb, ltb-true, leb-true, and_parts, eq-eqb, ne_eqb}
+use Rattle.std.proofs.lemmas.Bool.{cases_eq, cases_lt, cases_Bool, lt-ltb, le-ltb, le-leb, lt-leb, ltb-true, leb-true, and_parts, eq-eqb, ne_eqb}
+use Rattle.std.specs.Prelude.{nat_lt}
 use Rattle.std.proofs.lemmas.List.{get_or-set_same, get_or-set_other}
 use Rattle.exb_model.specs.Tree.{Shape, is_port, is_extender, is_cascade, is_extended, is_under, trunk}
 
@@ -53,4 +54,34 @@ under_is t k q x rest is =
         elim (cases_eq a b) [
           | inl f ↦ rw (eq-eqb a b f, eq-eqb (a + 1) (b + 1) (ap (λ (n : ℕ). n + 1) f)) refl
           | inr f ↦ rw (ne_eqb a b f, ne_eqb (a + 1) (b + 1) (λ g. f (omega arith))) refl
+        ]
+
+-- ---- the bridge ports that a port is under
+pub one_of : (first past k : ℕ) → first ≤ k + 1 → k + 1 < past → true ≡ (nat_le first (k + 1) && nat_lt (k + 1) past)
+one_of first past k low high = rw (le-leb first (k + 1) low, lt-ltb (k + 1) past high) refl
+
+none_of : (first past k : ℕ) → past ≤ k + 1 → false ≡ (nat_le first (k + 1) && nat_lt (k + 1) past)
+none_of first past k high = rw (le-ltb (k + 1) past high) (and_no (nat_le first (k + 1)))
+  where
+    and_no : (c : Bool) → false ≡ (c && false)
+    and_no true = refl
+    and_no false = refl
+
+-- none where it isn't extended
+pub not_under : (t : Shape) (p first past k : ℕ) → is_extended t p ≡ false → past ≤ k + 1 → is_under t k p ≡ (nat_le first (k + 1) && nat_lt (k + 1) past)
+not_under t p first past k h high = rw h (none_of first past k high)
+
+-- else its trunk alone
+pub under_trunk : (t : Shape) (p first past k : ℕ) → is_extended t p ≡ true → first ≡ trunk t (p / 64) + 1 → past ≡ first + 1 →
+    is_under t k p ≡ (nat_le first (k + 1) && nat_lt (k + 1) past)
+under_trunk t p first past k h is next = rw h (by_trunk (trunk t (p / 64)) is)
+  where
+    by_trunk : (a : ℕ) → first ≡ a + 1 → (a == k) ≡ (nat_le first (k + 1) && nat_lt (k + 1) past)
+    by_trunk a e =
+        elim (cases_eq a k) [
+          | inl same ↦ rw (eq-eqb a k same) (one_of first past k (omega (arith, e, same)) (omega (arith, e, same, next)))
+          | inr other ↦ elim (cases_lt a k) [
+            | inl less ↦ rw (ne_eqb a k other) (none_of first past k (omega (arith, e, less, next)))
+            | inr more ↦ rw (ne_eqb a k other, lt-leb first (k + 1) (omega (arith, e, more, other))) refl
+          ]
         ]

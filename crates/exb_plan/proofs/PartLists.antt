@@ -1,7 +1,8 @@
 -- The parts of a source below all bridge ports, and what is put of sources.
 use Rattle.std.proofs.Common.{◌≡◌, ◌≢◌, ℕ, zero, suc, ◌+◌, ◌-◌, ◌/◌, ◌%◌, ◌<◌, ◌≤◌, ◌==◌, ◌&&◌, Bool, true, false, not, cond, List, [], ◌∷◌, ◌++◌, slice_index, length, filter, map, refl, sym, ◌∙◌, ap, inl, inr, arith}
 use Rattle.std.specs.List.{flat_map, range_with_len}
-use Rattle.std.proofs.lemmas.Bool.{cases_lt, false≢true}
+use Rattle.std.proofs.lemmas.Bool.{cases_lt, false≢true, lt-ltb, le-ltb, le-leb, lt-leb}
+use Rattle.std.specs.Prelude.{nat_le}
 use Rattle.std.proofs.lemmas.List.{append-nil, append_assoc, get_or_past}
 use Rattle.std.specs.Int.{bit_at}
 use Rattle.std.proofs.lemmas.Nat.Bits.{bit_at-zero}
@@ -16,12 +17,15 @@ use Rattle.exb_model.specs.Configuration.{Bridge}
 use Rattle.exb_model.specs.Refusals.{Source, part, without_isolated, is_kind, is_empty_set}
 use Rattle.exb_model.proofs.PortLemmas.{below-more}
 use Rattle.exb_plan.specs.declared.branches.Branches.{Branches}
+use Rattle.exb_plan.specs.declared.places.Places.{Places}
 use Rattle.exb_control_spec.specs.declared.plan.set_at.SetAt.{SetAt}
-use Rattle.exb_plan.specs.Branches.{AreBranches, IsPart, IsAmong}
+use Rattle.exb_plan.specs.Branches.{ArePlaces, AreBranches, IsPart, IsAmong}
 use Rattle.exb_plan.specs.Parts.{has_ports, some_parts, Adds}
-use Rattle.exb_control_spec.specs.Plans.Sets.{PortsAt, parts_of, parts_below, seen}
+use Rattle.exb_control_spec.specs.Plans.Sets.{PortsAt, parts_of, seen}
+use Rattle.exb_control_spec.specs.Plans.TouchedParts.{parts_where}
 use Rattle.exb_plan.proofs.SetPorts.{ports_are, ports_by}
 use Rattle.exb_plan.proofs.BranchLemmas.{under_is}
+use Rattle.exb_plan.proofs.Lists.{filter_next}
 
 -- ---- one set
 pub none_more : (xs : List PortsAt) (s : PortsAt) → is_empty_set s.ports ≡ true → xs ≡ xs ++ filter has_ports (s ∷ [])
@@ -40,7 +44,7 @@ and_turned : (u p a c : Bool) → (u && (p && a && c)) ≡ (u && p && a && c)
 and_turned true p a c = refl
 and_turned false p a c = refl
 
-cut_is : (t : Shape) (b : Bridge) (x : Source) (g : Branches) (whole : PortSet) → AreBranches t b g → IsPart t b x whole → (k : ℕ) (set : PortSet) →
+cut_is : (t : Shape) (b : Bridge) {here : ℕ → Bool} (x : Source) (g : Branches) (whole : PortSet) → AreBranches t b here g → IsPart t b x whole → (k : ℕ) (set : PortSet) →
     ((q : ℕ) → port_in set q ≡ (slice_index g.trunks (q / 64) == k + 1 && port_in whole q)) → ports_of set ≡ part t k b x
 cut_is t b x g whole branches is_part k set is =
     ports_by set (λ q. is_under t k q && b.present q && x.among q && is_kind x.kind (b.member x.vid q))
@@ -79,8 +83,8 @@ two_more now first second r s one two =
     ∙ (append_assoc now (f (r ∷ [])) (f (s ∷ [])) ∙ ap (λ (l : List PortsAt). now ++ l) (sym (filter-append has_ports (r ∷ []) (s ∷ [])))))
 
 -- the part of a source and the part without its isolated ports are put; bridge ports are numbered from 1
-pub parts_put : (t : Shape) (b : Bridge) (x : Source) (g : Branches) (whole cut left : PortSet) (p : ℕ) (now first second : List PortsAt) →
-    AreBranches t b g → IsPart t b x whole → 1 ≤ p → ((q : ℕ) → port_in cut q ≡ (slice_index g.trunks (q / 64) == p && port_in whole q)) →
+pub parts_put : (t : Shape) (b : Bridge) {here : ℕ → Bool} (x : Source) (g : Branches) (whole cut left : PortSet) (p : ℕ) (now first second : List PortsAt) →
+    AreBranches t b here g → IsPart t b x whole → 1 ≤ p → ((q : ℕ) → port_in cut q ≡ (slice_index g.trunks (q / 64) == p && port_in whole q)) →
     ((q : ℕ) → port_in left q ≡ (port_in cut q && not (port_in g.isolated q))) →
     first ≡ now ++ filter has_ports (record { bridge_port = p; ports = ports_of cut } ∷ []) →
     second ≡ first ++ filter has_ports (record { bridge_port = p; ports = ports_of left } ∷ []) →
@@ -108,7 +112,7 @@ unfolding below
 none_below test n none = none_pass test 0 n (λ q low. none q (omega (arith, low)))
 
 -- no port of a set is below a bridge port that it doesn't reach
-part_none : (t : Shape) (b : Bridge) (x : Source) (g : Branches) (whole : PortSet) → AreBranches t b g → IsPart t b x whole → (k : ℕ) →
+part_none : (t : Shape) (b : Bridge) {here : ℕ → Bool} (x : Source) (g : Branches) (whole : PortSet) → AreBranches t b here g → IsPart t b x whole → (k : ℕ) →
     ((q : ℕ) → (slice_index g.trunks (q / 64) == k + 1 && port_in whole q) ≡ false) → part t k b x ≡ []
 part_none t b x g whole branches is_part k none =
     part_is t k b x
@@ -120,7 +124,7 @@ part_none t b x g whole branches is_part k none =
     ∙ none q)
 
 -- so nothing is put there
-pub parts_left_out : (t : Shape) (b : Bridge) (x : Source) (g : Branches) (whole : PortSet) (p : ℕ) (now : List PortsAt) → AreBranches t b g → IsPart t b x whole → 1 ≤ p →
+pub parts_left_out : (t : Shape) (b : Bridge) {here : ℕ → Bool} (x : Source) (g : Branches) (whole : PortSet) (p : ℕ) (now : List PortsAt) → AreBranches t b here g → IsPart t b x whole → 1 ≤ p →
     ((q : ℕ) → (slice_index g.trunks (q / 64) == p && port_in whole q) ≡ false) → now ≡ now ++ filter has_ports (parts_of t b x (p - 1))
 parts_left_out t b x g whole zero now branches is_part some none = absurd (omega arith)
 parts_left_out t b x g whole (suc k) now branches is_part some none =
@@ -132,28 +136,76 @@ parts_left_out t b x g whole (suc k) now branches is_part some none =
     ∙ ap (λ (set : List ℕ). let r : PortsAt = record { bridge_port = k + 1; ports = set } in let s : PortsAt = record { bridge_port = k + 1; ports = without_isolated b set } in filter has_ports (r ∷ s ∷ [])) empty))
 
 -- ---- one bridge port more
-pub parts_none : (t : Shape) (b : Bridge) (x : Source) (old : List PortsAt) → old ≡ old ++ filter has_ports (flat_map (parts_of t b x) (below 0))
-unfolding below
-parts_none t b x old = sym (append-nil old)
+-- those past a place don't pass
+filter_past : (test : ℕ → Bool) (m j : ℕ) → ((k : ℕ) → m ≤ k → k < m + j → test k ≡ false) → filter test (below (m + j)) ≡ filter test (below m)
+filter_past test m zero none = ap (λ (n : ℕ). filter test (below n)) (omega arith)
+filter_past test m (suc j) none =
+    let more : m + suc j ≡ m + j + 1 = omega arith in
+    let last : test (m + j) ≡ false = none (m + j) (omega arith) (omega arith) in
+    ap (λ (n : ℕ). filter test (below n)) more
+    ∙ (ap (filter test) (below-more (m + j))
+    ∙ (filter-append test (below (m + j)) ((m + j) ∷ [])
+    ∙ (ap (λ (c : Bool). filter test (below (m + j)) ++ cond c ((m + j) ∷ []) []) last
+    ∙ (append-nil (filter test (below (m + j))) ∙ filter_past test m j (λ k low high. none k low (omega (arith, high)))))))
 
-pub parts_all : (t : Shape) (b : Bridge) (x : Source) → filter has_ports (flat_map (parts_of t b x) (below 64)) ≡ some_parts t b (x ∷ [])
-unfolding parts_below some_parts
-parts_all t b x = ap (filter has_ports) (sym (append-nil (flat_map (parts_of t b x) (below 64))))
+module _ (here : ℕ → Bool) (p : Places) (are : ArePlaces here p) where
+  not_before : (k : ℕ) → k < p.first - 1 → here k ≡ false
+  not_before k low =
+      let high = p.low in
+      let order = p.in_order in
+      are k (omega (arith, low, high, order)) ∙ rw (lt-leb p.first (k + 1) (omega (arith, low))) refl
 
-pub parts_next : (t : Shape) (b : Bridge) (x : Source) (p : ℕ) (old now next : List PortsAt) → 1 ≤ p → now ≡ old ++ filter has_ports (flat_map (parts_of t b x) (below (p - 1))) →
-    next ≡ now ++ filter has_ports (parts_of t b x (p - 1)) → next ≡ old ++ filter has_ports (flat_map (parts_of t b x) (below (p + 1 - 1)))
-parts_next t b x zero old now next some before one = absurd (omega arith)
-parts_next t b x (suc k) old now next some before one =
-    let f : List PortsAt → List PortsAt = filter has_ports in
-    let parts = parts_of t b x in
-    let done : suc k - 1 ≡ k = omega arith in
-    let after : k + 1 ≡ suc k + 1 - 1 = omega arith in
-    let more : flat_map parts (below k) ++ parts k ≡ flat_map parts (below (k + 1)) = rw (below-more k, flat_map-append parts (below k) (k ∷ []), append-nil) refl in
-    one ∙ (ap (λ (n : ℕ). now ++ f (parts n)) done
-    ∙ (ap (λ (l : List PortsAt). l ++ f (parts k)) (before ∙ ap (λ (n : ℕ). old ++ f (flat_map parts (below n))) done)
-    ∙ (append_assoc old (f (flat_map parts (below k))) (f (parts k))
-    ∙ (ap (λ (l : List PortsAt). old ++ l) (sym (filter-append has_ports (flat_map parts (below k)) (parts k)))
-    ∙ (ap (λ (l : List PortsAt). old ++ f l) more ∙ ap (λ (n : ℕ). old ++ f (flat_map parts (below n))) after)))))
+  not_past : (k : ℕ) → p.past - 1 ≤ k → k < 64 → here k ≡ false
+  not_past k low high = are k high ∙ (rw (le-ltb (k + 1) p.past (omega (arith, low))) (and_no (nat_le p.first (k + 1))))
+    where
+      and_no : (c : Bool) → (c && false) ≡ false
+      and_no true = refl
+      and_no false = refl
+
+  is_here : (n : ℕ) → p.first ≤ n → n < p.past → here (n - 1) ≡ true
+  is_here n low high =
+      let first = p.from1 in
+      let past = p.low in
+      are (n - 1) (omega (arith, first, past, low, high)) ∙ rw (le-leb p.first (n - 1 + 1) (omega (arith, first, low)), lt-ltb (n - 1 + 1) p.past (omega (arith, first, low, high))) refl
+
+  module _ (t : Shape) (b : Bridge) (x : Source) where
+    pub parts_none : (old : List PortsAt) → old ≡ old ++ filter has_ports (flat_map (parts_of t b x) (filter here (below (p.first - 1))))
+    parts_none old = sym (append-nil old) ∙ ap (λ (ks : List ℕ). old ++ filter has_ports (flat_map (parts_of t b x) ks)) (sym (none_below here (p.first - 1) not_before))
+
+    pub parts_all : filter has_ports (flat_map (parts_of t b x) (filter here (below (p.past - 1)))) ≡ some_parts t b here (x ∷ [])
+    unfolding parts_where some_parts
+    parts_all =
+        let high = p.low in
+        let first = p.from1 in
+        let order = p.in_order in
+        let whole : 64 ≡ p.past - 1 + (65 - p.past) = omega (arith, high, first, order) in
+        let all : filter here (below 64) ≡ filter here (below (p.past - 1)) =
+        ap (λ (n : ℕ). filter here (below n)) whole
+        ∙ filter_past here (p.past - 1) (65 - p.past) (λ k low past. not_past k low (omega (arith, past, high, first, order))) in
+        ap (λ (ks : List ℕ). filter has_ports (flat_map (parts_of t b x) ks)) (sym all) ∙ ap (filter has_ports) (sym (append-nil (flat_map (parts_of t b x) (filter here (below 64)))))
+
+    pub parts_next : (n : ℕ) (old now next : List PortsAt) → p.first ≤ n → n < p.past →
+        now ≡ old ++ filter has_ports (flat_map (parts_of t b x) (filter here (below (n - 1)))) → next ≡ now ++ filter has_ports (parts_of t b x (n - 1)) →
+        next ≡ old ++ filter has_ports (flat_map (parts_of t b x) (filter here (below (n + 1 - 1))))
+    parts_next n old now next low high before one =
+        let f : List PortsAt → List PortsAt = filter has_ports in
+        let parts = parts_of t b x in
+        let first = p.from1 in
+        let after : n - 1 + 1 ≡ n + 1 - 1 = omega (arith, first, low) in
+        let so_far : List PortsAt = flat_map parts (filter here (below (n - 1))) in
+        let more : so_far ++ parts (n - 1) ≡ flat_map parts (filter here (below (n - 1 + 1))) =
+        sym (filter_next parts here (n - 1) ∙ ap (λ (c : Bool). so_far ++ cond c (parts (n - 1)) []) (is_here n low high)) in
+        one ∙ (ap (λ (l : List PortsAt). l ++ f (parts (n - 1))) before
+        ∙ (append_assoc old (f so_far) (f (parts (n - 1)))
+        ∙ (ap (λ (l : List PortsAt). old ++ l) (sym (filter-append has_ports so_far (parts (n - 1))))
+        ∙ (ap (λ (l : List PortsAt). old ++ f l) more ∙ ap (λ (m : ℕ). old ++ f (flat_map parts (filter here (below m)))) after))))
+
+    -- a single one
+    pub parts_one : (old next : List PortsAt) → p.past - p.first ≡ 1 → next ≡ old ++ filter has_ports (parts_of t b x (p.first - 1)) → next ≡ old ++ some_parts t b here (x ∷ [])
+    parts_one old next one put =
+        let last : p.first + 1 - 1 ≡ p.past - 1 = omega (arith, one) in
+        parts_next p.first old old next (omega arith) (omega (arith, one)) (parts_none old) put
+        ∙ (ap (λ (n : ℕ). old ++ filter has_ports (flat_map (parts_of t b x) (filter here (below n)))) last ∙ ap (λ (l : List PortsAt). old ++ l) parts_all)
 
 -- ---- which bridge ports a set reaches
 pub word_some : (words : List ℕ) (q : ℕ) → has_port words q ≡ true → slice_index words (q / 64) ≢ 0
@@ -183,7 +235,7 @@ kind_part t b vid kind test among set is_among is q =
     moved false false a c = refl
 
 -- all of the extended ports
-pub all_among : (t : Shape) (b : Bridge) (g : Branches) → AreBranches t b g → IsAmong t (λ q. true) g.extended
+pub all_among : (t : Shape) (b : Bridge) {here : ℕ → Bool} (g : Branches) → AreBranches t b here g → IsAmong t (λ q. true) g.extended
 all_among t b g branches q = branches.extended q ∙ and_true (is_extended t q)
   where
     and_true : (c : Bool) → c ≡ (c && true)
@@ -191,19 +243,21 @@ all_among t b g branches q = branches.extended q ∙ and_true (is_extended t q)
     and_true false = refl
 
 -- ---- one source after another
-some-append : (t : Shape) (b : Bridge) (xs ys : List Source) → some_parts t b (xs ++ ys) ≡ some_parts t b xs ++ some_parts t b ys
+some-append : (t : Shape) (b : Bridge) (here : ℕ → Bool) (xs ys : List Source) → some_parts t b here (xs ++ ys) ≡ some_parts t b here xs ++ some_parts t b here ys
 unfolding some_parts
-some-append t b xs ys = ap (filter has_ports) (flat_map-append (parts_below t b) xs ys) ∙ filter-append has_ports (flat_map (parts_below t b) xs) (flat_map (parts_below t b) ys)
+some-append t b here xs ys =
+    ap (filter has_ports) (flat_map-append (parts_where t b here) xs ys) ∙ filter-append has_ports (flat_map (parts_where t b here) xs) (flat_map (parts_where t b here) ys)
 
-pub adds_none : (t : Shape) (b : Bridge) (items : List SetAt) → Adds t b [] items items
+pub adds_none : (t : Shape) (b : Bridge) (here : ℕ → Bool) (items : List SetAt) → Adds t b here [] items items
 unfolding some_parts
-adds_none t b items = sym (append-nil (map seen items))
+adds_none t b here items = sym (append-nil (map seen items))
 
-pub adds_more : (t : Shape) (b : Bridge) (xs ys : List Source) (old now new : List SetAt) → Adds t b xs old now → Adds t b ys now new → Adds t b (xs ++ ys) old new
-adds_more t b xs ys old now new one two =
-    two ∙ (ap (λ (l : List PortsAt). l ++ some_parts t b ys) one
-    ∙ (append_assoc (map seen old) (some_parts t b xs) (some_parts t b ys) ∙ ap (λ (l : List PortsAt). map seen old ++ l) (sym (some-append t b xs ys))))
+pub adds_more : (t : Shape) (b : Bridge) (here : ℕ → Bool) (xs ys : List Source) (old now new : List SetAt) → Adds t b here xs old now → Adds t b here ys now new →
+    Adds t b here (xs ++ ys) old new
+adds_more t b here xs ys old now new one two =
+    two ∙ (ap (λ (l : List PortsAt). l ++ some_parts t b here ys) one
+    ∙ (append_assoc (map seen old) (some_parts t b here xs) (some_parts t b here ys) ∙ ap (λ (l : List PortsAt). map seen old ++ l) (sym (some-append t b here xs ys))))
 
 -- the same sources by another name
-pub adds_same : (t : Shape) (b : Bridge) (xs ys : List Source) (old new : List SetAt) → xs ≡ ys → Adds t b xs old new → Adds t b ys old new
-adds_same t b xs ys old new same adds = adds ∙ ap (λ (l : List Source). map seen old ++ some_parts t b l) same
+pub adds_same : (t : Shape) (b : Bridge) (here : ℕ → Bool) (xs ys : List Source) (old new : List SetAt) → xs ≡ ys → Adds t b here xs old new → Adds t b here ys old new
+adds_same t b here xs ys old new same adds = adds ∙ ap (λ (l : List Source). map seen old ++ some_parts t b here l) same

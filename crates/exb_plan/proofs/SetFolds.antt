@@ -1,5 +1,5 @@
 -- Sets that are put one after another.
-use Rattle.std.proofs.Common.{◌≡◌, ℕ, suc, ◌+◌, ◌<◌, ◌&&◌, ◌||◌, Bool, true, false, cond, List, [], ◌∷◌, ◌++◌, Option, Some, None, filter, map, fold, refl, sym, ◌∙◌, ap}
+use Rattle.std.proofs.Common.{◌≡◌, ℕ, zero, suc, ◌+◌, ◌-◌, ◌<◌, ◌≤◌, length, get_or, take, arith, ◌&&◌, ◌||◌, Bool, true, false, cond, List, [], ◌∷◌, ◌++◌, Option, Some, None, filter, map, fold, refl, sym, ◌∙◌, ap}
 use Rattle.std.specs.List.{list_any, flat_map, range_with_len}
 use Rattle.std.specs.Prelude.{is_some}
 use Rattle.std.proofs.lemmas.Bool.{false≢true, false_from_ne_true}
@@ -17,11 +17,50 @@ use Rattle.exb_model.proofs.PortLemmas.{range-more, any_below-true, filter_below
 use Rattle.exb_control_spec.specs.declared.plan.set_at.SetAt.{SetAt}
 use Rattle.exb_plan.specs.Parts.{has_ports, some_parts, Adds}
 use Rattle.exb_control_spec.specs.Plans.Sets.{PortsAt, parts_of, parts_below, is_same_set, with_set_at, sets_of, seen}
+use Rattle.exb_control_spec.specs.Plans.TouchedParts.{parts_where}
+use Rattle.exb_control_spec.proofs.Plans.ListTests.{flat_map-same}
+use Rattle.exb_control_spec.proofs.Plans.Commands.{where_all}
+use Rattle.exb_control_spec.proofs.Plans.DistinctLists.{any-append}
+use Rattle.exb_control_spec.proofs.Plans.GroupClaims.{set_itself}
+use Rattle.exb_plan.proofs.Lists.{image_next}
 use Rattle.exb_plan.proofs.PartLists.{part_is}
 
 -- ---- one set
 pub with_set-none : (sets : List PortsAt) (s : PortsAt) → (is_empty_set s.ports || list_any (is_same_set s) sets) ≡ true → with_set_at sets s ≡ sets
 with_set-none sets s h = rw h refl
+
+-- put once more it changes nothing
+pub put_again : (sets : List PortsAt) (s : PortsAt) → with_set_at (with_set_at sets s) s ≡ with_set_at sets s
+put_again sets s = by_test (is_empty_set s.ports || list_any (is_same_set s) sets) refl
+  where
+    there : (is_empty_set s.ports || list_any (is_same_set s) (sets ++ s ∷ [])) ≡ true
+    there = rw (any-append (is_same_set s) sets (s ∷ []), set_itself s) (last (is_empty_set s.ports) (list_any (is_same_set s) sets))
+      where
+        last : (e a : Bool) → (e || (a || true)) ≡ true
+        last true a = refl
+        last false true = refl
+        last false false = refl
+
+    by_test : (e : Bool) → (is_empty_set s.ports || list_any (is_same_set s) sets) ≡ e → with_set_at (with_set_at sets s) s ≡ with_set_at sets s
+    by_test true h = ap (λ (l : List PortsAt). with_set_at l s) (with_set-none sets s h)
+    by_test false h = rw h (with_set-none (sets ++ s ∷ []) s there)
+
+-- one that is the same as the one before it is there already
+pub put_repeated : (old : List PortsAt) (xs : List SetAt) (i : ℕ) (x y : SetAt) → 1 ≤ i → i < length xs → x ≡ get_or xs i x → y ≡ get_or xs (i - 1) y → seen x ≡ seen y →
+    fold with_set_at old (map seen (take i xs)) ≡ fold with_set_at old (map seen (take (i + 1) xs))
+put_repeated old xs zero x y some within x_is y_is same = absurd (omega arith)
+put_repeated old xs (suc j) x y some within x_is y_is same =
+    let now : List PortsAt = fold with_set_at old (map seen (take j xs)) in
+    let next : suc j ≡ j + 1 = omega arith in
+    let place : suc j - 1 ≡ j = omega arith in
+    let first : fold with_set_at old (map seen (take (suc j) xs)) ≡ with_set_at now (seen y) =
+    ap (λ (n : ℕ). fold with_set_at old (map seen (take n xs))) next
+    ∙ (ap (fold with_set_at old) (image_next seen xs j y (omega (arith, within)) (y_is ∙ ap (λ (n : ℕ). get_or xs n y) place))
+    ∙ fold-append with_set_at old (map seen (take j xs)) (seen y ∷ [])) in
+    sym (ap (fold with_set_at old) (image_next seen xs (suc j) x within x_is)
+    ∙ (fold-append with_set_at old (map seen (take (suc j) xs)) (seen x ∷ [])
+    ∙ (ap (λ (s : PortsAt). with_set_at (fold with_set_at old (map seen (take (suc j) xs))) s) same
+    ∙ (ap (λ (l : List PortsAt). with_set_at l (seen y)) first ∙ (put_again now (seen y) ∙ sym first)))))
 
 -- ---- several sets
 put_some : (sets : List PortsAt) (x : PortsAt) → is_empty_set x.ports ≡ false → with_set_at sets x ≡ cond (list_any (is_same_set x) sets) sets (sets ++ x ∷ [])
@@ -38,11 +77,13 @@ fold_some sets (x ∷ xs) = by_test (is_empty_set x.ports) refl (λ l. fold_some
     by_test false h rest = rw h (rest (with_set_at sets x) ∙ ap (λ (l : List PortsAt). fold with_set_at l xs) (put_some sets x h))
 
 -- the parts of sources, gathered first
-pub gathered : (t : Shape) (b : Bridge) (xs : List Source) (none parts : List SetAt) (old : List PortsAt) → none ≡ [] → Adds t b xs none parts →
+pub gathered : (t : Shape) (b : Bridge) (xs : List Source) (none parts : List SetAt) (old : List PortsAt) → none ≡ [] → Adds t b (λ k. true) xs none parts →
     fold with_set_at old (map seen parts) ≡ fold with_set_at old (flat_map (parts_below t b) xs)
 unfolding some_parts
 gathered t b xs none parts old empty adds =
-    ap (fold with_set_at old) (adds ∙ ap (λ (l : List SetAt). map seen l ++ some_parts t b xs) empty) ∙ fold_some old (flat_map (parts_below t b) xs)
+    ap (fold with_set_at old) (adds ∙ ap (λ (l : List SetAt). map seen l ++ some_parts t b (λ k. true) xs) empty)
+    ∙ (fold_some old (flat_map (parts_where t b (λ k. true)) xs)
+    ∙ ap (fold with_set_at old) (flat_map-same (parts_where t b (λ k. true)) (parts_below t b) xs (where_all t b)))
 
 -- ---- the two kinds of a VLAN
 pub both_put : (t : Shape) (b : Bridge) (vid : ℕ) (test : ℕ → Bool) (old first second : List PortsAt) →

@@ -27,6 +27,9 @@ ports_are a = refl
 pub ports_by : (a : PortSet) (test : ℕ → Bool) → ((q : ℕ) → q < 4160 → port_in a q ≡ test q) → ports_of a ≡ filter test all_ports
 ports_by a test same = ports_are a ∙ filter_below-agree (port_in a) test 4160 same
 
+pub same_ports : (a b : PortSet) → ((q : ℕ) → port_in a q ≡ port_in b q) → ports_of a ≡ ports_of b
+same_ports a b same = ports_by a (port_in b) (λ q l. same q) ∙ sym (ports_are b)
+
 same_lists : (a b : PortSet) → ports_of a ≡ ports_of b → (q : ℕ) → port_in a q ≡ port_in b q
 same_lists a b h q =
     elim (cases_lt q 4160) [

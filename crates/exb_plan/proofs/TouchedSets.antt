@@ -1,7 +1,7 @@
 -- The parts that a command touches are parts of the configuration, before it and after it.
 use Rattle.std.proofs.Common.{◌≡◌, ℕ, zero, suc, ◌+◌, ◌-◌, ◌<◌, ◌≤◌, ◌&&◌, cond, Bool, true, false, not, List, [], ◌∷◌, length, get_or, map, filter, refl, sym, ◌∙◌, ap, subst, arith, inl, inr}
 use Rattle.std.specs.Prelude.{All, fold, count_by, nat_lt}
-use Rattle.std.specs.List.{list_any, flat_map}
+use Rattle.std.specs.List.{list_any}
 use Rattle.std.proofs.lemmas.Bool.{cases_Bool, or_cases, and_from, ltb-true, lt-ltb, false≢true, false_from_ne_true}
 use Rattle.std.proofs.lemmas.List.Elements.{filter_agree}
 use Rattle.exb_model.specs.declared.command.Command.{Command}
@@ -10,7 +10,7 @@ use Rattle.exb_model.specs.Configuration.{Bridge, after}
 use Rattle.exb_model.specs.Refusals.{is_empty_set}
 use Rattle.exb_numbers.specs.Spaces.{Spaces}
 use Rattle.exb_control_spec.specs.declared.plan.set_at.SetAt.{SetAt}
-use Rattle.exb_control_spec.specs.Plans.Sets.{PortsAt, is_same_set, with_set_at, sets_of, parts_below, seen}
+use Rattle.exb_control_spec.specs.Plans.Sets.{PortsAt, is_same_set, with_set_at, sets_of, seen}
 use Rattle.exb_control_spec.specs.Plans.HeldNumbers.{Held, HoldsNeeded}
 use Rattle.exb_control_spec.specs.Plans.Differences.{has_set, fresh_sets}
 use Rattle.exb_plan.specs.PlanValues.{IsPlaced, SpacesOf}
@@ -18,8 +18,8 @@ use Rattle.exb_control_spec.specs.Plans.FreshSets.{has_group}
 use Rattle.exb_control_spec.proofs.Plans.EachElement.{Each, filter_each}
 use Rattle.exb_control_spec.proofs.Plans.SetFacts.{IsBelow, sets_below, has_at}
 use Rattle.exb_control_spec.proofs.Plans.GroupClaims.{set_is, set_itself, is_none}
-use Rattle.exb_control_spec.specs.Plans.TouchedParts.{uses_in, uses_of, parts_of_all, parts_before, parts_after}
-use Rattle.exb_control_spec.proofs.Plans.ListTests.{count-cons, count-append, any_counts, filter-both}
+use Rattle.exb_control_spec.specs.Plans.TouchedParts.{uses_in, uses_of, parts_before, parts_after}
+use Rattle.exb_control_spec.proofs.Plans.ListTests.{count-cons, any_counts, filter-both}
 use Rattle.exb_control_spec.proofs.Plans.DistinctInsertion.{some-fold}
 use Rattle.exb_control_spec.proofs.Plans.ListDifferences.{Differ, none, kept, goes, comes}
 use Rattle.exb_control_spec.proofs.Plans.Commands.{command_differs}
@@ -29,40 +29,38 @@ use Rattle.exb_control_spec.proofs.Plans.CommandFreshSets.{fresh_are_touched}
 use Rattle.exb_plan.specs.Parts.{has_ports}
 
 -- ---- what goes and comes is of the lists
-module _ {X Y : Type 0} (f g : X → List Y) (p : Y → Bool) where
-  gone_within : {xs ys gone come : List X} → Differ f g xs ys gone come → count_by p (flat_map f gone) ≤ count_by p (flat_map f xs)
+module _ {Y : Type 0} (p : Y → Bool) where
+  gone_within : {xs ys gone come : List Y} → Differ xs ys gone come → count_by p gone ≤ count_by p xs
   gone_within none = omega arith
-  gone_within (kept {x} {xs} {ys} {gone} {come} e d) =
+  gone_within (kept {x} {xs} {ys} {gone} {come} d) =
       let rest = gone_within d in
-      let a = count-append p (f x) (flat_map f xs) in
+      let a = count-cons p x xs in
       omega (arith, rest, a)
   gone_within (goes {x} {xs} {ys} {gone} {come} d) =
       let rest = gone_within d in
-      let a = count-append p (f x) (flat_map f xs) in
-      let b = count-append p (f x) (flat_map f gone) in
+      let a = count-cons p x xs in
+      let b = count-cons p x gone in
       omega (arith, rest, a, b)
   gone_within (comes {x} {xs} {ys} {gone} {come} d) = gone_within d
 
-  come_within : {xs ys gone come : List X} → Differ f g xs ys gone come → count_by p (flat_map g come) ≤ count_by p (flat_map g ys)
+  come_within : {xs ys gone come : List Y} → Differ xs ys gone come → count_by p come ≤ count_by p ys
   come_within none = omega arith
-  come_within (kept {x} {xs} {ys} {gone} {come} e d) =
+  come_within (kept {x} {xs} {ys} {gone} {come} d) =
       let rest = come_within d in
-      let a = count-append p (g x) (flat_map g ys) in
+      let a = count-cons p x ys in
       omega (arith, rest, a)
   come_within (goes {x} {xs} {ys} {gone} {come} d) = come_within d
   come_within (comes {x} {xs} {ys} {gone} {come} d) =
       let rest = come_within d in
-      let a = count-append p (g x) (flat_map g ys) in
-      let b = count-append p (g x) (flat_map g come) in
+      let a = count-cons p x ys in
+      let b = count-cons p x come in
       omega (arith, rest, a, b)
 
 pub before_within : (t : Shape) (c : Command) (b : Bridge) (s : PortsAt) → uses_in (parts_before t c b) s ≤ uses_of t b s
-unfolding parts_before parts_of_all
-before_within t c b s = gone_within (parts_below t b) (parts_below t (after c b)) (is_same_set s) (command_differs t b c)
+before_within t c b s = gone_within (is_same_set s) (command_differs t b c)
 
 pub after_within : (t : Shape) (c : Command) (b : Bridge) (s : PortsAt) → uses_in (parts_after t c b) s ≤ uses_of t (after c b) s
-unfolding parts_after parts_of_all
-after_within t c b s = come_within (parts_below t b) (parts_below t (after c b)) (is_same_set s) (command_differs t b c)
+after_within t c b s = come_within (is_same_set s) (command_differs t b c)
 
 -- ---- parts with a port
 not_true : (b : Bool) → not b ≡ true → b ≡ false

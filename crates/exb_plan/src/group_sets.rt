@@ -1,11 +1,11 @@
 //! The sets of ports that need a group.
-ghost use Rattle.std.specs.Prelude.{◌≡◌, ℕ, Bool, true, [], fold, flat_map, map, IfOk, OnOk};
+ghost use Rattle.std.specs.Prelude.{◌≡◌, ℕ, ◌+◌, ◌<◌, Bool, true, List, [], fold, flat_map, length, map, take, IfOk, OnOk};
 ghost use Rattle.exb_model.specs.Ports.{port_in};
 ghost use Rattle.exb_model.specs.Tree.{Shape};
 ghost use Rattle.exb_model.specs.Refusals.{all_vids, both_kinds};
 ghost use Rattle.exb_config.specs.Tables.{bridge_of};
 ghost use Rattle.exb_plan.specs.Branches.{AreBranches, IsAmong};
-ghost use Rattle.exb_control_spec.specs.Plans.Sets.{with_set_at, parts_below, sets_of, seen};
+ghost use Rattle.exb_control_spec.specs.Plans.Sets.{PortsAt, with_set_at, parts_below, sets_of, seen};
 
 use crate::branches::Branches;
 use crate::parts::put_kinds;
@@ -29,12 +29,35 @@ fn put_once(sets: &mut IndexSet<SetAt>, set: &SetAt) -> Result<(), NoMemory>
     Ok(())
 }
 
+// Whether two sets are the same.
+fn are_same(one: &SetAt, other: &SetAt) -> bool
+    ensures { result ≡ true → seen one.now ≡ seen other.now }
+{
+    one.bridge_port == other.bridge_port && one.set.is_same(&other.set)
+}
+
+// Puts the set at a place, where those before it are put. One that is the same as the one before it is there already.
+fn put_next(sets: &mut IndexSet<SetAt>, more: &[SetAt], place: usize) -> Result<(), NoMemory>
+    requires { place < length more.now }
+    ensures { (old : List PortsAt) → map seen sets.old.keys ≡ fold with_set_at old (map seen (take place more.now)) →
+        OnOk result (map seen sets.new.keys ≡ fold with_set_at old (map seen (take (place + 1) more.now))) }
+{
+    let set = &more[place];
+    if place > 0 {
+        let before = &more[place - 1];
+        if are_same(set, before) {
+            return Ok(());
+        }
+    }
+    put_once(sets, set)
+}
+
 // Puts each of these, in their order.
 fn put_all_once(sets: &mut IndexSet<SetAt>, more: &[SetAt]) -> Result<(), NoMemory>
     ensures { OnOk result (map seen sets.new.keys ≡ fold with_set_at (map seen sets.old.keys) (map seen more.now)) }
 {
-    for set in more {
-        put_once(sets, set)?;
+    for place in 0..more.len() {
+        put_next(sets, more, place)?;
     }
     Ok(())
 }
@@ -57,7 +80,7 @@ fn put_vlan(
     vid: Vid,
     among: &PortSet,
 ) -> Result<(), NoMemory>
-    ensures { (t : Shape) → (test : ℕ → Bool) → AreBranches t (bridge_of config.now) branches.now → IsAmong t test among.now →
+    ensures { (t : Shape) → (test : ℕ → Bool) → AreBranches t (bridge_of config.now) (λ k. true) branches.now → IsAmong t test among.now →
         OnOk result (map seen sets.new.keys ≡ fold with_set_at (map seen sets.old.keys) (flat_map (parts_below t (bridge_of config.now)) (both_kinds vid test))) }
 {
     let mut parts = Vec::new(alloc);
@@ -72,7 +95,7 @@ fn put_vlans(
     branches: &Branches,
     config: &Config,
 ) -> Result<(), NoMemory>
-    ensures { (t : Shape) → AreBranches t (bridge_of config.now) branches.now →
+    ensures { (t : Shape) → AreBranches t (bridge_of config.now) (λ k. true) branches.now →
         OnOk result (map seen sets.new.keys ≡ fold with_set_at (map seen sets.old.keys)
         (flat_map (parts_below t (bridge_of config.now)) (flat_map (λ v. both_kinds v (λ q. true)) all_vids))) }
 {
@@ -92,7 +115,7 @@ fn put_statics(
     branches: &Branches,
     config: &Config,
 ) -> Result<(), NoMemory>
-    ensures { (t : Shape) → AreBranches t (bridge_of config.now) branches.now →
+    ensures { (t : Shape) → AreBranches t (bridge_of config.now) (λ k. true) branches.now →
         OnOk result (map seen sets.new.keys ≡ fold with_set_at (map seen sets.old.keys)
         (flat_map (parts_below t (bridge_of config.now)) (flat_map (λ e. both_kinds e.vid (port_in e.ports)) (bridge_of config.now).statics))) }
 {
@@ -115,7 +138,7 @@ fn put_sources(
     branches: &Branches,
     config: &Config,
 ) -> Result<(), NoMemory>
-    ensures { (t : Shape) → AreBranches t (bridge_of config.now) branches.now → sets.old.keys ≡ [] →
+    ensures { (t : Shape) → AreBranches t (bridge_of config.now) (λ k. true) branches.now → sets.old.keys ≡ [] →
         OnOk result (map seen sets.new.keys ≡ sets_of t (bridge_of config.now)) }
 {
     put_vlans(alloc, sets, branches, config)?;

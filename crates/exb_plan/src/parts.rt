@@ -11,6 +11,7 @@ ghost use Rattle.exb_control_spec.specs.Plans.Sets.{parts_of, seen};
 
 use crate::branches::Branches;
 use crate::config_view::View;
+use crate::places::Places;
 use exb_control_spec::SetAt;
 use exb_model::memory::NoMemory;
 use exb_model::port_set::PortSet;
@@ -38,7 +39,7 @@ fn put_below(
 ) -> Result<(), NoMemory>
     requires from1 { 1 ≤ bridge_port }
     requires reached { is_reached ≡ false → (q : ℕ) → (slice_index branches.now.trunks (q / 64) == bridge_port && port_in members.now q) ≡ false }
-    ensures { (t : Shape) → (b : Bridge) → (x : Source) → AreBranches t b branches.now → IsPart t b x members.now →
+    ensures { (t : Shape) → (b : Bridge) → (here : ℕ → Bool) → (x : Source) → AreBranches t b here branches.now → IsPart t b x members.now →
         OnOk result (map seen parts.new.items ≡ map seen parts.old.items ++ filter has_ports (parts_of t b x (bridge_port - 1))) }
 {
     if !is_reached {
@@ -51,20 +52,24 @@ fn put_below(
     Ok(())
 }
 
-// Puts, below each bridge port in order, the part of a source and the part without its isolated ports.
+// Puts, below each bridge port that is looked at, in order, the part of a source and the part without its isolated ports.
 fn put_all(parts: &mut Vec<SetAt>, branches: &Branches, members: &PortSet) -> Result<(), NoMemory>
-    ensures { (t : Shape) → (b : Bridge) → (x : Source) → AreBranches t b branches.now → IsPart t b x members.now →
-        OnOk result (Adds t b (x ∷ []) parts.old.items parts.new.items) }
+    ensures { (t : Shape) → (b : Bridge) → (here : ℕ → Bool) → (x : Source) → AreBranches t b here branches.now → IsPart t b x members.now →
+        OnOk result (Adds t b here (x ∷ []) parts.old.items parts.new.items) }
 {
+    let Places { first, past } = branches.places;
+    if past - first == 1 {
+        return put_below(parts, branches, members, first, true);
+    }
     let reached = branches.reached(members);
-    for bridge_port in 1..65u8 {
+    for bridge_port in first..past {
         let is_reached = reached[bridge_port as usize];
         put_below(parts, branches, members, bridge_port, is_reached)?;
     }
     Ok(())
 }
 
-/// Puts the non-empty parts of a VLAN's members in a kind, among some ports: by bridge port, and there the part before
+/// Puts the non-empty parts of a VLAN's members in a kind, among some ports: by bridge port that is looked at, and there the part before
 /// the part without its isolated ports.
 pub fn put_kind<V: View>(
     parts: &mut Vec<SetAt>,
@@ -74,8 +79,8 @@ pub fn put_kind<V: View>(
     among: &PortSet,
     kind: Kind,
 ) -> Result<(), NoMemory>
-    ensures { (t : Shape) → (test : ℕ → Bool) → AreBranches t (V.bridge view.now) branches.now → IsAmong t test among.now →
-        OnOk result (Adds t (V.bridge view.now) (record { vid = vid; kind = kind; among = test } ∷ []) parts.old.items parts.new.items) }
+    ensures { (t : Shape) → (here test : ℕ → Bool) → AreBranches t (V.bridge view.now) here branches.now → IsAmong t test among.now →
+        OnOk result (Adds t (V.bridge view.now) here (record { vid = vid; kind = kind; among = test } ∷ []) parts.old.items parts.new.items) }
 {
     let members = view.part(vid, among, kind);
     put_all(parts, branches, &members)
@@ -89,8 +94,8 @@ pub fn put_kinds<V: View>(
     vid: Vid,
     among: &PortSet,
 ) -> Result<(), NoMemory>
-    ensures { (t : Shape) → (test : ℕ → Bool) → AreBranches t (V.bridge view.now) branches.now → IsAmong t test among.now →
-        OnOk result (Adds t (V.bridge view.now) (both_kinds vid test) parts.old.items parts.new.items) }
+    ensures { (t : Shape) → (here test : ℕ → Bool) → AreBranches t (V.bridge view.now) here branches.now → IsAmong t test among.now →
+        OnOk result (Adds t (V.bridge view.now) here (both_kinds vid test) parts.old.items parts.new.items) }
 {
     put_kind(parts, branches, view, vid, among, Kind::Tagged)?;
     put_kind(parts, branches, view, vid, among, Kind::Untagged)

@@ -43,9 +43,9 @@ fn add_kind_with<V: View>(
     among: &PortSet,
     port: PortId,
 ) -> Result<(), NoMemory>
-    ensures { (t : Shape) → (test : ℕ → Bool) → AreBranches t (V.bridge view.now) branches.now →
+    ensures { (t : Shape) → (here test : ℕ → Bool) → AreBranches t (V.bridge view.now) here branches.now →
         IsAmong t test among.now → test port ≡ true →
-        OnOk result (Adds t (V.bridge view.now)
+        OnOk result (Adds t (V.bridge view.now) here
         (filter (has_port (bridge_of config.now) port) (both_kinds vid test)) parts.old.items parts.new.items) }
 {
     match config.member(vid, port) {
@@ -72,11 +72,11 @@ fn add_vlan_with<V: View>(
     vid: Vid,
     port: PortId,
 ) -> Result<(), NoMemory>
-    ensures before { (t : Shape) → AreBranches t (bridge_of config.now) branches.now →
-        OnOk result (Adds t (bridge_of config.now)
+    ensures before { (t : Shape) → (here : ℕ → Bool) → AreBranches t (bridge_of config.now) here branches.now →
+        OnOk result (Adds t (bridge_of config.now) here
         (filter (has_port (bridge_of config.now) port) (both_kinds vid (λ q. true))) parts.old.before.items parts.new.before.items) }
-    ensures later { (t : Shape) → AreBranches t (V.bridge view.now) branches_later.now →
-        OnOk result (Adds t (V.bridge view.now)
+    ensures later { (t : Shape) → (here : ℕ → Bool) → AreBranches t (V.bridge view.now) here branches_later.now →
+        OnOk result (Adds t (V.bridge view.now) here
         (filter (has_port (bridge_of config.now) port) (both_kinds vid (λ q. true))) parts.old.later.items parts.new.later.items) }
 {
     let all = &branches.extended;
@@ -104,11 +104,11 @@ fn add_vlans_with<V: View>(
     config: &Config,
     port: PortId,
 ) -> Result<(), NoMemory>
-    ensures before { (t : Shape) → AreBranches t (bridge_of config.now) branches.now →
-        OnOk result (Adds t (bridge_of config.now)
+    ensures before { (t : Shape) → (here : ℕ → Bool) → AreBranches t (bridge_of config.now) here branches.now →
+        OnOk result (Adds t (bridge_of config.now) here
         (filter (has_port (bridge_of config.now) port) sources_of_vlans) parts.old.before.items parts.new.before.items) }
-    ensures later { (t : Shape) → AreBranches t (V.bridge view.now) branches_later.now →
-        OnOk result (Adds t (V.bridge view.now)
+    ensures later { (t : Shape) → (here : ℕ → Bool) → AreBranches t (V.bridge view.now) here branches_later.now →
+        OnOk result (Adds t (V.bridge view.now) here
         (filter (has_port (bridge_of config.now) port) sources_of_vlans) parts.old.later.items parts.new.later.items) }
 {
     for number in 1..4095u16 {
@@ -132,8 +132,8 @@ fn add_vlan<V: View>(
     view: &V,
     vid: Vid,
 ) -> Result<(), NoMemory>
-    ensures { (t : Shape) → AreBranches t (V.bridge view.now) branches.now →
-        OnOk result (Adds t (V.bridge view.now)
+    ensures { (t : Shape) → (here : ℕ → Bool) → AreBranches t (V.bridge view.now) here branches.now →
+        OnOk result (Adds t (V.bridge view.now) here
         (filter (is_of vid) sources_of_vlans) parts.old.items parts.new.items) }
 {
     is_numbered(vid);
@@ -149,11 +149,11 @@ fn add_vlans<V: View>(
     config: &Config,
     command: &Command,
 ) -> Result<(), NoMemory>
-    ensures before { (t : Shape) → AreBranches t (bridge_of config.now) branches.now →
-        OnOk result (Adds t (bridge_of config.now)
+    ensures before { (t : Shape) → (here : ℕ → Bool) → AreBranches t (bridge_of config.now) here branches.now →
+        OnOk result (Adds t (bridge_of config.now) here
         (vlans_touched command.now (bridge_of config.now)) parts.old.before.items parts.new.before.items) }
-    ensures later { (t : Shape) → AreBranches t (V.bridge view.now) branches_later.now →
-        OnOk result (Adds t (V.bridge view.now)
+    ensures later { (t : Shape) → (here : ℕ → Bool) → AreBranches t (V.bridge view.now) here branches_later.now →
+        OnOk result (Adds t (V.bridge view.now) here
         (vlans_touched command.now (bridge_of config.now)) parts.old.later.items parts.new.later.items) }
 {
     match *command {
@@ -177,8 +177,8 @@ fn add_entry<V: View>(
     vid: Vid,
     ports: &PortSet,
 ) -> Result<(), NoMemory>
-    ensures { (t : Shape) → AreBranches t (V.bridge view.now) branches.now →
-        OnOk result (Adds t (V.bridge view.now)
+    ensures { (t : Shape) → (here : ℕ → Bool) → AreBranches t (V.bridge view.now) here branches.now →
+        OnOk result (Adds t (V.bridge view.now) here
         (both_kinds vid (port_in ports.now)) parts.old.items parts.new.items) }
 {
     let among = branches.extended.both(ports);
@@ -194,8 +194,8 @@ fn add_entry_with<V: View>(
     entry: &StaticAt,
     port: PortId,
 ) -> Result<(), NoMemory>
-    ensures { (t : Shape) → AreBranches t (V.bridge view.now) branches.now →
-        OnOk result (Adds t (V.bridge view.now)
+    ensures { (t : Shape) → (here : ℕ → Bool) → AreBranches t (V.bridge view.now) here branches.now →
+        OnOk result (Adds t (V.bridge view.now) here
         (filter (has_port (bridge_of config.now) port) (both_kinds entry.now.vid (port_in entry.now.ports))) parts.old.items parts.new.items) }
 {
     if entry.ports.contains(port) {
@@ -221,8 +221,8 @@ fn add_entry_in<V: View>(
     entry: &StaticAt,
     vid: Vid,
 ) -> Result<(), NoMemory>
-    ensures { (t : Shape) → AreBranches t (V.bridge view.now) branches.now →
-        OnOk result (Adds t (V.bridge view.now)
+    ensures { (t : Shape) → (here : ℕ → Bool) → AreBranches t (V.bridge view.now) here branches.now →
+        OnOk result (Adds t (V.bridge view.now) here
         (filter (is_of vid) (both_kinds entry.now.vid (port_in entry.now.ports))) parts.old.items parts.new.items) }
 {
     if entry.vid.number() == vid.number() {
@@ -241,8 +241,8 @@ fn add_entry_for<V: View>(
     vid: Vid,
     address: Mac,
 ) -> Result<(), NoMemory>
-    ensures { (t : Shape) → AreBranches t (V.bridge view.now) branches.now →
-        OnOk result (Adds t (V.bridge view.now)
+    ensures { (t : Shape) → (here : ℕ → Bool) → AreBranches t (V.bridge view.now) here branches.now →
+        OnOk result (Adds t (V.bridge view.now) here
         (if is_for vid address.0 entry.now then sources_of_entry entry.now else []) parts.old.items parts.new.items) }
 {
     if is_for(entry, vid, address) {
@@ -261,8 +261,8 @@ fn add_touched<V: View>(
     command: &Command,
     entry: &StaticAt,
 ) -> Result<(), NoMemory>
-    ensures { (t : Shape) → AreBranches t (V.bridge view.now) branches.now →
-        OnOk result (Adds t (V.bridge view.now)
+    ensures { (t : Shape) → (here : ℕ → Bool) → AreBranches t (V.bridge view.now) here branches.now →
+        OnOk result (Adds t (V.bridge view.now) here
         (entry_touched command.now (bridge_of config.now) entry.now) parts.old.items parts.new.items) }
 {
     match *command {
@@ -308,9 +308,9 @@ fn add_entry_at<V: View>(
     at: u64,
     vid: Vid,
 ) -> Result<(), NoMemory>
-    ensures { (t : Shape) → (e : StaticAt) → AreBranches t (V.bridge view.now) branches.now →
+    ensures { (t : Shape) → (here : ℕ → Bool) → (e : StaticAt) → AreBranches t (V.bridge view.now) here branches.now →
         slice_get (bridge_of config.now).statics at ≡ Some e → e.vid ≡ vid →
-        OnOk result (Adds t (V.bridge view.now)
+        OnOk result (Adds t (V.bridge view.now) here
         (entry_touched command.now (bridge_of config.now) e) parts.old.items parts.new.items) }
 {
     if !may_touch(config, command, vid) {
@@ -330,8 +330,8 @@ fn add_entries<V: View>(
     config: &Config,
     command: &Command,
 ) -> Result<(), NoMemory>
-    ensures { (t : Shape) → AreBranches t (V.bridge view.now) branches.now →
-        OnOk result (Adds t (V.bridge view.now)
+    ensures { (t : Shape) → (here : ℕ → Bool) → AreBranches t (V.bridge view.now) here branches.now →
+        OnOk result (Adds t (V.bridge view.now) here
         (flat_map (entry_touched command.now (bridge_of config.now)) (bridge_of config.now).statics) parts.old.items parts.new.items) }
 {
     for at in 0..u64::MAX {
@@ -351,9 +351,9 @@ fn add_before<V: View>(
     config: &Config,
     command: &Command,
 ) -> Result<(), NoMemory>
-    ensures { (t : Shape) → AreBranches t (V.bridge view.now) branches.now → (old : List SetAt) →
-        Adds t (V.bridge view.now) (vlans_touched command.now (bridge_of config.now)) old parts.old.items →
-        OnOk result (Adds t (V.bridge view.now) (touched_before command.now (bridge_of config.now)) old parts.new.items) }
+    ensures { (t : Shape) → (here : ℕ → Bool) → AreBranches t (V.bridge view.now) here branches.now → (old : List SetAt) →
+        Adds t (V.bridge view.now) here (vlans_touched command.now (bridge_of config.now)) old parts.old.items →
+        OnOk result (Adds t (V.bridge view.now) here (touched_before command.now (bridge_of config.now)) old parts.new.items) }
 {
     match *command {
         Command::Static { vid, address, .. } => match config.entry(vid, address) {
@@ -372,9 +372,9 @@ fn add_after<V: View>(
     config: &Config,
     command: &Command,
 ) -> Result<(), NoMemory>
-    ensures { (t : Shape) → AreBranches t (V.bridge view.now) branches.now → (old : List SetAt) →
-        Adds t (V.bridge view.now) (vlans_touched command.now (bridge_of config.now)) old parts.old.items →
-        OnOk result (Adds t (V.bridge view.now) (touched_after command.now (bridge_of config.now)) old parts.new.items) }
+    ensures { (t : Shape) → (here : ℕ → Bool) → AreBranches t (V.bridge view.now) here branches.now → (old : List SetAt) →
+        Adds t (V.bridge view.now) here (vlans_touched command.now (bridge_of config.now)) old parts.old.items →
+        OnOk result (Adds t (V.bridge view.now) here (touched_after command.now (bridge_of config.now)) old parts.new.items) }
 {
     match *command {
         Command::Static { vid, ports, .. } => { add_entry(parts, branches, view, vid, &ports) }
@@ -395,8 +395,8 @@ pub fn parts_around(
     ensures later { IfOk result (λ made. map seen made.later.items ≡ filter has_ports (parts_touched_after tree.now command.now (bridge_of config.now))) }
 {
     let view = Pending { config, command };
-    let branches = Branches::new(tree, config);
-    let branches_later = Branches::new(tree, &view);
+    let branches = Branches::touched(tree, config, command);
+    let branches_later = Branches::touched(tree, &view, command);
     let before = Vec::with_capacity(alloc, FEW)?;
     let later = Vec::with_capacity(alloc, FEW)?;
     let mut parts = Parts { before, later };

@@ -8,7 +8,7 @@ use Rattle.exb_model.specs.Refusals.{sources}
 use Rattle.exb_control_spec.specs.Plans.Sets.{PortsAt, is_same_set, parts_below, with_set_at, sets_of}
 use Rattle.exb_control_spec.specs.Plans.Differences.{has_set, fresh_sets}
 use Rattle.exb_control_spec.proofs.Plans.GroupClaims.{set_is, set_itself, is_none}
-use Rattle.exb_control_spec.specs.Plans.TouchedParts.{touched_after, parts_after}
+use Rattle.exb_control_spec.specs.Plans.TouchedParts.{parts_of_all, parts_after}
 use Rattle.exb_control_spec.specs.Plans.TouchedPartLaws.{FreshAreTouched}
 use Rattle.exb_control_spec.proofs.Plans.ListTests.{filter-both}
 use Rattle.exb_control_spec.proofs.Plans.DistinctInsertion.{filter-fold, some-fold, all_had}
@@ -22,12 +22,12 @@ module _ (t : Shape) (c : Command) (b : Bridge) where
   -- beside empty ones, only parts of touched sources are new
   new_touched : filter (λ s. not (is_none s)) (filter is_new (flat_map (parts_below t (after c b)) (sources (after c b))))
       ≡ filter (λ s. not (is_none s)) (filter is_new (parts_after t c b))
-  unfolding is_new sets_of parts_after
+  unfolding is_new sets_of parts_of_all
   new_touched =
-      filter-both (λ s. not (is_none s)) is_new (flat_map (parts_below t (after c b)) (sources (after c b)))
-      ∙ (filters_come (parts_below t b) (parts_below t (after c b)) (λ s. is_new s && not (is_none s)) (command_differs t b c)
-      (all_had is_none is_same_set set_is set_itself (flat_map (parts_below t b) (sources b)) (flat_map (parts_below t b) (sources b)) (λ s e. e))
-      ∙ sym (filter-both (λ s. not (is_none s)) is_new (flat_map (parts_below t (after c b)) (touched_after c b))))
+      filter-both (λ s. not (is_none s)) is_new (parts_of_all t (after c b))
+      ∙ (filters_come (λ s. is_new s && not (is_none s)) (command_differs t b c)
+      (all_had is_none is_same_set set_is set_itself (parts_of_all t b) (parts_of_all t b) (λ s e. e))
+      ∙ sym (filter-both (λ s. not (is_none s)) is_new (parts_after t c b)))
 
   fresh_come : fresh_sets t b (after c b) ≡ fold with_set_at [] (filter is_new (parts_after t c b))
   unfolding fresh_sets sets_of is_new

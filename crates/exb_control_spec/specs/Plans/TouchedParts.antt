@@ -1,13 +1,13 @@
--- The parts that a command touches: those of the VLANs and static entries which it changes.
-use Rattle.std.specs.Prelude.{ℕ, ◌==◌, ◌&&◌, Bool, List, [], Option, Some, None, filter, find, flat_map, count_by}
+-- The parts that a command touches: those of the VLANs and static entries which it changes, below the bridge ports where it changes any.
+use Rattle.std.specs.Prelude.{ℕ, ◌==◌, ◌&&◌, Bool, true, List, [], Option, Some, None, filter, find, flat_map, count_by}
 use Rattle.exb_model.specs.declared.rules.StaticAt.{StaticAt}
 use Rattle.exb_model.specs.declared.command.Command.{Command}
 use Rattle.exb_model.specs.declared.command.Command.TheVariants as command
 use Rattle.exb_model.specs.Ports.{port_in}
-use Rattle.exb_model.specs.Tree.{Shape}
+use Rattle.exb_model.specs.Tree.{Shape, is_under}
 use Rattle.exb_model.specs.Configuration.{Bridge, after, is_for}
-use Rattle.exb_model.specs.Refusals.{Source, sources, both_kinds, is_kind}
-use Rattle.exb_control_spec.specs.Plans.Sets.{PortsAt, parts_below, is_same_set}
+use Rattle.exb_model.specs.Refusals.{Source, sources, both_kinds, is_kind, bridge_ports}
+use Rattle.exb_control_spec.specs.Plans.Sets.{PortsAt, parts_of, parts_below, is_same_set}
 
 -- all parts of a configuration, in order, also empty ones
 unfoldable pub parts_of_all : Shape → Bridge → List PortsAt
@@ -60,8 +60,28 @@ touched_after (command.Unstatic v m) b = []
 touched_after c b = touched_before c b
 
 -- ---- their parts
-unfoldable pub parts_before : Shape → Command → Bridge → List PortsAt
-parts_before t c b = flat_map (parts_below t b) (touched_before c b)
+-- whether a command may change parts below bridge port k: one about a single port does so only where that port is
+abbrev pub touches_below : Shape → Command → ℕ → Bool
+touches_below t (command.Vlan v tagged untagged) k = true
+touches_below t (command.Member v p kind) k = is_under t k p
+touches_below t (command.Unmember v p) k = is_under t k p
+touches_below t (command.Pvid p v) k = true
+touches_below t (command.Accept p types) k = true
+touches_below t (command.Filter p on) k = true
+touches_below t (command.Isolate p on) k = is_under t k p
+touches_below t (command.Static v m ports) k = true
+touches_below t (command.Unstatic v m) k = true
+touches_below t (command.Up p) k = is_under t k p
+touches_below t (command.Down p) k = is_under t k p
 
+-- the parts of a source below the bridge ports that pass a test, in order
+unfoldable pub parts_where : Shape → Bridge → (ℕ → Bool) → Source → List PortsAt
+parts_where t b test x = flat_map (parts_of t b x) (filter test bridge_ports)
+
+-- before the command
+unfoldable pub parts_before : Shape → Command → Bridge → List PortsAt
+parts_before t c b = flat_map (parts_where t b (touches_below t c)) (touched_before c b)
+
+-- and after it
 unfoldable pub parts_after : Shape → Command → Bridge → List PortsAt
-parts_after t c b = flat_map (parts_below t (after c b)) (touched_after c b)
+parts_after t c b = flat_map (parts_where t (after c b) (touches_below t c)) (touched_after c b)

@@ -1,4 +1,4 @@
-use Rattle.std.proofs.Common.{◌≡◌, map, fold, take}
+use Rattle.std.proofs.Common.{◌≡◌, true, map, fold, take}
 use Rattle.std.specs.List.{flat_map}
 use Rattle.exb_model.specs.Ports.{port_in}
 use Rattle.exb_model.specs.Tree.{Shape}
@@ -11,6 +11,6 @@ use Rattle.exb_plan.proofs.group_sets.put_statics.Given as goal
 -- the parts of the entries so far are put
 abbrev pub invariant-loop-at : goal.invariant-loop-at
 invariant-loop-at l =
-    (t : Shape) → AreBranches t (bridge_of l.config) l.branches →
+    (t : Shape) → AreBranches t (bridge_of l.config) (λ k. true) l.branches →
     map seen l.sets.keys ≡ fold with_set_at (map seen l.fn.sets.keys)
     (flat_map (parts_below t (bridge_of l.config)) (flat_map (λ e. both_kinds e.vid (port_in e.ports)) (take l.at (bridge_of l.config).statics)))

@@ -10,6 +10,6 @@ use Rattle.exb_plan.proofs.group_sets.put_vlans.Given as goal
 -- the parts of the VLANs so far are put
 abbrev pub invariant-loop-number : goal.invariant-loop-number
 invariant-loop-number l =
-    (t : Shape) → AreBranches t (bridge_of l.config) l.branches →
+    (t : Shape) → AreBranches t (bridge_of l.config) (λ k. true) l.branches →
     map seen l.sets.keys ≡ fold with_set_at (map seen l.fn.sets.keys)
     (flat_map (parts_below t (bridge_of l.config)) (flat_map (λ v. both_kinds v (λ q. true)) (range_with_len 1 (l.number - 1))))

@@ -1,4 +1,4 @@
-use Rattle.std.proofs.Common.{◌≡◌, ◌-◌, ◌++◌, map, filter}
+use Rattle.std.proofs.Common.{◌≡◌, ◌-◌, ◌++◌, ℕ, Bool, map, filter}
 use Rattle.std.specs.List.{flat_map}
 use Rattle.exb_model.specs.Ports.{below}
 use Rattle.exb_model.specs.Tree.{Shape}
@@ -12,5 +12,5 @@ use Rattle.exb_plan.proofs.parts.put_all.Given as goal
 -- the parts at the bridge ports so far are put
 abbrev pub invariant-loop-bridge_port : goal.invariant-loop-bridge_port
 invariant-loop-bridge_port l =
-    (t : Shape) → (b : Bridge) → (x : Source) → AreBranches t b l.branches → IsPart t b x l.members →
-    map seen l.parts.items ≡ map seen l.fn.parts.items ++ filter has_ports (flat_map (parts_of t b x) (below (l.bridge_port - 1)))
+    (t : Shape) → (b : Bridge) → (here : ℕ → Bool) → (x : Source) → AreBranches t b here l.branches → IsPart t b x l.members →
+    map seen l.parts.items ≡ map seen l.fn.parts.items ++ filter has_ports (flat_map (parts_of t b x) (filter here (below (l.bridge_port - 1))))

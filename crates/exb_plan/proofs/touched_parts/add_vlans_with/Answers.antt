@@ -10,8 +10,8 @@ use Rattle.exb_plan.proofs.touched_parts.add_vlans_with.Goals as goal
 pub loop-number-init : goal.loop-number-init
 loop-number-init g c =
     record {
-      before = λ t branches. adds_none t (bridge_of c.args.config.now) c.args.parts.now.before.items;
-      later = λ t branches. adds_none t (g.V.View.bridge c.args.view.now) c.args.parts.now.later.items;
+      before = λ t here branches. adds_none t (bridge_of c.args.config.now) here c.args.parts.now.before.items;
+      later = λ t here branches. adds_none t (g.V.View.bridge c.args.view.now) here c.args.parts.now.later.items;
     }
 
 pub loop-number-preserved : goal.loop-number-preserved
@@ -29,29 +29,29 @@ loop-number-preserved g c =
     let xs : List Source = filter (has_port b p) (flat_map f (range_with_len 1 n)) in
     let ys : List Source = filter (has_port b p) (f v) in
     record {
-      before = λ t branches. adds_same t b _ _ c.args.parts.now.before.items c.add_vlan_with.new.parts.before.items all
-          (adds_more t b xs ys c.args.parts.now.before.items c.loop-number.parts.before.items c.add_vlan_with.new.parts.before.items
-          (c.loop-number.invariant.before t branches) (c.in_ok-add_vlan_with.ensures.before t branches));
-      later = λ t branches. adds_same t d _ _ c.args.parts.now.later.items c.add_vlan_with.new.parts.later.items all
-          (adds_more t d xs ys c.args.parts.now.later.items c.loop-number.parts.later.items c.add_vlan_with.new.parts.later.items
-          (c.loop-number.invariant.later t branches) (c.in_ok-add_vlan_with.ensures.later t branches));
+      before = λ t here branches. adds_same t b here _ _ c.args.parts.now.before.items c.add_vlan_with.new.parts.before.items all
+          (adds_more t b here xs ys c.args.parts.now.before.items c.loop-number.parts.before.items c.add_vlan_with.new.parts.before.items
+          (c.loop-number.invariant.before t here branches) (c.in_ok-add_vlan_with.ensures.before t here branches));
+      later = λ t here branches. adds_same t d here _ _ c.args.parts.now.later.items c.add_vlan_with.new.parts.later.items all
+          (adds_more t d here xs ys c.args.parts.now.later.items c.loop-number.parts.later.items c.add_vlan_with.new.parts.later.items
+          (c.loop-number.invariant.later t here branches) (c.in_ok-add_vlan_with.ensures.later t here branches));
     }
 
 pub returns-clause-before : goal.returns-clause-before
-returns-clause-before g c t branches =
+returns-clause-before g c t here branches =
     let b = bridge_of c.args.config.now in
     let f : ℕ → List Source = λ w. both_kinds w (λ q. true) in
     let last : c.loop-number.number - 1 ≡ 4094 = omega (arith, c.loop-number.auto.number-end, c.loop-number-test.false) in
-    adds_same t b _ _ c.args.parts.now.before.items c.loop-number.parts.before.items
+    adds_same t b here _ _ c.args.parts.now.before.items c.loop-number.parts.before.items
     (ap (λ (m : ℕ). filter (has_port b c.args.port) (flat_map f (range_with_len 1 m))) last ∙ ap (filter (has_port b c.args.port)) vlans_are)
-    (c.loop-number.invariant.before t branches)
+    (c.loop-number.invariant.before t here branches)
 
 pub returns-clause-later : goal.returns-clause-later
-returns-clause-later g c t branches =
+returns-clause-later g c t here branches =
     let b = bridge_of c.args.config.now in
     let d = g.V.View.bridge c.args.view.now in
     let f : ℕ → List Source = λ w. both_kinds w (λ q. true) in
     let last : c.loop-number.number - 1 ≡ 4094 = omega (arith, c.loop-number.auto.number-end, c.loop-number-test.false) in
-    adds_same t d _ _ c.args.parts.now.later.items c.loop-number.parts.later.items
+    adds_same t d here _ _ c.args.parts.now.later.items c.loop-number.parts.later.items
     (ap (λ (m : ℕ). filter (has_port b c.args.port) (flat_map f (range_with_len 1 m))) last ∙ ap (filter (has_port b c.args.port)) vlans_are)
-    (c.loop-number.invariant.later t branches)
+    (c.loop-number.invariant.later t here branches)
