@@ -28,10 +28,10 @@ const LIMITED: &str = "0 D4C3B2A1 100 100>100 1 Some(100000000000)\n\
      0 D4C3B2A1 100 3>Large { limit: 3 }\n\
      0 D4C3B2A1 100 0>Large { limit: 0 }\n\
      0 D4C3B2A1 24 24>24 0 None\n\
-     0 D4C3B2A1 99 100>Fault { fault: Fault { flaw: Cut, at: 24 } }\n\
-     0 D4C3B2A1 99 99>Fault { fault: Fault { flaw: Cut, at: 24 } }\n\
+     0 D4C3B2A1 99 100>Fault { fault: FormatFault { flaw: Cut, at: 24 } }\n\
+     0 D4C3B2A1 99 99>Fault { fault: FormatFault { flaw: Cut, at: 24 } }\n\
      0 D4C3B2A1 99 98>Large { limit: 98 }\n\
-     28 40420F00 100 40>Fault { fault: Fault { flaw: Time, at: 28 } }\n\
+     28 40420F00 100 40>Fault { fault: FormatFault { flaw: Time, at: 28 } }\n\
      28 40420F00 100 39>Large { limit: 39 }";
 
 // Puts a record behind what a capture holds.

@@ -1,8 +1,8 @@
-//! What the program is given: reading the topology, checking the captures that it names, and opening those again; the faults that
-//! end a call, their statuses and the lines that are printed of them.
+//! What the program is given: topologies and captures are read and checked here, before any file is made.
 //!
-//! What a net is given: its file, the topologies that this names, the wires over all of them, and what is told of the captures of all
-//! bridges; each with the first of all faults, in the order in which they are looked for.
+//! For one bridge it reads the topology, checks the captures that this names, and opens them again to be
+//! played. For a net it does so for each bridge, and reads the file of the net and its wires first. The
+//! first fault in the order of reading ends the call; `messages` has the status and the line of each.
 #![tactic(auto)]
 
 mod captures;

@@ -9,9 +9,10 @@
 //! order of their queue, until none is between bridges: so its worlds do what `exb_net_laws` says of runs of several worlds. It moves each world by
 //! `exb_schedule` alone.
 //!
-//! `src`: `ends` (the wired ports of a bridge), `crossing` (the queue), `node` (one bridge), `marks` (sets of bridges), `making` and `net`
-//! (all of them); `desk` (what one bridge writes and counts), `game` (all of them, one event after another), `opening` (what is made before the
-//! first event), `play` (the whole call). `specs`: `Holding` and `Bridging` say where the bridges are and what a call of `Net` does.
+//! `src`: `wired_ports` (of one bridge), `crossing` (the queue), `node` (one bridge), `bridge_set`, `assembly` and
+//! `net` (all bridges); `bridge_outputs` (what one bridge writes and counts), `net_player` (one event after
+//! another), `preparation` (what is made before the first event), `play` (the whole call). `specs`: `NodeViews`
+//! and `NetStates` say where the bridges are and what a call of `Net` does.
 #![tactic(auto)]
 
 mod assembly;

@@ -1,13 +1,14 @@
-//! What a run writes: which files there are under a prefix, in which order and by which names (`Manifest`), and the files while they are
-//! written (`Outputs`). Upwards it promises that the files are made in that order and each once, that each file, followed by what of
-//! it isn't written yet, is its text so far, that a file whose writing ended early holds a front of its text, that no other file
-//! changes, and that the records and bytes of each capture are counted. It stands on the names and records of files (`exb_journal`, `exb_capture`)
-//! and on `exb_shelf`'s trait, and knows no world, and of the kinds of files captures alone.
+//! What a run writes: which output files there are, in which order they are made, and the text of each.
 //!
-//! What a world tells, written and counted: events as lines of the journal, frames that left behind the captures of their ports, lines of
-//! the trace, and what is counted of all, for the summary and by port. Upwards it promises that the file of each kind has the text of
-//! what was told and has left so far, and that the counts are those of it. It stands on the outputs (`exb_outputs`), which know no kind
-//! but captures, so what stands in a file of a kind is said and done here alone; of a world it knows what it tells and what left it.
+//! `Manifest` has the files below a prefix, in their order and with their names. `Outputs` has the files
+//! while they are written. The writers append what a world tells: events as lines of the journal, frames
+//! that left to the captures of their ports, lines of the trace, and the counters.
+//!
+//! Upwards it promises that the files are made in that order and each once; that each file, followed by
+//! the piece that isn't written yet, is its text so far; that a file whose writing ended early holds a
+//! prefix of its text; that no other file changes; and that the summary and the counters count exactly
+//! what was told. It stands on the shelf, on the names and lines of `exb_journal`, on the records of
+//! `exb_capture`, and on what a world tells (`exb_world`).
 #![tactic(auto)]
 
 mod counter_lines;

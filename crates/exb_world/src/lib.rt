@@ -1,7 +1,10 @@
-//! The network: the controlling bridge, the extenders that hang below it, and the links between them, moved by single
-//! steps. Upwards it promises that each call is exactly a step of the machine of `exb_world_spec`, in its world, its events
-//! and what leaves its ports, so that all laws over that machine hold of it. It is wires and steps: what is done
-//! with a word at its end is done by one of the two kinds of box, the bridge (`exb_bridge`) and the extender (`exb_outbox` holds all of them).
+//! The tree as one value: the controlling bridge, the extenders below it, and the links between them,
+//! moved by single steps.
+//!
+//! Upwards it promises that each call is exactly one step of the machine of `exb_world_spec`: the same
+//! world, events and departing frames, so that all laws on that machine hold of it. The crate is wires and
+//! steps. What is done with a frame at the end of a link is done by a box: the bridge (`exb_bridge`) or an
+//! extender (`exb_extender`).
 #![tactic(auto)]
 
 mod allowed_steps;
