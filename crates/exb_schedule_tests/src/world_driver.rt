@@ -4,10 +4,12 @@
 //! - `carry N up`, `control N down K`, `keep N down K`, `lose N up K`: a word of a direction of extender N is taken, the
 //!   control word at position K is delivered, or delivered and kept, or lost
 //! - `beat`, `give` (the next command of the topology), `settle` (rounds until all is settled, and a mark)
-//! - `arm COUNT`: the fate is armed with so many plain deliveries; `asked`: logs how many of them were given. `bare`, as the first word of the steps, is a world
-//!   without a trace
-//! - `tell`: logs the events and what has left; `planned`, `counts N`: logs how many exchanges are planned, and how many data words
-//!   and control words are on a link, up and down; `free N down K`: logs whether a control word may be delivered; `skip`: forgets what was told
+//! - `arm COUNT`: the fate is armed with COUNT plain deliveries; `asked`: logs how many were given
+//! - `bare`, as the first word of the steps: a world without a trace
+//! - `tell`: logs the events and what has left; `skip`: forgets what was told
+//! - `planned`: logs the number of planned exchanges; `counts N`: logs the numbers of data frames and
+//!   control frames on a link, up and down
+//! - `free N down K`: logs whether a control frame may be delivered
 use crate::steps::{
     arm_with, arrive, asked, beat, begun, carry, counts, deliver, give, is_free, lose, rest,
     scripted,
