@@ -131,7 +131,7 @@ def read_only_folder(place):
     return "7; no file was made"
 
 
-def spelled(place, text, status, prepare=lambda folder: None, changed=(), more=(), made=None):
+def spelled(place, text, status, prepare=lambda folder: None):
     """A run of another topology. What stands at the outputs' names stays as it was where the status isn't 0."""
     it = place.input("bare")
     files = {**it.files, "t.toml": text.encode()}
@@ -147,9 +147,6 @@ def spelled(place, text, status, prepare=lambda folder: None, changed=(), more=(
     for name, data in kept.items() if status else ():
         if read(os.path.join(place.folder, name)) != data:
             raise Wrong(f"{name} has changed")
-    for name, whole in (made or {}).items():
-        if read(os.path.join(place.folder, name)) != it.whole[whole]:
-            raise Wrong(f"{name} is not whole")
     return f"{status}; each file as it was" if status else "0; each output is whole"
 
 
@@ -249,12 +246,18 @@ def link_elsewhere(place):
     def prepare(folder):
         write(os.path.join(folder, "w/there"), BEFORE)
         replaced(LAST, link_to("w/there"))(folder)
-    return spelled(place, BARE.format(CAPTURE), 0, prepare, made={"w/there": LAST, OUTPUT: OUTPUT})
+    told = spelled(place, BARE.format(CAPTURE), 7, prepare)
+    if read(os.path.join(place.folder, "w/there")) != BEFORE:
+        raise Wrong("the file elsewhere has changed")
+    return told
 
 
 @FAULTS.named("an output is a link to a file that isn't there")
 def link_to_none(place):
-    return spelled(place, BARE.format(CAPTURE), 0, replaced(LAST, link_to("new")), made={"new": LAST, OUTPUT: OUTPUT})
+    told = spelled(place, BARE.format(CAPTURE), 7, replaced(LAST, link_to("new")))
+    if os.path.lexists(os.path.join(place.folder, "new")):
+        raise Wrong("a file was made behind the link")
+    return told
 
 
 @FAULTS.named("an output is a link into a folder that isn't there")

@@ -3,14 +3,17 @@ ghost use Rattle.std.specs.Prelude.{◌≡◌, ◌<◌, ◌≤◌, ℕ, [], None
 ghost use Rattle.exb_shelf.specs.Shelf.{Faults, no_id};
 ghost use Rattle.exb_shelf.specs.SystemFiles.{system_ids, system_faults, sink_faults};
 
+use crate::limits::Limits;
+use crate::made_files::Output;
 use crate::open_files::{OpenFile, advance, give};
+use crate::output_creation::{folder_of, make};
 use crate::protected_files::ProtectedFiles;
-use crate::{OpenFault, Shelf, ShelfFault, Sink};
+use crate::terminal::write_shown;
+use crate::{OpenFault, Shelf, ShelfFault, Sink, made_files};
 use std::alloc::{AllocError, Global};
 use std::fs::{File, Metadata, OpenOptions};
-use std::io::{ErrorKind, Write};
+use std::io::{ErrorKind, IsTerminal, Write};
 use std::os::unix::fs::FileExt;
-use std::path::Path;
 use std::{fs, io};
 
 /// The system's files.
@@ -22,16 +25,23 @@ use std::{fs, io};
 /// What was opened to be read is never made, whatever name leads to it. A file is emptied not by
 /// `create` but by the next call of another kind. So where one of several that are made in a row can't
 /// be made, those that are there still hold what they held.
+///
+/// A file that is made is a new one, or one that is there under this name alone. Each time that it is
+/// opened again, to be emptied, written or synced, it is the one that was made, by its number and age.
+/// It stands below the folder of the run, and no more is written in all than the operator allows
+/// (`EXBR_ANYWHERE` and `EXBR_BYTES`): the rest is a fault of writing.
 #[derive(Drop)]
 pub struct FileShelf {
     rt: HostRuntime,
     alloc: Global,
     entries: Vec<OpenFile>,
     known: ProtectedFiles,
-    // Of each id how much was written.
-    written: Vec<u64>,
+    // Of each id which file was made, and how much was written.
+    outputs: Vec<Output>,
     // The first id whose file is not emptied yet.
     full: usize,
+    // Where files may be made, and how many bytes may still be written.
+    limits: Limits,
     missing: u64,
     reads: u64,
     writes: u64,
@@ -48,8 +58,9 @@ impl FileShelf {
             alloc,
             entries: Vec::new(alloc),
             known: ProtectedFiles::new(alloc),
-            written: Vec::new(alloc),
+            outputs: Vec::new(alloc),
             full: 0,
+            limits: Limits::of(&rt),
             missing: 0,
             reads: 0,
             writes: 0,
@@ -59,8 +70,13 @@ impl FileShelf {
     /// Brings what was written to the disk. It fails where a file that was made is not at its name any
     /// more, or does not hold as much as was written.
     pub fn sync(&mut self) -> Result<(), ShelfFault> {
-        empty_made(&self.rt, self.entries.as_slice(), &mut self.full);
-        match sync_all(&self.rt, self.entries.as_slice(), self.written.as_slice()) {
+        empty_made(
+            &self.rt,
+            self.entries.as_slice(),
+            self.outputs.as_slice(),
+            &mut self.full,
+        );
+        match sync_all(&self.rt, self.entries.as_slice(), self.outputs.as_slice()) {
             Ok(()) => Ok(()),
             Err(_) => {
                 self.writes = self.writes.saturating_add(1);
@@ -83,43 +99,34 @@ fn open_to_read(rt: &HostRuntime, name: &str) -> io::Result<Metadata> {
     file.metadata()
 }
 
-// Opens a file to be written, and leaves what it holds.
-fn open_to_make(rt: &HostRuntime, known: &ProtectedFiles, name: &str) -> io::Result<Metadata> {
-    match fs::metadata(rt, name) {
-        Ok(there) if !known.allows(rt, name, &there) => return Err(refused()),
-        Err(e) if e.kind() != ErrorKind::NotFound => return Err(e),
-        _ => {}
-    }
-    let file = OpenOptions::new().write(true).create(true).open(rt, name)?;
-    let made = file.metadata()?;
-    if known.allows(rt, name, &made) {
-        Ok(made)
-    } else {
-        Err(refused())
-    }
-}
-
-// Opens a file that was made, where it holds as much as was written.
-fn open_to_append(rt: &HostRuntime, name: &str, written: u64) -> io::Result<File> {
+// Opens a file that was made, where it holds as much as was written. What stands at its name by now may
+// be another file of the same size.
+fn open_to_append(rt: &HostRuntime, name: &str, output: &Output) -> io::Result<File> {
     let file = OpenOptions::new().append(true).open(rt, name)?;
-    if file.metadata()?.len() == written {
+    let there = file.metadata()?;
+    if output.is(&there) && there.len() == output.written {
         Ok(file)
     } else {
         Err(refused())
     }
 }
 
-fn empty(rt: &HostRuntime, name: &str) -> io::Result<()> {
+// Empties a file that was made, and no other that stands at its name by now.
+fn empty(rt: &HostRuntime, name: &str, output: &Output) -> io::Result<()> {
     let file = OpenOptions::new().write(true).open(rt, name)?;
-    file.set_len(0)
+    if output.is(&file.metadata()?) {
+        file.set_len(0)
+    } else {
+        Err(refused())
+    }
 }
 
 // Empties the files that were made, from this id on. What can't be emptied fails when it is written,
-// since it holds more than was written.
-fn empty_made(rt: &HostRuntime, entries: &[OpenFile], full: &mut usize) {
-    for entry in entries.iter().skip(*full) {
+// since it holds more than was written or is another one.
+fn empty_made(rt: &HostRuntime, entries: &[OpenFile], outputs: &[Output], full: &mut usize) {
+    for (at, entry) in entries.iter().enumerate().skip(*full) {
         if !entry.reads {
-            let _ = empty(rt, entry.name.as_str());
+            let _ = empty(rt, entry.name.as_str(), &made_files::at(outputs, at));
         }
     }
     *full = entries.len();
@@ -161,26 +168,30 @@ fn read_part(rt: &HostRuntime, name: &str, place: u64, into: &mut [u8]) -> Optio
     }
 }
 
+// The front of the bytes that may still be written.
+fn allowed(bytes: &[u8], left: u64) -> &[u8]
+    ensures { length result.now ≤ length bytes.now }
+{
+    if bytes.len() as u64 <= left {
+        bytes
+    } else {
+        &bytes[..left as usize]
+    }
+}
+
 // How much was written, or None where the system failed.
-fn append_part(rt: &HostRuntime, name: &str, written: u64, bytes: &[u8]) -> Option<usize>
+fn append_part(rt: &HostRuntime, name: &str, output: &Output, bytes: &[u8]) -> Option<usize>
     ensures { IfSome result (λ n. n ≤ length bytes.now) }
 {
-    match open_to_append(rt, name, written) {
+    match open_to_append(rt, name, output) {
         Ok(mut file) => write_some(&mut file, bytes).ok(),
         Err(_) => None,
     }
 }
 
-fn sync_file(rt: &HostRuntime, name: &str, written: u64) -> io::Result<()> {
-    let file = open_to_append(rt, name, written)?;
+fn sync_file(rt: &HostRuntime, name: &str, output: &Output) -> io::Result<()> {
+    let file = open_to_append(rt, name, output)?;
     file.sync_all()
-}
-
-fn folder_of(name: &str) -> &str {
-    match Path::new(name).parent() {
-        Some(folder) if !folder.as_str().is_empty() => folder.as_str(),
-        _ => ".",
-    }
 }
 
 // Brings the names of a folder's files to the disk, where the system lets that be done.
@@ -201,11 +212,11 @@ fn follows(entries: &[OpenFile], at: usize) -> bool
     }
 }
 
-fn sync_all(rt: &HostRuntime, entries: &[OpenFile], written: &[u64]) -> io::Result<()> {
+fn sync_all(rt: &HostRuntime, entries: &[OpenFile], outputs: &[Output]) -> io::Result<()> {
     for (at, entry) in entries.iter().enumerate() {
         if !entry.reads {
             let name = entry.name.as_str();
-            sync_file(rt, name, how_much(written, at))?;
+            sync_file(rt, name, &made_files::at(outputs, at))?;
             if !follows(entries, at) {
                 sync_folder(rt, folder_of(name));
             }
@@ -214,25 +225,18 @@ fn sync_all(rt: &HostRuntime, entries: &[OpenFile], written: &[u64]) -> io::Resu
     Ok(())
 }
 
-// Of the next id nothing was written.
-fn written_from(written: &mut Vec<u64>, next: usize) -> Result<(), AllocError> {
-    written.truncate(next);
-    written.push(0)?;
-    Ok(())
-}
-
 // Opens a file to be read, and keeps which it is, in a function of its own: what the system tells of a
 // file or of a fault ends here, and not where a shelf's clauses are shown.
 fn opened(
     rt: &HostRuntime,
     known: &mut ProtectedFiles,
-    written: &mut Vec<u64>,
+    outputs: &mut Vec<Output>,
     next: usize,
     name: &str,
 ) -> Result<(), OpenFault> {
     match open_to_read(rt, name) {
         Ok(file) => {
-            if written_from(written, next).is_err() || known.add_read(rt, name, &file).is_err() {
+            if made_files::add(outputs, next).is_err() || known.add_read(rt, name, &file).is_err() {
                 return Err(OpenFault::Memory);
             }
             Ok(())
@@ -245,33 +249,28 @@ fn opened(
 // Makes room for a file that is made.
 fn room_for(
     known: &mut ProtectedFiles,
-    written: &mut Vec<u64>,
+    outputs: &mut Vec<Output>,
     next: usize,
 ) -> Result<(), AllocError> {
     known.reserve()?;
-    written_from(written, next)
+    made_files::add(outputs, next)
 }
 
 // Opens a file to be written, and keeps which it is.
-fn made(rt: &HostRuntime, known: &mut ProtectedFiles, name: &str) -> Result<(), ShelfFault> {
-    match open_to_make(rt, known, name) {
-        Ok(file) if known.add(&file).is_ok() => Ok(()),
-        Ok(_) => Err(ShelfFault::Memory),
-        Err(_) => Err(ShelfFault::Failed),
+fn made(
+    rt: &HostRuntime,
+    alloc: Global,
+    known: &mut ProtectedFiles,
+    outputs: &mut [Output],
+    name: &str,
+    anywhere: bool,
+) -> Result<(), ShelfFault> {
+    let file = make(rt, alloc, known, name, anywhere)?;
+    if known.add(&file).is_err() {
+        return Err(ShelfFault::Memory);
     }
-}
-
-fn how_much(written: &[u64], id: usize) -> u64 {
-    match written.get(id) {
-        Some(n) => *n,
-        None => 0,
-    }
-}
-
-fn count(written: &mut [u64], id: u32, n: usize) {
-    if let Some(written) = written.get_mut(id as usize) {
-        *written = written.saturating_add(n as u64);
-    }
+    made_files::keep(outputs, &file);
+    Ok(())
 }
 
 impl Shelf for FileShelf {
@@ -285,9 +284,14 @@ impl Shelf for FileShelf {
 
     #[tactic(auto, using(crate::proofs::OpenFileLemmas::entries))]
     fn open(&mut self, name: &str) -> Result<u32, OpenFault> {
-        empty_made(&self.rt, self.entries.as_slice(), &mut self.full);
+        empty_made(
+            &self.rt,
+            self.entries.as_slice(),
+            self.outputs.as_slice(),
+            &mut self.full,
+        );
         let next = self.entries.len();
-        match opened(&self.rt, &mut self.known, &mut self.written, next, name) {
+        match opened(&self.rt, &mut self.known, &mut self.outputs, next, name) {
             Ok(()) => match give(self.alloc, &mut self.entries, true, name) {
                 Ok(id) => Ok(id),
                 Err(_) => Err(OpenFault::Memory),
@@ -306,7 +310,12 @@ impl Shelf for FileShelf {
 
     #[tactic(auto, using(crate::proofs::OpenFileLemmas::entries))]
     fn read(&mut self, id: u32, into: &mut [u8]) -> Result<usize, ShelfFault> {
-        empty_made(&self.rt, self.entries.as_slice(), &mut self.full);
+        empty_made(
+            &self.rt,
+            self.entries.as_slice(),
+            self.outputs.as_slice(),
+            &mut self.full,
+        );
         let entry = &self.entries[id as usize];
         let place = entry.place;
         match read_part(&self.rt, entry.name.as_str(), place, into) {
@@ -324,13 +333,20 @@ impl Shelf for FileShelf {
     #[tactic(auto, using(crate::proofs::OpenFileLemmas::entries))]
     fn create(&mut self, name: &str) -> Result<u32, ShelfFault> {
         let given = self.entries.len();
-        if room_for(&mut self.known, &mut self.written, given).is_err() {
+        if room_for(&mut self.known, &mut self.outputs, given).is_err() {
             return Err(ShelfFault::Memory);
         }
         let Ok(id) = give(self.alloc, &mut self.entries, false, name) else {
             return Err(ShelfFault::Memory);
         };
-        match made(&self.rt, &mut self.known, name) {
+        match made(
+            &self.rt,
+            self.alloc,
+            &mut self.known,
+            self.outputs.as_mut_slice(),
+            name,
+            self.limits.anywhere,
+        ) {
             Ok(()) => Ok(id),
             Err(ShelfFault::Memory) => {
                 self.entries.truncate(given);
@@ -346,15 +362,22 @@ impl Shelf for FileShelf {
 
     #[tactic(auto, using(crate::proofs::OpenFileLemmas::entries))]
     fn write(&mut self, id: u32, bytes: &[u8]) -> Result<usize, ShelfFault> {
-        empty_made(&self.rt, self.entries.as_slice(), &mut self.full);
+        empty_made(
+            &self.rt,
+            self.entries.as_slice(),
+            self.outputs.as_slice(),
+            &mut self.full,
+        );
         if bytes.is_empty() {
             return Ok(0);
         }
         let entry = &self.entries[id as usize];
-        let written = how_much(self.written.as_slice(), id as usize);
-        match append_part(&self.rt, entry.name.as_str(), written, bytes) {
+        let output = made_files::at(self.outputs.as_slice(), id as usize);
+        let bytes = allowed(bytes, self.limits.bytes);
+        match append_part(&self.rt, entry.name.as_str(), &output, bytes) {
             Some(n) if n > 0 => {
-                count(self.written.as_mut_slice(), id, n);
+                self.limits.bytes = self.limits.bytes.saturating_sub(n as u64);
+                made_files::count(self.outputs.as_mut_slice(), id, n);
                 Ok(n)
             }
             _ => {
@@ -365,7 +388,20 @@ impl Shelf for FileShelf {
     }
 }
 
-/// Standard output. Nothing is held back: each call writes at once.
+// How much was printed, or None where the system failed. A terminal shows what would drive it by numbers.
+fn print_some(rt: &HostRuntime, bytes: &[u8]) -> Option<usize>
+    ensures { IfSome result (λ n. n ≤ length bytes.now) }
+{
+    let mut out = io::writer(rt);
+    if !rt.stdout().is_terminal() {
+        return write_some(&mut out, bytes).ok();
+    }
+    write_shown(&mut out, bytes).then_some(bytes.len())
+}
+
+/// Standard output. Nothing is held back: each call writes at once. Where it is a terminal, control
+/// characters and those that turn the direction are shown by their numbers, and elsewhere all is written
+/// byte for byte.
 #[derive(Drop)]
 pub struct OutSink {
     rt: HostRuntime,
@@ -392,8 +428,8 @@ impl Sink for OutSink {
         if bytes.is_empty() {
             return Ok(0);
         }
-        match write_some(&mut io::writer(&self.rt), bytes) {
-            Ok(n) if n > 0 => Ok(n),
+        match print_some(&self.rt, bytes) {
+            Some(n) if n > 0 => Ok(n),
             _ => {
                 self.faults = self.faults.saturating_add(1);
                 Err(ShelfFault::Failed)

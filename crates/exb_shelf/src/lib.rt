@@ -5,10 +5,14 @@
 #![tactic(auto)]
 
 mod files;
+mod limits;
+mod made_files;
 mod open_files;
+mod output_creation;
 mod protected_files;
 mod scratch;
 mod shelf;
+mod terminal;
 pub mod whole_files;
 
 pub use files::{FileShelf, OutSink};

@@ -9,13 +9,14 @@ use std::os::unix::fs::MetadataExt;
 
 /// A file as the system tells it from others. All its names lead to the same one.
 #[derive(Clone, Copy, PartialEq, Eq, Hash)]
-struct Inode {
+pub(crate) struct Inode {
     device: u64,
     number: u64,
 }
 
 impl Inode {
-    fn of(file: &Metadata) -> Inode {
+    /// Which file this is.
+    pub(crate) fn of(file: &Metadata) -> Inode {
         Inode {
             device: file.dev(),
             number: file.ino(),
@@ -72,11 +73,12 @@ impl ProtectedFiles {
         }
     }
 
-    /// Whether what stands at a name may be made: it is a file, none of these, and not the one to
-    /// which standard output goes.
+    /// Whether what stands at a name may be made: it is a file of one name, none of these, and not the
+    /// one to which standard output goes.
     pub(crate) fn allows(&self, rt: &HostRuntime, name: &str, file: &Metadata) -> bool {
         let node = Inode::of(file);
         file.is_file()
+            && file.nlink() <= 1
             && !self.nodes.contains(&node)
             && !self.has_name(rt, name)
             && !is_printed(rt, node)
