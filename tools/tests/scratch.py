@@ -46,7 +46,10 @@ FILES = {
     "kit/rt": RT,
     "kit/kit": "kit one\n",
 }
-PARTS = ["exbr", ".ci/run", "tools/sources", "tools/program", "tools/build", "tools/dist", "tools/gate", "tools/record.py", "tools/schedule.py", "tools/seconds.txt"]
+PARTS = ["exbr", ".ci/run", "tools/sources", "tools/program", "tools/version", "tools/build", "tools/dist", "tools/gate", "tools/record.py", "tools/schedule.py", "tools/seconds.txt"]
+# What `./test` and `./install` are made of besides.
+HOUSE = ["test", "install", "tools/checks", "tools/desk", "tools/completion", "tools/trace_to_pcapng.py", "tools/exbr-why", "tools/exbr-watch", "bench",
+         "crates/exb_cases", "docs", "examples"]
 
 
 def can_run():
@@ -66,6 +69,16 @@ class Scratch:
         self.write("bin/python3", f'#!/bin/sh\nexec "{sys.executable}" -S "$@"\n')
         for name in ("kit/rt", "bin/python3", "test"):
             os.chmod(self.at(name), 0o755)
+
+    def furnish(self):
+        """Puts `./test` and `./install` there as they are here, with all that they read."""
+        for name in HOUSE:
+            there, here = self.at(name), os.path.join(TOP, name)
+            if os.path.isdir(here):
+                shutil.rmtree(there, ignore_errors=True)
+                os.symlink(here, there)
+            else:
+                shutil.copy2(here, there)
 
     def at(self, name):
         return os.path.join(self.top, name)
