@@ -334,6 +334,7 @@ TOOLCHAINS = {
 SECONDS = 2
 HELPS = ("exbr: ./exbr --build proves and builds these sources (up to an hour); ./look FOLDER plays a folder by them without a proof (a minute); "
          "both need rt\n")
+IN_A_CONTAINER = 'exbr: it runs in a container, by {top}/Containerfile: podman build -t exbr {top}; podman run --rm -v "$PWD":/work exbr WORDS\n'
 
 
 class Anywhere(unittest.TestCase):
@@ -350,16 +351,21 @@ class Anywhere(unittest.TestCase):
         shutil.copy2(self.program, it.at("dist/exbr"))
         it.write("dist/record", record.make(self.program, record.sources_of(it.top), "kit one"))
         self.printed = subprocess.run([self.program, "make", "3"], capture_output=True, text=True, check=True).stdout
+        # What the three commands do where the program is run: status, printed text as an expression, and said text.
+        self.exbr, self.install = (0, f"^{re.escape(self.printed)}$", ""), (0, r"^install: \d+ files in ", "")
+        self.test = (0, r"^testing \S+/dist/exbr: 1 tests\n(?s:.*)\n1 passed, 0 failed\n$", "")
 
-    def rows(self, wanted):
-        """Each toolchain, and each command with its words: status, printed text and said text are as wanted, in time, and no proof is begun."""
-        for name, text in TOOLCHAINS.items():
-            self.it.write("kit/rt", text or "")
-            os.chmod(self.it.at("kit/rt"), 0o755 if text else 0o644)
+    def rows(self, exbr, test, install, toolchains=("no rt", "rt of another kit")):
+        """Each toolchain, and each command: status, printed text and said text are as wanted, in time, and no proof is begun."""
+        wanted = {"exbr make 3": exbr, "test --only dist:": test, "install PREFIX": install}
+        for name in toolchains:
+            self.it.write("kit/rt", TOOLCHAINS[name] or "")
+            os.chmod(self.it.at("kit/rt"), 0o755)
             for words, answer in wanted.items():
                 with self.subTest(rt=name, words=words):
-                    self.row(words.split(), answer, bool(text))
-            self.assertLessEqual(set(self.asked()), {"version"})
+                    self.row(words.split(), answer, bool(TOOLCHAINS[name]))
+        asked = self.it.read("kit/asked").splitlines() if os.path.exists(self.it.at("kit/asked")) else []
+        self.assertLessEqual(set(asked), {"version"})
 
     def row(self, words, answer, has_rt):
         status, printed, said = answer
@@ -376,31 +382,71 @@ class Anywhere(unittest.TestCase):
         self.assertEqual((found[0], found[2]), (status, said), found)
         self.assertRegex(found[1], printed)
 
-    def asked(self):
-        return self.it.read("kit/asked").splitlines() if os.path.exists(self.it.at("kit/asked")) else []
-
-    def refused(self, why):
+    def refused(self, why, helps=HELPS, **more):
         """What comes where no program is of these sources: two lines, status 1, and nothing is made."""
-        said = f"exbr: dist/exbr {why}\n{HELPS}"
-        self.rows({"exbr make 3": (1, r"^$", said), "test --only dist:": (1, r"^0 passed, 1 failed\n$", said), "install PREFIX": (1, r"^$", said)})
+        said = f"exbr: dist/exbr {why}\n{helps}"
+        self.rows((1, r"^$", said), (1, r"^0 passed, 1 failed\n$", said), (1, r"^$", said), **more)
         self.assertFalse(os.path.exists(self.it.at("prefix")))
 
     def test_sources_as_recorded(self):
-        self.rows({
-            "exbr make 3": (0, f"^{re.escape(self.printed)}$", ""),
-            "test --only dist:": (0, r"^testing \S+/dist/exbr: 1 tests\n(?s:.*)\n1 passed, 0 failed\n$", ""),
-            "install PREFIX": (0, r"^install: \d+ files in ", ""),
-        })
+        self.rows(self.exbr, self.test, self.install, toolchains=TOOLCHAINS)
         ran = subprocess.run([self.it.at("prefix/bin/exbr"), "make", "3"], capture_output=True, text=True)
         self.assertEqual((ran.returncode, ran.stdout), (0, self.printed))
 
     def test_a_byte_of_a_source_is_another_one(self):
         self.it.change_byte("crates/exb_low/src/lib.rt", 0)
-        self.refused("was built of other sources than these")
+        self.refused("was built of other sources than these", toolchains=TOOLCHAINS)
 
     def test_no_dist(self):
         shutil.rmtree(self.it.at("dist"))
-        self.refused("is missing")
+        self.refused("is missing", toolchains=TOOLCHAINS)
+
+    def test_a_byte_of_the_program_is_another_one(self):
+        self.it.change_byte("dist/exbr")
+        self.refused("is not the program of its record: its sha256 sum is another one")
+
+    def test_a_line_of_the_record_is_another_one(self):
+        before = record.read(self.it.at("dist/record"))
+        for word, why in (("program", "is not the program of its record: its sha256 sum is another one"), ("sources", "was built of other sources than these")):
+            self.it.record(word, before[word][::-1])
+            self.refused(why, toolchains=["no rt"])
+            self.it.record(word, before[word])
+        self.it.record("needs", "nothing")
+        self.rows(self.exbr, (1, f"dist/record must have the line: needs {re.escape(before['needs'])}\n(?s:.*)\n0 passed, 1 failed\n$", ""), self.install)
+
+    def test_what_a_build_left_is_taken(self):
+        self.it.change_byte("crates/exb_low/src/lib.rt", 0)
+        os.makedirs(self.it.at("crates/exbr/out"))
+        shutil.copy2(self.program, self.it.at("crates/exbr/out/exbr"))
+        self.it.write("crates/exbr/out/record", record.make(self.program, record.sources_of(self.it.top), "kit two"))
+        failed = r"^testing \S+/crates/exbr/out/exbr: 1 tests\n(?s:.*)dist/ was built of other sources(?s:.*)\n0 passed, 1 failed\n$"
+        self.rows(self.exbr, (1, failed, ""), self.install)
+
+    def test_an_older_c_library(self):
+        self.it.write("bin/getconf", "#!/bin/sh\necho glibc 2.9\n")
+        os.chmod(self.it.at("bin/getconf"), 0o755)
+        needs, top = record.read(self.it.at("dist/record"))["needs"], self.it.top
+        self.refused(f"does not start here: it needs {needs}, and this system has only glibc 2.9", IN_A_CONTAINER.format(top=top))
+        self.assertEqual(self.it.run("exbr", "--version")[1].splitlines()[1], "kit kit one")
+
+    def test_no_such_c_library(self):
+        """The repository in a root of busybox alone, where nothing can start the program."""
+        busybox, chroot, root = shutil.which("busybox"), shutil.which("chroot"), self.it.at("root")
+        if os.geteuid() or not busybox or not chroot:
+            self.skipTest("it takes root and a static busybox (Debian's package busybox-static)")
+        os.makedirs(f"{root}/bin")
+        shutil.copy2(busybox, f"{root}/bin/busybox")
+        if subprocess.run([chroot, root, "/bin/busybox", "--install", "-s", "/bin"], capture_output=True).returncode:
+            self.skipTest("this busybox isn't a static one (Debian's package busybox-static), or chroot isn't allowed")
+        self.it.write("root/dev/null", "")
+        for name in ("dist", "tools", "crates"):
+            shutil.copytree(self.it.at(name), f"{root}/it/{name}", symlinks=True)
+        for name in ("exbr", "crates.txt"):
+            shutil.copy2(self.it.at(name), f"{root}/it/{name}")
+        ran = subprocess.run([chroot, root, "/it/exbr", "make", "3"], capture_output=True, text=True, env={"PATH": "/bin"})
+        needs = record.read(self.it.at("dist/record"))["needs"]
+        why = f"does not start here: it needs {needs}, and this system has no glibc for x86-64 (/lib64/ld-linux-x86-64.so.2)"
+        self.assertEqual((ran.returncode, ran.stdout, ran.stderr), (1, "", f"exbr: dist/exbr {why}\n{IN_A_CONTAINER.format(top='/it')}"))
 
 
 class AByteIsAnother(Launched):
@@ -495,25 +541,6 @@ class AnotherKit(Launched):
         it.write("kit/kit", "kit three\n")
         self.assertEqual(it.run("exbr", "x"), (0, "x\n", ""))
         self.assertIn("\nkit kit two\n", it.run("exbr", "--version")[1])
-
-
-# In the place of getconf, on a system whose C library is older than any program needs.
-GETCONF = "#!/bin/sh\necho glibc 2.9\n"
-
-
-class AnotherSystem(Launched):
-    def test_an_older_library_is_told(self):
-        it = self.refreshed()
-        needs = record.read(it.at("dist/record"))["needs"]
-        it.write("bin/getconf", GETCONF)
-        os.chmod(it.at("bin/getconf"), 0o755)
-        said = (f"exbr: dist/exbr does not start here: it needs {needs}, and this system has only glibc 2.9\n"
-                f"exbr: it runs in a container, by {it.top}/Containerfile: podman build -t exbr {it.top}; "
-                "podman run --rm -v \"$PWD\":/work exbr WORDS\n")
-        self.assertEqual(it.run("exbr", "x"), (1, "", said))
-        self.assertEqual(it.run("exbr", "--version")[1].splitlines()[1], "kit kit one")
-        it.record("needs", needs.replace("glibc 2.", "glibc 1."))
-        self.assertEqual(it.run("exbr", "x"), (0, "x\n", ""))
 
 
 class Version(Launched):
