@@ -47,11 +47,6 @@ FILES = {
     "kit/kit": "kit one\n",
 }
 PARTS = ["exbr", ".ci/run", "tools/sources", "tools/program", "tools/version", "tools/build", "tools/dist", "tools/gate", "tools/record.py", "tools/schedule.py", "tools/seconds.txt"]
-# What `./test` and `./install` are made of besides.
-HOUSE = ["test", "install", "tools/checks", "tools/desk", "tools/completion", "tools/trace_to_pcapng.py", "tools/exbr-why", "tools/exbr-watch", "bench",
-         "crates/exb_cases", "docs", "examples"]
-
-
 def can_run():
     return platform.machine() == "x86_64" and os.path.isfile("/bin/echo")
 
@@ -71,14 +66,14 @@ class Scratch:
             os.chmod(self.at(name), 0o755)
 
     def furnish(self):
-        """Puts `./test` and `./install` there as they are here, with all that they read."""
-        for name in HOUSE:
-            there, here = self.at(name), os.path.join(TOP, name)
-            if os.path.isdir(here):
-                shutil.rmtree(there, ignore_errors=True)
-                os.symlink(here, there)
-            else:
-                shutil.copy2(here, there)
+        """Puts `./test` and `./install` there as they are here, and links to all that isn't there and that they may read."""
+        for name in ("test", "install"):
+            shutil.copy2(os.path.join(TOP, name), self.at(name))
+        shutil.rmtree(self.at("crates/exb_cases"))
+        beside = [name for name in os.listdir(TOP) if name not in (".git", "dist")]
+        for name in [*beside, *(f"tools/{it}" for it in os.listdir(f"{TOP}/tools")), "crates/exb_cases"]:
+            if not os.path.lexists(self.at(name)):
+                os.symlink(os.path.join(TOP, name), self.at(name))
 
     def at(self, name):
         return os.path.join(self.top, name)

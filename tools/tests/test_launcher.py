@@ -606,6 +606,12 @@ class ItIsNotProved(Launched):
         printed = self.it.run(".ci/run", has_rt=False)[1]
         self.assertEqual(printed.splitlines()[-1], "0 passed, 1 failed")
 
+    def test_a_broken_toolchain_at_the_gate(self):
+        it = self.refreshed()
+        it.write("kit/rt", TOOLCHAINS["a broken rt"])
+        printed, _ = self.says([".ci/run"], 1, "gate: rt ended with status 127", "and this is none")
+        self.assertEqual(printed.splitlines()[-1], "5 passed, 1 failed")
+
 
 class Words(Launched):
     def test_bad_words(self):
