@@ -109,13 +109,13 @@ def seconds(top):
     for count in (0, 20_000):
         folder = written(turns(count), f"{top}/{count}")
         before = time.monotonic()
-        ran = subprocess.run([frames.PROGRAM, "run", "topology.toml"], cwd=folder, capture_output=True, text=True, check=True)
+        ran = subprocess.run([frames.program(), "run", "topology.toml"], cwd=folder, capture_output=True, text=True, check=True)
         print(f"{count:6} commands {time.monotonic() - before:7.2f} s | {ran.stdout.strip()}", flush=True)
 
 
 def by_clock(top):
     folder = written(turns(20_000), f"{top}/clock")
-    subprocess.run(["perf", "record", "-q", "-e", "cpu-clock", "-F", "2000", "-o", "samples", frames.PROGRAM, "run", "topology.toml"],
+    subprocess.run(["perf", "record", "-q", "-e", "cpu-clock", "-F", "2000", "-o", "samples", frames.program(), "run", "topology.toml"],
                    cwd=folder, capture_output=True, check=True)
     text = subprocess.run(["perf", "report", "-i", "samples", "--stdio", "-s", "symbol"], cwd=folder, capture_output=True, text=True, check=True).stdout
     for share, name in re.findall(r"^\s+([\d.]+%)\s+\[[.k]\] (\S+)", text, re.M)[:30]:
@@ -125,7 +125,7 @@ def by_clock(top):
 def by_function(kinds, folder):
     """The instructions of a run by function."""
     written(kinds, folder)
-    subprocess.run(["valgrind", "--tool=callgrind", "--callgrind-out-file=costs", frames.PROGRAM, "run", "topology.toml"],
+    subprocess.run(["valgrind", "--tool=callgrind", "--callgrind-out-file=costs", frames.program(), "run", "topology.toml"],
                    cwd=folder, env=os.environ | COPIES_BY_LOOPS, capture_output=True, check=True)
     text = subprocess.run(["callgrind_annotate", "--threshold=100", f"{folder}/costs"], capture_output=True, text=True, check=True).stdout
     found = {}
@@ -159,6 +159,7 @@ def main():
     for wanted, tool in ((asked.count or asked.profile, "valgrind"), (asked.clock, "perf")):
         if wanted and not shutil.which(tool):
             parser.error(f"there is no {tool} here")
+    frames.program()
     top = tempfile.mkdtemp(prefix="exbr-commands-")
     try:
         if asked.clock:

@@ -13,8 +13,8 @@ same run, and compares what the two write byte for byte.
     bench/frames.py --options   a run with a trace, and a run in a drawn order, beside the same run without, as ratios
     bench/frames.py --costs     where the time goes, by callgrind (instructions, and not seconds)
 
-It works in a folder of its own under the system's folder for such, and takes it away at the end. The program and the
-baseline are built before where that is needed; the program is the one that ./exbr runs, or the one that is named by EXBR=FILE.
+It works in a folder of its own under the system's folder for such, and takes it away at the end. The baseline is
+built before; the program is the one that ./exbr runs, or the one that is named by EXBR=FILE. None is built for this.
 """
 import argparse
 import filecmp
@@ -34,7 +34,6 @@ sys.path.insert(0, f"{TOP}/bench")
 import bridge
 from program import program
 
-PROGRAM = program()
 TURNS = 3  # each program runs so often in turn with the other, and its best time counts
 BROADCAST = b"\xff" * 6
 HEADER = struct.pack("<IHHIIII", 0xA1B23C4D, 2, 4, 0, 0, 65535, 1)
@@ -129,10 +128,10 @@ def measure(name, tree, frames, vlans=1, ageing=300, active=None):
     ports = tree.ports
     write_topology(tree, ageing, all_tagged(vlans))
     write_captures(ports, [], 1)
-    opening, _ = run([PROGRAM, "run", "topology.toml"])
+    opening, _ = run([program(), "run", "topology.toml"])
     write_captures(ports, frames, active or len(ports))
     flat_words = ["./flat", "1" if ageing else "0", "flat-"] + [f"in-{port}.pcap" for port in ports]
-    turns = [(run(flat_words), run([PROGRAM, "run", "topology.toml"])) for _ in range(TURNS)]
+    turns = [(run(flat_words), run([program(), "run", "topology.toml"])) for _ in range(TURNS)]
     flat_time, flat_memory = min(flat for flat, _ in turns)
     own_time, own_memory = min(own for _, own in turns)
     same = all(filecmp.cmp(f"out-{port}.pcap", f"flat-{at}.pcap", shallow=False) for at, port in enumerate(ports, 1))
@@ -216,7 +215,7 @@ def play(tree, tables, frames):
     text = write_topology(tree, 300, tables, [port])
     with open(f"in-{port}.pcap", "rb") as file:
         written, line = bridge.run(text, {f"in-{port}.pcap": file.read()})
-    seconds, memory = run([PROGRAM, "run", "--counters", "topology.toml"])
+    seconds, memory = run([program(), "run", "--counters", "topology.toml"])
     for name, data in written.items():
         with open(name, "rb") as file:
             if file.read() != data:
@@ -260,7 +259,7 @@ def options():
         write_topology(tree)
         write_captures(ports, learned(20_000, len(ports), 64, None, len(ports)), len(ports))
         ways = ([], ["--trace"], ["--seed", "1"])
-        turns = [[run([PROGRAM, "run", "topology.toml"] + way) for way in ways] for _ in range(TURNS)]
+        turns = [[run([program(), "run", "topology.toml"] + way) for way in ways] for _ in range(TURNS)]
         plain, trace, seed = (min(turn[at][0] for turn in turns) for at in range(3))
         memory = max(turn[1][1] for turn in turns)
         size = os.path.getsize("out-trace.txt") / 1e6
@@ -272,7 +271,7 @@ def costs():
     tree = one_extender(64)
     write_captures(tree.ports, learned(5_000, 64, 60, None, 64) + flooded(640, 64, 60), 64)
     write_topology(tree)
-    subprocess.run(["valgrind", "--tool=callgrind", "--callgrind-out-file=costs", PROGRAM, "run", "topology.toml"],
+    subprocess.run(["valgrind", "--tool=callgrind", "--callgrind-out-file=costs", program(), "run", "topology.toml"],
                    check=True, capture_output=True)
     text = subprocess.run(["callgrind_annotate", "costs"], check=True, capture_output=True, text=True).stdout
     print("\n".join(line[:160] for line in text.splitlines()[:45]))
@@ -287,9 +286,8 @@ def main():
     for name in PARTS:
         one.add_argument(f"--{name}", dest="part", action="store_const", const=name)
     part = PARTS.get(parser.parse_args().part, sizes)
-    # With no words the program says how it is called; the launcher builds it for that.
-    if "EXBR" not in os.environ:
-        subprocess.run([f"{TOP}/exbr"], capture_output=True, check=False)
+    # Without a program it ends here, before captures are made.
+    program()
     folder = tempfile.mkdtemp(prefix="exbr-bench-")
     try:
         subprocess.run(["cc", "-O2", "-o", f"{folder}/flat", f"{TOP}/bench/flat.c"], check=True)

@@ -94,7 +94,7 @@ def counted(case, top, flat, options):
     slug = re.sub(r"\W+", "-", case.name)
     folders = [captured(case, count, f"{top}/{slug}-{count}") for count in (FEW, MANY)]
     more = len(case.made(MANY)) - len(case.made(FEW))
-    own = [frames.PROGRAM, "run", "topology.toml"]
+    own = [frames.program(), "run", "topology.toml"]
     plain = [flat, "1", "flat-"] + [f"in-{port}.pcap" for port in case.tree.ports]
     ways = [own, own + options, plain] if options else [own, plain]
     # Two runs at once in one folder would write over each other's files.
@@ -129,6 +129,7 @@ def main():
     chosen = [case for case in cases() if asked.case in case.name]
     if not chosen:
         parser.error(f"no case has the word {asked.case}: " + "; ".join(case.name for case in cases()))
+    frames.program()
     top = tempfile.mkdtemp(prefix="exbr-instructions-")
     try:
         flat = f"{top}/flat"

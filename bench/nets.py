@@ -86,10 +86,10 @@ def rates(top, many):
     for count in ROWS:
         folder = f"{top}/row-{count}"
         name, wanted = arranged(folder, count, 0, many)
-        seconds, peak = timed([frames.PROGRAM, "net", "net.toml"], folder)
+        seconds, peak = timed([frames.program(), "net", "net.toml"], folder)
         holds(folder, name, wanted)
         yield f"{count} bridge{'s' if count > 1 else ''} in a row", f"{seconds:.2f} s", f"{many / seconds:,.0f}", f"{count * many / seconds:,.0f}", f"{peak:.0f} MB"
-    seconds, peak = timed([frames.PROGRAM, "run", "only.toml"], f"{top}/row-1")
+    seconds, peak = timed([frames.program(), "run", "only.toml"], f"{top}/row-1")
     yield "one bridge, by `exbr run`", f"{seconds:.2f} s", f"{many / seconds:,.0f}", f"{many / seconds:,.0f}", f"{peak:.0f} MB"
 
 
@@ -101,7 +101,7 @@ def counted(top, count, others, words):
         name, wanted = arranged(folder, count, others, many)
         folders.append((folder, name, wanted))
     with concurrent.futures.ThreadPoolExecutor(2) as pool:
-        low, high = pool.map(lambda it: instructions([frames.PROGRAM, *words], it[0]), folders)
+        low, high = pool.map(lambda it: instructions([frames.program(), *words], it[0]), folders)
     if words[0] == "net":
         for it in folders:
             holds(*it)
@@ -140,6 +140,7 @@ def main():
     asked = form.parse_args()
     if asked.instructions and not shutil.which("valgrind"):
         sys.exit("nets.py: there is no valgrind in the path")
+    frames.program()
     top = tempfile.mkdtemp(prefix="exbr-nets-")
     try:
         if asked.instructions:

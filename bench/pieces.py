@@ -6,8 +6,8 @@
 
 There are classic captures and pcapng of frames of 262,144 bytes, which the bridge ignores as too long, and pcapng of blocks of up to
 1 GB that are skipped, each before a frame of 60 bytes. Most of each is holes: 4 GB take some 100 MB of the disk, and little is
-written. It works in a folder of its own under the system's folder for such, and takes it away at the end. A program that is built
-already may be named by EXBR=FILE. It fails where a run has more than 16 MiB of memory.
+written. It works in a folder of its own under the system's folder for such, and takes it away at the end. The program is
+the one that ./exbr runs, or EXBR=FILE. It fails where a run has more than 16 MiB of memory.
 """
 import argparse
 import os
@@ -21,7 +21,6 @@ TOP = os.path.dirname(os.path.dirname(os.path.abspath(__file__)))
 sys.path.insert(0, f"{TOP}/bench")
 from program import program
 
-PROGRAM = program()
 LONG = 262_144
 FRAME = b"\xff" * 6 + b"\x02\x00\x00\x00\x00\x01" + b"\x08\x00" + bytes(46)
 HEADER = struct.pack("<IHHIIII", 0xA1B2C3D4, 2, 4, 0, 0, LONG, 1)
@@ -77,7 +76,7 @@ def played(words):
     """The most memory that the program had, in bytes, the seconds that it took, and what it printed. `time` stands between, since a
     child that is made here would begin with the memory that this script has."""
     begun = time.monotonic()
-    ran = subprocess.run(["/usr/bin/time", "-f", "%M", "-o", "peak", PROGRAM, *words], capture_output=True, text=True, check=False)
+    ran = subprocess.run(["/usr/bin/time", "-f", "%M", "-o", "peak", program(), *words], capture_output=True, text=True, check=False)
     seconds = time.monotonic() - begun
     if ran.returncode:
         sys.exit(f"pieces: {ran.stdout}{ran.stderr}")
@@ -114,6 +113,7 @@ def main():
     sizes = [4 << 20, 64 << 20]
     if not parser.parse_args().small:
         sizes += [1 << 30, 4 << 30]
+    program()
     with tempfile.TemporaryDirectory() as folder:
         os.chdir(folder)
         with open("topology.toml", "w", encoding="utf-8") as file:

@@ -3,8 +3,7 @@
 --hostile files of up to 16 MB: many small tables, many static entries, and a long prefix with thousands of ports. What is
 measured is `exbr check`, which plays nothing: it reads the file and, where that has no fault, counts what is needed.
 
-    bench/topology.py [--hostile]    (in a folder for its files; the program is built before where that is needed, or named by
-                                     EXBR=FILE)
+    bench/topology.py [--hostile]    (in a folder for its files; the program is the one that ./exbr runs, or named by EXBR=FILE)
 """
 import argparse
 import os
@@ -13,8 +12,8 @@ import subprocess
 import sys
 import time
 
-TOP = os.path.dirname(os.path.dirname(os.path.abspath(__file__)))
-PROGRAM = os.environ.get("EXBR", f"{TOP}/exbr")
+sys.dont_write_bytecode = True
+from program import program
 
 
 def at_the_limits():
@@ -62,7 +61,7 @@ def measure(name, text):
     with open(name, "w", encoding="utf-8") as file:
         file.write(text)
     before = time.monotonic()
-    ran = subprocess.run([PROGRAM, "check", name], capture_output=True, text=True, check=False)
+    ran = subprocess.run([program(), "check", name], capture_output=True, text=True, check=False)
     seconds = time.monotonic() - before
     peak = resource.getrusage(resource.RUSAGE_CHILDREN).ru_maxrss // 1024
     print(f"{name}: {len(text)} bytes, status {ran.returncode} ({ran.stdout.strip()}), {seconds:.2f} s, peak so far {peak} MB")
@@ -72,7 +71,7 @@ def main():
     parser = argparse.ArgumentParser(description=__doc__, formatter_class=argparse.RawDescriptionHelpFormatter)
     parser.add_argument("--hostile", action="store_true", help="files of up to 16 MB too")
     is_hostile = parser.parse_args().hostile
-    subprocess.run([PROGRAM], capture_output=True, check=False)
+    program()
     measure("limits.toml", at_the_limits())
     if is_hostile:
         measure("static.toml", static_entries())

@@ -14,7 +14,7 @@ COUNTS = re.compile(r"(failures|errors|skipped|unexpected successes)=(\d+)")
 LONG = {
     "tools/hostile/test_soak.py": 20,
     "tools/hostile/test_changes.py": 15,
-    "tools/tests/test_launcher.py": 15,
+    "tools/tests/test_launcher.py": 20,
     "tools/hostile/test_strangers.py": 12,
     "tools/hostile/test_random_nets.py": 10,
     "tools/captures/test_captures.py": 6,

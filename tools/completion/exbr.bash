@@ -37,7 +37,10 @@ _exbr() {
     local word=${COMP_WORDS[COMP_CWORD]} before=${COMP_WORDS[COMP_CWORD - 1]} options=
     COMPREPLY=()
     if [ "$COMP_CWORD" -eq 1 ]; then
-        COMPREPLY=($(compgen -W "run check make audit net" -- "$word"))
+        case $word in
+        -*) COMPREPLY=($(compgen -W "--version" -- "$word")) ;;
+        *) COMPREPLY=($(compgen -W "run check make audit net" -- "$word")) ;;
+        esac
         return 0
     fi
     case ${COMP_WORDS[1]} in

@@ -5,7 +5,7 @@
 
 Each run has to end with a status that fits, print its line or a front of it, leave what it read as it was, and leave each output absent, as
 it was before, or a front of what it holds where nothing fails. Then the next run, without the fault, has to be whole. The program is
-crates/exbr/out/exbr, as ./exbr builds it, or else dist/exbr. It runs on Linux, with Python 3.9 or later. What needs root, or what
+the one that ./exbr runs, if none is named. It runs on Linux, with Python 3.9 or later. What needs root, or what
 this system lacks, is skipped with the reason. `--table` prints the results as a table. The last line counts; the status is 0 where none
 is wrong, 1 where one is, and 2 for words that are not as above.
 """

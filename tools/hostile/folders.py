@@ -25,12 +25,15 @@ class Skipped(Exception):
 
 
 def program_of(given):
-    """The program to try: the one that is given, that of ./exbr, or that of dist/."""
-    places = [given] if given else [os.path.join(TOP, "crates/exbr/out/exbr"), os.path.join(TOP, "dist/exbr")]
-    for place in places:
-        if os.path.isfile(place) and os.access(place, os.X_OK):
-            return os.path.abspath(place)
-    sys.exit(f"{os.path.basename(sys.argv[0])}: there is no program {' or '.join(places)}; name one with --program FILE")
+    """The program to try: the one that is given, or that of ./exbr. If there is none, a line or two say why, and the status is 1."""
+    if given:
+        if os.path.isfile(given) and os.access(given, os.X_OK):
+            return os.path.abspath(given)
+        sys.exit(f"{os.path.basename(sys.argv[0])}: there is no program {given}")
+    found = subprocess.run([os.path.join(TOP, "tools/program")], stdout=subprocess.PIPE, text=True, check=False)
+    if found.returncode:
+        sys.exit(found.returncode)
+    return found.stdout.strip()
 
 
 def read(path):

@@ -5,7 +5,7 @@ or a front of it; and to leave each of its output files absent, as it was, or a 
 
     tools/hostile/refused_memory.py [--program FILE] [RUN ..]
 
-The program is crates/exbr/out/exbr, as ./exbr builds it, and the runs are bare, tree, lossy and net. It needs gcc or clang and the
+The program is the one that ./exbr runs, if none is named, and the runs are bare, tree, lossy and net. It needs gcc or clang and the
 GNU C library. In the second series the output files are there before each run, with other texts.
 """
 import argparse
@@ -16,10 +16,10 @@ import sys
 import tempfile
 import time
 
+from folders import program_of
 from runs import RUNS
 
 HERE = os.path.dirname(os.path.abspath(__file__))
-TOP = os.path.dirname(os.path.dirname(HERE))
 NO_MEMORY = b"exbr: out of memory\n"
 BEFORE = b"This was here before, and is longer than most of what is written in its place.\n"
 
@@ -104,16 +104,14 @@ class Run:
 
 def main():
     parser = argparse.ArgumentParser(description=__doc__, formatter_class=argparse.RawDescriptionHelpFormatter)
-    parser.add_argument("--program", metavar="FILE", default=os.path.join(TOP, "crates", "exbr", "out", "exbr"))
+    parser.add_argument("--program", metavar="FILE")
     parser.add_argument("runs", metavar="RUN", nargs="*", help="all of them, if none is named")
     asked = parser.parse_args()
     known = [name for name, _its, _files in RUNS]
     for name in asked.runs:
         if name not in known:
             parser.error(f"{name} is no run: there are {', '.join(known)}")
-    program = os.path.abspath(asked.program)
-    if not os.access(program, os.X_OK):
-        sys.exit(f"refused_memory: there is no program {program}: ./exbr --build makes one, or name one by --program")
+    program = program_of(asked.program)
     with tempfile.TemporaryDirectory() as folder:
         library = built(folder)
         for name, its, files in RUNS:

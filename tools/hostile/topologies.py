@@ -4,7 +4,7 @@ what it says, the seconds of processor time, and the most memory that it had at 
 
     tools/hostile/topologies.py [--program FILE] [--bytes N] [--only WORD] [--room MIB] [--keep FOLDER]
 
-The program is crates/exbr/out/exbr, as ./exbr builds it. With --room it gets no more addresses than so many MiB, and with --keep the
+The program is the one that ./exbr runs, if none is named. With --room it gets no more addresses than so many MiB, and with --keep the
 files stay in that folder. A file is to take at most 1 GiB, or to end with status 1; the last line says whether each did.
 """
 import argparse
@@ -14,8 +14,9 @@ import subprocess
 import sys
 import tempfile
 
-HERE = os.path.dirname(os.path.abspath(__file__))
-TOP = os.path.dirname(os.path.dirname(HERE))
+sys.dont_write_bytecode = True
+from folders import program_of
+
 LARGEST = 16_777_216
 SITE = "bridge.ports = 64\n"
 
@@ -117,14 +118,14 @@ def checked(program, folder, room):
 
 
 def main():
-    own = os.path.join(TOP, "crates", "exbr", "out", "exbr")
     words = argparse.ArgumentParser(description=__doc__, formatter_class=argparse.RawDescriptionHelpFormatter)
-    words.add_argument("--program", default=own)
+    words.add_argument("--program", metavar="FILE")
     words.add_argument("--bytes", type=int, default=LARGEST)
     words.add_argument("--only", default="")
     words.add_argument("--room", type=int)
     words.add_argument("--keep")
     words = words.parse_args()
+    program = program_of(words.program)
     print("| File | Status | What is said | Seconds | MiB |\n|---|---|---|---|---|")
     worst = []
     with tempfile.TemporaryDirectory() as folder:
@@ -132,7 +133,7 @@ def main():
             if words.only not in name:
                 continue
             write(os.path.join(folder, "t.toml"), make, words.bytes)
-            status, printed, seconds, memory = checked(os.path.abspath(words.program), folder, words.room)
+            status, printed, seconds, memory = checked(program, folder, words.room)
             said = printed if len(printed) <= 50 else f"{printed[:50]} .."
             print(f"| {name} | {status} | {said} | {seconds:.1f} | {memory / 1024:.0f} |", flush=True)
             if memory > 2**20 and status != 1:

@@ -46,9 +46,7 @@ FILES = {
     "kit/rt": RT,
     "kit/kit": "kit one\n",
 }
-PARTS = ["exbr", ".ci/run", "tools/sources", "tools/program", "tools/build", "tools/dist", "tools/gate", "tools/record.py", "tools/schedule.py", "tools/seconds.txt"]
-
-
+PARTS = ["exbr", ".ci/run", "tools/sources", "tools/program", "tools/version", "tools/build", "tools/dist", "tools/gate", "tools/record.py", "tools/schedule.py", "tools/seconds.txt"]
 def can_run():
     return platform.machine() == "x86_64" and os.path.isfile("/bin/echo")
 
@@ -66,6 +64,16 @@ class Scratch:
         self.write("bin/python3", f'#!/bin/sh\nexec "{sys.executable}" -S "$@"\n')
         for name in ("kit/rt", "bin/python3", "test"):
             os.chmod(self.at(name), 0o755)
+
+    def furnish(self):
+        """Puts `./test` and `./install` there as they are here, and links to all that isn't there and that they may read."""
+        for name in ("test", "install"):
+            shutil.copy2(os.path.join(TOP, name), self.at(name))
+        shutil.rmtree(self.at("crates/exb_cases"))
+        beside = [name for name in os.listdir(TOP) if name not in (".git", "dist")]
+        for name in [*beside, *(f"tools/{it}" for it in os.listdir(f"{TOP}/tools")), "crates/exb_cases"]:
+            if not os.path.lexists(self.at(name)):
+                os.symlink(os.path.join(TOP, name), self.at(name))
 
     def at(self, name):
         return os.path.join(self.top, name)

@@ -33,6 +33,7 @@ class Bash(unittest.TestCase):
         self.assertEqual(self.completed(""), ["audit", "check", "make", "net", "run"])
         self.assertEqual(self.completed("c"), ["check"])
         self.assertEqual(self.completed("x"), [])
+        self.assertEqual(self.completed("-"), ["--version"])
 
     def test_topologies(self):
         every = ["nets", "topology.toml", "two words.toml"]

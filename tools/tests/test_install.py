@@ -33,12 +33,29 @@ class Installed(unittest.TestCase):
     def test_files_are_where_they_go(self):
         self.put()
         there = tree(self.prefix)
-        for name in ("bin/exbr", "bin/exbr-trace-to-pcapng", "share/man/man1/exbr.1", "share/bash-completion/completions/exbr",
+        for name in ("bin/exbr", "lib/exbr/exbr", "share/exbr/version", "bin/exbr-trace-to-pcapng", "share/man/man1/exbr.1", "share/bash-completion/completions/exbr",
                      "share/zsh/site-functions/_exbr", "share/exbr/installed"):
             self.assertIn(name, there)
-        ran = subprocess.run([f"{self.prefix}/bin/exbr", "hello"], capture_output=True, text=True)
+        self.assertEqual(self.ran("exbr", "hello", "", "--version"), "hello  --version\n")
+        os.symlink(f"{self.prefix}/bin/exbr", f"{self.room.name}/linked")
+        ran = subprocess.run([f"{self.room.name}/linked", "hello"], cwd="/", capture_output=True, text=True)
         self.assertEqual(ran.stdout, "hello\n")
         self.assertFalse([it for it in there if "/tests/" in it or it.endswith(".pyc")])
+
+    def ran(self, name, *words):
+        """What an installed command prints, with nothing of the repository in the environment."""
+        env = {name: its for name, its in os.environ.items() if name not in ("EXBR", "EXBR_PROGRAM")}
+        return subprocess.run([f"{self.prefix}/bin/{name}", *words], stdin=subprocess.DEVNULL, capture_output=True, text=True, env=env).stdout
+
+    def test_version_is_written_down(self):
+        self.put()
+        wanted = subprocess.run([f"{TOP}/tools/version", PROGRAM], capture_output=True, text=True).stdout
+        self.assertEqual(self.ran("exbr", "--version"), wanted)
+        self.assertEqual([it.split()[0] for it in wanted.splitlines()], ["commit", "kit", "sources"])
+
+    def test_tools_run_the_program_that_is_installed(self):
+        self.put()
+        self.assertEqual(self.ran("exbr-watch", "--", "hello", "there"), "hello there\n")
 
     def test_each_tool_answers(self):
         self.put()
@@ -123,7 +140,7 @@ class Installed(unittest.TestCase):
         said = subprocess.run(["dpkg-deb", "--info", file], capture_output=True, text=True).stdout
         self.assertRegex(said, r"Depends: libc6 \(>= 2\.\d+\)")
         listed = subprocess.run(["dpkg-deb", "--contents", file], capture_output=True, text=True).stdout
-        for name in ("./usr/bin/exbr", "./usr/share/man/man1/exbr.1.gz", "./usr/share/zsh/vendor-completions/_exbr"):
+        for name in ("./usr/bin/exbr", "./usr/lib/exbr/exbr", "./usr/share/exbr/version", "./usr/share/man/man1/exbr.1.gz", "./usr/share/zsh/vendor-completions/_exbr"):
             self.assertIn(f" {name}\n", listed)
         self.assertNotIn("installed", listed)
 

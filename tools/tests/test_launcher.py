@@ -1,13 +1,19 @@
-"""What ./exbr, tools/program, tools/build, tools/dist and .ci/run do and say, with dist/ as it must be and with a changed byte in it,
-in its record, or in a source; with the toolchain in the path, without it, and with another one."""
+"""What ./exbr, ./test, ./install, tools/program, tools/build, tools/dist and .ci/run do and say, with dist/ as it must be and with a changed
+byte in it, in its record, or in a source; with the toolchain in the path, without it, and with another or a broken one."""
 import os
+import re
 import shutil
 import subprocess
+import sys
 import tempfile
 import time
 import unittest
 
-from scratch import Scratch, can_run
+from scratch import TOP, Scratch, can_run
+
+sys.dont_write_bytecode = True
+sys.path.insert(0, os.path.join(TOP, "tools"))
+import record
 
 # A toolchain that keeps what it proves, with a scheduler of its own that proves one crate after another. It tells in kit/calls what it proved,
 # with how many processes, and as which process. What another run proves just now it waits for.
@@ -316,6 +322,133 @@ class InOurOrder(Launched):
         self.assertEqual(self.proved(), ["exb_low"])
 
 
+# What may stand in the path as rt. Each notes what it was asked, and answers nothing but its version.
+NOTES = '#!/bin/sh\necho "$*" >>"$(dirname "$0")/asked"\n'
+TOOLCHAINS = {
+    "no rt": None,
+    "rt of the same kit": f'{NOTES}[ "$1" = version ] && echo "kit one" && exit 0\nexec sleep 600\n',
+    "rt of another kit": f'{NOTES}[ "$1" = version ] && echo "kit two" && exit 0\nexec sleep 600\n',
+    "a broken rt": f'{NOTES}echo "rt: no such library" >&2\nexit 127\n',
+    "an rt that never ends": f"{NOTES}exec sleep 600\n",
+}
+SECONDS = 2
+HELPS = ("exbr: ./exbr --build proves and builds these sources (up to an hour); ./look FOLDER plays a folder by them without a proof (a minute); "
+         "both need rt\n")
+IN_A_CONTAINER = 'exbr: it runs in a container, by {top}/Containerfile: podman build -t exbr {top}; podman run --rm -v "$PWD":/work exbr WORDS\n'
+
+
+class Anywhere(unittest.TestCase):
+    """The program itself, in a small repository of which it is said to be built: what is said and done does not depend on the rt in the path."""
+
+    def setUp(self):
+        self.program = os.environ.get("EXBR_PROGRAM") or f"{TOP}/dist/exbr"
+        if not can_run() or not os.path.isfile(self.program):
+            self.skipTest("the program doesn't run here, or there is none")
+        self.it = it = Scratch()
+        self.addCleanup(it.close)
+        it.furnish()
+        os.makedirs(it.at("dist"))
+        shutil.copy2(self.program, it.at("dist/exbr"))
+        it.write("dist/record", record.make(self.program, record.sources_of(it.top), "kit one"))
+        self.printed = subprocess.run([self.program, "make", "3"], capture_output=True, text=True, check=True).stdout
+        # What the three commands do where the program is run: status, printed text as an expression, and said text.
+        self.exbr, self.install = (0, f"^{re.escape(self.printed)}$", ""), (0, r"^install: \d+ files in ", "")
+        self.test = (0, r"^testing \S+/dist/exbr: 1 tests\n(?s:.*)\n1 passed, 0 failed\n$", "")
+
+    def rows(self, exbr, test, install, toolchains=("no rt", "rt of another kit")):
+        """Each toolchain, and each command: status, printed text and said text are as wanted, in time, and no proof is begun."""
+        wanted = {"exbr make 3": exbr, "test --only dist:": test, "install PREFIX": install}
+        for name in toolchains:
+            self.it.write("kit/rt", TOOLCHAINS[name] or "")
+            os.chmod(self.it.at("kit/rt"), 0o755)
+            for words, answer in wanted.items():
+                with self.subTest(rt=name, words=words):
+                    self.row(words.split(), answer, bool(TOOLCHAINS[name]))
+        asked = self.it.read("kit/asked").splitlines() if os.path.exists(self.it.at("kit/asked")) else []
+        self.assertLessEqual(set(asked), {"version"})
+
+    def row(self, words, answer, has_rt):
+        status, printed, said = answer
+        words = [it.replace("PREFIX", self.it.at("prefix")) for it in words]
+        # A machine that does other work may take longer once.
+        for _ in range(3):
+            shutil.rmtree(self.it.at("prefix"), ignore_errors=True)
+            begun = time.monotonic()
+            found = self.it.run(*words, has_rt=has_rt)
+            spent = time.monotonic() - begun
+            if spent <= SECONDS:
+                break
+        self.assertLessEqual(spent, SECONDS)
+        self.assertEqual((found[0], found[2]), (status, said), found)
+        self.assertRegex(found[1], printed)
+
+    def refused(self, why, helps=HELPS, **more):
+        """What comes where no program is of these sources: two lines, status 1, and nothing is made."""
+        said = f"exbr: dist/exbr {why}\n{helps}"
+        self.rows((1, r"^$", said), (1, r"^0 passed, 1 failed\n$", said), (1, r"^$", said), **more)
+        self.assertFalse(os.path.exists(self.it.at("prefix")))
+
+    def test_sources_as_recorded(self):
+        self.rows(self.exbr, self.test, self.install, toolchains=TOOLCHAINS)
+        ran = subprocess.run([self.it.at("prefix/bin/exbr"), "make", "3"], capture_output=True, text=True)
+        self.assertEqual((ran.returncode, ran.stdout), (0, self.printed))
+
+    def test_a_byte_of_a_source_is_another_one(self):
+        self.it.change_byte("crates/exb_low/src/lib.rt", 0)
+        self.refused("was built of other sources than these", toolchains=TOOLCHAINS)
+
+    def test_no_dist(self):
+        shutil.rmtree(self.it.at("dist"))
+        self.refused("is missing", toolchains=TOOLCHAINS)
+
+    def test_a_byte_of_the_program_is_another_one(self):
+        self.it.change_byte("dist/exbr")
+        self.refused("is not the program of its record: its sha256 sum is another one")
+
+    def test_a_line_of_the_record_is_another_one(self):
+        before = record.read(self.it.at("dist/record"))
+        for word, why in (("program", "is not the program of its record: its sha256 sum is another one"), ("sources", "was built of other sources than these")):
+            self.it.record(word, before[word][::-1])
+            self.refused(why, toolchains=["no rt"])
+            self.it.record(word, before[word])
+        self.it.record("needs", "nothing")
+        self.rows(self.exbr, (1, f"dist/record must have the line: needs {re.escape(before['needs'])}\n(?s:.*)\n0 passed, 1 failed\n$", ""), self.install)
+
+    def test_what_a_build_left_is_taken(self):
+        self.it.change_byte("crates/exb_low/src/lib.rt", 0)
+        os.makedirs(self.it.at("crates/exbr/out"))
+        shutil.copy2(self.program, self.it.at("crates/exbr/out/exbr"))
+        self.it.write("crates/exbr/out/record", record.make(self.program, record.sources_of(self.it.top), "kit two"))
+        failed = r"^testing \S+/crates/exbr/out/exbr: 1 tests\n(?s:.*)dist/ was built of other sources(?s:.*)\n0 passed, 1 failed\n$"
+        self.rows(self.exbr, (1, failed, ""), self.install)
+
+    def test_an_older_c_library(self):
+        self.it.write("bin/getconf", "#!/bin/sh\necho glibc 2.9\n")
+        os.chmod(self.it.at("bin/getconf"), 0o755)
+        needs, top = record.read(self.it.at("dist/record"))["needs"], self.it.top
+        self.refused(f"does not start here: it needs {needs}, and this system has only glibc 2.9", IN_A_CONTAINER.format(top=top))
+        self.assertEqual(self.it.run("exbr", "--version")[1].splitlines()[1], "kit kit one")
+
+    def test_no_such_c_library(self):
+        """The repository in a root of busybox alone, where nothing can start the program."""
+        busybox, chroot, root = shutil.which("busybox"), shutil.which("chroot"), self.it.at("root")
+        if os.geteuid() or not busybox or not chroot:
+            self.skipTest("it takes root and a static busybox (Debian's package busybox-static)")
+        os.makedirs(f"{root}/bin")
+        shutil.copy2(busybox, f"{root}/bin/busybox")
+        if subprocess.run([chroot, root, "/bin/busybox", "--install", "-s", "/bin"], capture_output=True).returncode:
+            self.skipTest("this busybox isn't a static one (Debian's package busybox-static), or chroot isn't allowed")
+        self.it.write("root/dev/null", "")
+        for name in ("dist", "tools", "crates"):
+            shutil.copytree(self.it.at(name), f"{root}/it/{name}", symlinks=True)
+        for name in ("exbr", "crates.txt"):
+            shutil.copy2(self.it.at(name), f"{root}/it/{name}")
+        ran = subprocess.run([chroot, root, "/it/exbr", "make", "3"], capture_output=True, text=True, env={"PATH": "/bin"})
+        needs = record.read(self.it.at("dist/record"))["needs"]
+        why = f"does not start here: it needs {needs}, and this system has no glibc for x86-64 (/lib64/ld-linux-x86-64.so.2)"
+        self.assertEqual((ran.returncode, ran.stdout, ran.stderr), (1, "", f"exbr: dist/exbr {why}\n{IN_A_CONTAINER.format(top='/it')}"))
+
+
 class AByteIsAnother(Launched):
     def test_in_the_program(self):
         it = self.refreshed()
@@ -324,47 +457,68 @@ class AByteIsAnother(Launched):
         printed, _ = self.says([".ci/run"], 1, "dist: FAILED: dist/exbr is not the program that these sources give: they differ first at byte ")
         self.assertEqual(printed.splitlines()[-1], "7 passed, 1 failed")
         os.remove(it.at("crates/exbr/out/exbr"))
-        self.says(["exbr", "x"], 1, "its bytes are not those of its sum in dist/record", "there is no rt in the path", has_rt=False)
-        printed, said = self.says(["exbr", "x"], 0, "its bytes are not those of its sum", "note: dist/exbr is not the program")
+        self.stays("is not the program of its record: its sha256 sum is another one")
+        printed, _ = self.says(["exbr", "--build", "x"], 0, "note: dist/exbr is not the program")
         self.assertEqual(printed, "x\n")
+
+    def stays(self, why):
+        """`./exbr` says why dist/exbr isn't run, and proves nothing, whether or not there is a toolchain."""
+        before = self.it.calls()
+        for has_rt in (True, False):
+            self.assertEqual(self.it.run("exbr", "x", has_rt=has_rt), (1, "", f"exbr: dist/exbr {why}\n{HELPS}"))
+        self.assertEqual(self.it.calls(), before)
 
     def test_in_a_source(self):
         it = self.refreshed()
         it.change_byte("crates/exbr/src/main.rt", 0)
         self.says(["tools/dist", "check"], 1, "dist/ was built of other sources than these")
-        self.says(["exbr", "x"], 1, "dist/exbr was built of other sources than these", "no rt in the path", has_rt=False)
+        self.stays("was built of other sources than these")
         before = it.calls()
-        self.says(["exbr", "x"], 0, "dist/exbr was built of other sources than these", "proving and building the program, 2 crates")
-        self.assertEqual(it.run("exbr", "x", has_rt=False), (0, "x\n", ""))
+        self.says(["exbr", "--build", "x"], 0, "proving and building the program, 2 crates")
+        for has_rt in (True, False):
+            self.assertEqual(it.run("exbr", "x", has_rt=has_rt), (0, "x\n", ""))
         self.assertEqual(it.calls(), before + 1)
         printed, _ = self.says([".ci/run"], 1, "dist: FAILED: dist/ was built of other sources than these", "testing", "crates/exbr/out/exbr")
         self.assertEqual(printed.splitlines()[-1], "7 passed, 1 failed")
+        it.change_byte("crates/exbr/src/main.rt", 0)
+        self.assertEqual(it.run("tools/program"), (0, f"{it.at('dist/exbr')}\n", ""))
+        it.write("crates/exb_low/specs/New.antt", "new\n")
+        self.stays("was built of other sources than these")
 
     def test_in_a_line_of_crates(self):
         it = self.refreshed()
         it.write("crates.txt", it.read("crates.txt").replace("exb_low:\n", "exb_low: arrayvec\n"))
-        self.says(["exbr", "x"], 1, "other sources", has_rt=False)
+        self.stays("was built of other sources than these")
 
-    def test_in_each_sum(self):
+    def test_in_each_line_of_the_record(self):
         it = self.refreshed()
         program, sources = [line.split()[1] for line in it.read("dist/record").splitlines()[:2]]
         it.record("program", f"0{program[1:-1]}{'1' if program[-1] == '0' else '0'}")
         self.says(["exbr", "x"], 0, "x\n")
         os.remove(it.at("crates/exbr/out/record"))
-        self.says(["exbr", "x"], 1, "its bytes are not those of its sum in dist/record", has_rt=False)
+        self.stays("is not the program of its record: its sha256 sum is another one")
         self.says([".ci/run"], 1, "dist: FAILED: dist/record must have the line: program ")
         it.record("program", program)
         it.record("sources", sources[::-1])
-        self.says(["exbr", "x"], 1, "dist/exbr was built of other sources", has_rt=False)
+        self.stays("was built of other sources than these")
         self.says([".ci/run"], 1, "dist: FAILED: dist/ was built of other sources")
         it.record("sources", sources)
         it.record("needs", "nothing")
+        self.assertEqual(it.run("exbr", "x"), (0, "x\n", ""))
         self.says([".ci/run"], 1, "dist: FAILED: dist/record must have the line: needs x86-64 Linux")
 
     def test_no_dist(self):
         it = self.it
-        self.says(["exbr", "x"], 1, "dist/exbr isn't there", "no rt in the path", has_rt=False)
+        self.stays("is missing")
         self.says([".ci/run"], 1, "dist: FAILED: dist/ has no program with its record")
+        it.write("dist/exbr", "no program")
+        self.stays("has no record (dist/record)")
+
+    def test_may_not_be_run(self):
+        it = self.refreshed()
+        os.remove(it.at("crates/exbr/out/exbr"))
+        os.chmod(it.at("dist/exbr"), 0o644)
+        self.stays("is not executable")
 
 
 class AnotherKit(Launched):
@@ -374,21 +528,73 @@ class AnotherKit(Launched):
         os.remove(it.at("crates/exbr/out/record"))
         printed, _ = self.says([".ci/run"], 0, "built by another kit, kit one, and this is kit two", "testing", "crates/exbr/out/exbr")
         self.assertEqual(printed.splitlines()[-1], "7 passed, 0 failed")
-        self.assertEqual(it.run("exbr", "x", has_rt=False), (0, "x\n", ""))
-        self.says(["exbr", "x"], 0, "dist/exbr was built by kit one, and rt is kit two", "proving and building", "x\n")
-        self.assertEqual(it.run("exbr", "x"), (0, "x\n", ""))
+        before = it.calls()
+        for has_rt in (True, False):
+            self.assertEqual(it.run("exbr", "x", has_rt=has_rt), (0, "x\n", ""))
+        self.assertEqual(it.calls(), before)
 
-    def test_its_file_is_read(self):
+    def test_what_it_built_is_run_where_a_source_has_changed(self):
         it = self.refreshed()
-        it.write("KIT-ID", "kit three\n")
-        self.says(["exbr", "x"], 0, "dist/exbr was built by kit one, and rt is kit three")
+        it.write("kit/kit", "kit two\n")
+        it.change_byte("crates/exb_low/src/lib.rt", 0)
+        self.says(["exbr", "--build"], 0, "proving and building", "another kit")
+        it.write("kit/kit", "kit three\n")
+        self.assertEqual(it.run("exbr", "x"), (0, "x\n", ""))
+        self.assertIn("\nkit kit two\n", it.run("exbr", "--version")[1])
+
+
+class Version(Launched):
+    def git(self, *words):
+        env = {**os.environ, "GIT_CONFIG_GLOBAL": os.devnull, "GIT_CONFIG_SYSTEM": os.devnull}
+        who = ["-c", "user.name=one", "-c", "user.email=one@example"]
+        ran = subprocess.run(["git", "-C", self.it.top, *who, *words], capture_output=True, text=True, check=True, env=env)
+        return ran.stdout.strip()
+
+    def lines(self, *words):
+        status, printed, said = self.it.run(*words or ["exbr", "--version"], has_rt=False)
+        self.assertEqual((status, said), (0, ""))
+        return printed.splitlines()
+
+    def test_in_a_clone(self):
+        it = self.refreshed()
+        sources = f"sources {record.read(it.at('dist/record'))['sources']}"
+        self.assertEqual(self.lines(), ["commit unknown: this is no clone, or git isn't here", "kit kit one", sources])
+        if not shutil.which("git"):
+            self.skipTest("git isn't here")
+        self.git("init", "-q")
+        self.git("add", "-A")
+        self.git("commit", "-qm", "one")
+        commit = f"commit {self.git('rev-parse', 'HEAD')}"
+        self.assertEqual(self.lines(), [commit, "kit kit one", sources])
+        it.write("README.md", "a page")
+        it.write("crates/exb_tests/src/lib.rt", "other tests")
+        self.assertEqual(self.lines(), [commit, "kit kit one", sources])
+        it.write("crates/exb_low/proofs/New.antt", "new\n")
+        changed = self.lines()
+        self.assertEqual(changed[:2], [f"{commit} changed", "kit none: there is no program of these sources"])
+        self.assertRegex(changed[2], "^sources [0-9a-f]{64}$")
+        self.assertNotEqual(changed[2], sources)
+        os.remove(it.at("crates/exb_low/proofs/New.antt"))
+        it.write("crates/exb_low/src/lib.rt", "other\n")
+        self.assertEqual(self.lines()[0], f"{commit} changed")
+
+    def test_of_a_program(self):
+        it = self.refreshed()
+        self.assertEqual(self.lines("tools/version", it.at("dist/exbr"))[1], "kit kit one")
+        self.assertEqual(self.lines("tools/version", "/bin/echo")[1:], [f"{it} unknown: no record names the program" for it in ("kit", "sources")])
+        self.says(["tools/version", "/nowhere"], 1, "there is no /nowhere")
+        self.says(["tools/version", "--bad"], 2, "--bad is no option of it")
+
+    def test_it_is_a_word_alone(self):
+        it = self.refreshed()
+        self.assertEqual(it.run("exbr", "run", "--version"), (0, "run --version\n", ""))
 
 
 class ItIsNotProved(Launched):
     def test_nothing_is_run(self):
         it = self.refreshed()
         it.write("crates/exb_low/src/lib.rt", "wrong\n")
-        printed, _ = self.says(["exbr", "x"], 1, "the program could not be proved and built", "build.log says why")
+        printed, _ = self.says(["exbr", "--build", "x"], 1, "the program could not be proved and built", "build.log says why")
         self.assertEqual(printed, "")
         self.assertIn("exb_low NOT PROVED", it.read("crates/exbr/out/build.log"))
         self.says(["tools/dist", "refresh"], 1, "could not be proved")
@@ -400,6 +606,12 @@ class ItIsNotProved(Launched):
         printed = self.it.run(".ci/run", has_rt=False)[1]
         self.assertEqual(printed.splitlines()[-1], "0 passed, 1 failed")
 
+    def test_a_broken_toolchain_at_the_gate(self):
+        it = self.refreshed()
+        it.write("kit/rt", TOOLCHAINS["a broken rt"])
+        printed, _ = self.says([".ci/run"], 1, "gate: rt ended with status 127", "and this is none")
+        self.assertEqual(printed.splitlines()[-1], "5 passed, 1 failed")
+
 
 class Words(Launched):
     def test_bad_words(self):
@@ -408,7 +620,7 @@ class Words(Launched):
         self.says(["tools/dist"], 2, "usage:")
         self.says(["tools/dist", "check", "--program", "/nowhere"], 2, "there is no /nowhere")
         self.says([".ci/run", "--bad"], 2, "tools/gate")
-        for name in ("tools/sources", "tools/program", "tools/build", "tools/schedule.py", "tools/dist", "tools/gate"):
+        for name in ("tools/sources", "tools/program", "tools/version", "tools/build", "tools/schedule.py", "tools/dist", "tools/gate"):
             self.says([name, "--help"], 0, name)
 
     def test_crates_below(self):

@@ -231,7 +231,7 @@ def words_of(words: list[str] | None) -> argparse.Namespace:
     parser.add_argument("after", metavar="AFTER", nargs="?", help="another run of the same captures")
     parser.add_argument("--without", metavar="N,N..", help="runs BEFORE twice: without these commands, and with them; 'all' for all of them")
     parser.add_argument("--play", action="store_true", help="runs both topologies first, in folders of their own")
-    parser.add_argument("--program", metavar="FILE", help="the exbr to run (default: the file that EXBR names, or that of the repository, where it is built)")
+    parser.add_argument("--program", metavar="FILE", help="the exbr to run (default: the file that EXBR names, or the one that ./exbr runs)")
     parser.add_argument("--seed", metavar="N", help="runs it with this seed")
     parser.add_argument("--keep", metavar="FOLDER", help="keeps what was run, as FOLDER/before and FOLDER/after")
     parser.add_argument("--limit", type=int, default=200, metavar="N", help="how many lines each part of the detail has (default 200, 0: all)")

@@ -14,8 +14,7 @@ TOP = os.path.normpath(os.path.join(os.path.dirname(os.path.abspath(__file__)), 
 
 
 def program(named: str | None = None) -> str:
-    """The program: that which is named, here or by EXBR, or the one that `tools/program` says these sources give. None is built here,
-    since that takes long."""
+    """The program: the one that is named, here or by EXBR, or else the one that ./exbr runs. None is built here, since that takes long."""
     for path in [named] if named else [os.environ.get("EXBR_PROGRAM"), os.environ.get("EXBR")]:
         if path and os.path.isfile(path) and os.access(path, os.X_OK):
             return os.path.abspath(path)
@@ -24,9 +23,10 @@ def program(named: str | None = None) -> str:
     try:
         said = subprocess.run([os.path.join(TOP, "tools", "program")], capture_output=True, text=True, stdin=subprocess.DEVNULL)
     except OSError:
-        raise DeskError("there is no exbr that is built; name one by --program FILE") from None
+        raise DeskError("there is no exbr here; name one by --program FILE") from None
     if said.returncode:
-        raise DeskError("there is no exbr that is built of these sources; name one by --program FILE, or build it by ./exbr --build")
+        why = said.stderr.partition("\n")[0].removeprefix("exbr: ")
+        raise DeskError(f"{why or 'there is no program of these sources'}; name a program by --program FILE, or build one by ./exbr --build")
     return said.stdout.strip()
 
 

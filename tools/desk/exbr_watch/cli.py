@@ -22,7 +22,7 @@ BAR = 20
 def parser() -> argparse.ArgumentParser:
     """The words of the tool."""
     it = argparse.ArgumentParser("exbr-watch", description=ABOUT, epilog=END, usage="exbr-watch [options] -- WORDS OF EXBR ..")
-    it.add_argument("--program", metavar="FILE", help="the program (the file that EXBR names, else that of the repository, where it is built)")
+    it.add_argument("--program", metavar="FILE", help="the program (default: the file that EXBR names, or the one that ./exbr runs)")
     it.add_argument("--every", metavar="SECONDS", type=float, default=10.0,
                     help="where standard error is no terminal: a line after so many seconds each (10)")
     it.add_argument("words", nargs="+", metavar="WORDS", help="what exbr is given, behind --")
