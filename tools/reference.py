@@ -218,20 +218,24 @@ def modules(folder, source, prefix="", is_seen=True):
 
 
 def definitions(source):
-    """The head of a file of definitions, and each public definition with its comment: (name, how it is declared, comment)."""
+    """The head of a file of definitions, and its public ones: (name, how it is declared, comment, the lines of a record's fields)."""
     lines = source.splitlines()
     at = next((i for i, it in enumerate(lines) if not it.startswith("--")), len(lines))
     top = " ".join(it.lstrip("- ").strip() for it in lines[:at])
-    found, above = [], []
+    found, above, inside = [], [], None
     for line in lines[at:]:
         defined = DEFINED.match(line)
+        inside = inside if line.startswith("  ") else None
         if line.startswith("--"):
             above.append(line.lstrip("- ").strip())
         elif defined:
             declared = re.sub(r"\s*(where|:\s*Type \d+ where)?$", "", defined[2])
-            found.append((re.match(r"\S+", declared)[0], f"{kind_of(defined[1])}{declared}", " ".join(above).strip()))
+            found.append((re.match(r"\S+", declared)[0], f"{kind_of(defined[1])}{declared}", " ".join(above).strip(), []))
             above = []
-        elif not line.strip() or not line.startswith("--"):
+            inside = found[-1][3] if kind_of(defined[1]) in ("record ", "data ") else None
+        elif inside is not None and line.startswith("  "):
+            inside.append(line[2:])
+        else:
             above = []
     return top, found
 
@@ -262,6 +266,14 @@ def code_part(title, found):
             yield from item_part(it)
 
 
+def definition(_, declared, comment, fields):
+    """One definition as a point of a list, with the fields of a record below it."""
+    if comment or fields:
+        yield f"- `{declared}`" + (f": {comment}" if comment else "")
+    if fields:
+        yield from ("", *(f"  {it}" for it in (FENCE, *fields, FENCE)), "")
+
+
 def definitions_part(crate, folder):
     """The definitions of a crate's specs/, a heading for each file."""
     specs = os.path.join(folder, "specs")
@@ -273,8 +285,8 @@ def definitions_part(crate, folder):
         yield from (f"### [{path[:-5]}](../../crates/{crate}/specs/{path})", "")
         if top:
             yield from (top, "")
-        yield from (f"- `{declared}`: {comment}" for _, declared, comment in found if comment)
-        bare = [f"`{name}`" for name, _, comment in found if not comment]
+        yield from (line for it in found for line in definition(*it))
+        bare = [f"`{name}`" for name, _, comment, fields in found if not comment and not fields]
         yield from ("", f"Without a comment: {', '.join(bare)}." if bare else "", "")
 
 

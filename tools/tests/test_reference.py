@@ -118,7 +118,7 @@ class Small(unittest.TestCase):
     def test_definitions_with_their_comments(self):
         page = self.page("exb_a").partition("## Definitions")[2]
         self.assertIn("### [Parts](../../crates/exb_a/specs/Parts.antt)\n\nWhat parts are.\n\n- `part : ℕ → ℕ`: a part\n", page)
-        self.assertIn("- `record Both (a b : ℕ)`: Both.\n", page)
+        self.assertIn("- `record Both (a b : ℕ)`: Both.\n\n  ```\n  pub same : a ≡ b\n  ```\n", page)
         self.assertIn("Without a comment: `bare`.", page)
 
     def test_check_sees_what_is_stale_missing_and_left_over(self):
