@@ -296,7 +296,7 @@ def page(top, crate, needs, crates):
     root = next(it for it in (f"{folder}/src/lib.rt", f"{folder}/src/main.rt") if os.path.isfile(it))
     source = text(root)
     parts = [Module(crate, re.sub(r"^//!.*\n", "", source, flags=re.M), None, root), *modules(f"{folder}/src", source)]
-    is_law = re.compile(r"(^|::)laws(::|$)").search
+    is_law = re.compile(r"(^|::)(?:\w+_)?laws(::|$)").search
     yield from (f"# {crate}", "", "*Made by `tools/reference.py` from the sources. Don't edit it.*", "")
     yield from (head(source), "")
     stands = [f"[{it}]({it}.md)" if it in crates else f"`{it}`" for it in needs]
