@@ -26,7 +26,7 @@ PHRASES = [
     (r"\bas (?:they|it) must\b", "what they have to be"),
     (r"\b(?:is|are) none\b", "isn't a .., or there is no .."),
     (r"\b(?:that|those) of\b", "the noun again"),
-    (r"\bof (?:which|those)\b", "two sentences"),
+    (r"(?<!each )\bof (?:which|those)\b", "two sentences"),
     (r"\bwhatever \w+ (?:it|they) (?:is|are)\b", "any .."),
     (r"\bNone says nothing\b", "what None means"),
     (r"(?:^|(?<=[.!?] ))So\b", "the reason"),
@@ -104,7 +104,7 @@ def paragraphs(page):
 
 def sentences(words):
     """The sentences of a paragraph. A point within a name or a number ends none."""
-    found = re.split(r"(?<=[.!?])[)\"']*\s+(?=[A-Z`(\"'*\[]|NAME)", words)
+    found = re.split(r"(?<=[.!?])[)\"']*\s+(?=[A-Z0-9`(\"'*\[]|NAME|exb)", words)
     return [it for it in found if it.strip()]
 
 
