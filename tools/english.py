@@ -12,6 +12,7 @@ for each fault, and ends with status 1 if there is one.
 import argparse
 import os
 import re
+import signal
 import sys
 
 TOP = os.path.dirname(os.path.dirname(os.path.abspath(__file__)))
@@ -156,6 +157,8 @@ def report(top, names):
 
 
 def main():
+    # A reader that ends early, as head does, ends this too.
+    signal.signal(signal.SIGPIPE, signal.SIG_DFL)
     parser = argparse.ArgumentParser(description=__doc__, formatter_class=argparse.RawDescriptionHelpFormatter)
     parser.add_argument("page", nargs="*", help="pages, by their paths below the top")
     parser.add_argument("--table", action="store_true", help="numbers a page, and no faults")

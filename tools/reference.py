@@ -11,6 +11,7 @@ their comments. It ends with status 1 if --check finds a page that is stale, mis
 import argparse
 import os
 import re
+import signal
 import sys
 
 TOP = os.path.dirname(os.path.dirname(os.path.abspath(__file__)))
@@ -349,6 +350,8 @@ def write(made, folder):
 
 
 def main():
+    # A reader that ends early, as head does, ends this too.
+    signal.signal(signal.SIGPIPE, signal.SIG_DFL)
     parser = argparse.ArgumentParser(description=__doc__, formatter_class=argparse.RawDescriptionHelpFormatter)
     parser.add_argument("--check", action="store_true", help="change nothing, and name each page that is stale")
     parser.add_argument("--print", metavar="CRATE", help="print the page of one crate")
