@@ -4,8 +4,8 @@
     tools/pages.py
     tools/pages.py --depths    prints ARCHITECTURE's picture of how deep each crate stands, as crates.txt has it
 
-links that lead nowhere, names in PROMISES, DEFINITIONS, ARCHITECTURE and SETTLING that no source has, laws and clauses of `run` that
-PROMISES doesn't name, crates that ARCHITECTURE doesn't have under their heading of crates.txt, a picture of depths that crates.txt doesn't give, a README that is longer
+links that lead nowhere, names in what-is-proved, ARCHITECTURE and glossary that no source has, laws and clauses of `run` that
+the reference doesn't have, crates that ARCHITECTURE doesn't have under their heading of crates.txt, a picture of depths that crates.txt doesn't give, a README that is longer
 or wider than it may be, and paths of a machine. It prints a line each, and ends with status 1 where there is one. It knows names,
 and not what is said of them.
 """
@@ -22,6 +22,8 @@ LAW = re.compile(r'^pub fn (\w+)', re.M)
 NAME = re.compile(r"[A-Za-z_]\w*")
 MACHINE = re.compile(r'(?<![\w.~])/(?:work|root|home|opt|tmp|Users)/')
 WIDE, LONG = 120, 120
+# The pages of which each name between backquotes is one of the sources.
+NAMING = ['docs/what-is-proved.md', 'docs/glossary.md', 'docs/ARCHITECTURE.md']
 
 
 def text(path):
@@ -42,12 +44,14 @@ def anchor(heading):
     return re.sub(r'[^\w\- ]', '', heading.strip().lower()).replace(' ', '-')
 
 
+@functools.cache
 def anchors(page):
     return {anchor(it) for it in re.findall(r'^#+ (.*)$', text(page), re.M)}
 
 
 def links(page):
-    for link in LINK.findall(text(page)):
+    said = re.sub(r'^ *```.*?^ *```|(?<!\[)`[^`\n]*`(?!\])', '', text(page), flags=re.S | re.M)
+    for link in LINK.findall(said):
         if '://' in link:
             continue
         file, _, part = link.partition('#')
@@ -76,26 +80,23 @@ def spoken(part):
 
 
 def promises(crates):
-    """Each paragraph that begins with crates in bold speaks of them and of what it names beside them."""
-    page = text('docs/PROMISES.md') + '\n' + text('docs/promises-of-parts.md')
-    everything = set().union(*map(sources, crates))
-    for part in re.split(r'\n(?=\*\*`|#)', page):
-        mine = [it for it in re.findall(r'`(\w+)`', part) if it in crates]
-        words = {'src', 'specs', 'out'}.union(*map(sources, mine)) if part.startswith('**') else everything | {'src', 'specs', 'out'}
-        for name in spoken(part):
-            if name not in words:
-                yield f'docs/PROMISES.md: {", ".join(dict.fromkeys(mine))}: no {name} there'
-    named = set(re.findall(r'`(\w+)`', page))
+    """Each law, and each clause of `run`, stands in the reference page of its crate; and what is-proved names is there."""
     for crate in crates:
-        for path in (it for it in files(f'crates/{crate}/src', '.rt') if re.search(r'/laws(?:\.rt|/)', it)):
-            yield from (f'docs/PROMISES.md: law {law} of {crate} is missing' for law in LAW.findall(text(path)) if law not in named)
+        page = text(f'docs/reference/{crate}.md') if os.path.exists(os.path.join(TOP, f'docs/reference/{crate}.md')) else ''
+        headings = set(re.findall(r'^### `(?:\w+::)?(\w+)`$', page, re.M))
+        for path in (it for it in files(f'crates/{crate}/src', '.rt') if re.search(r'laws(?:\.rt|/)', it)):
+            yield from (f'docs/reference/{crate}.md: law {law} is missing' for law in LAW.findall(text(path)) if law not in headings)
     run = text('crates/exb_run/src/top.rt').split('\npub fn run<')[1]
-    yield from (f'docs/PROMISES.md: clause {it} of run is missing' for it in re.findall(r'^    ensures (\w+) \{', run, re.M) if it not in named)
+    page = text('docs/reference/exb_run.md').partition('\n### `run`\n')[2].partition('\n### ')[0]
+    clauses = re.findall(r'^    ensures (\w+) \{', run, re.M)
+    yield from (f'docs/reference/exb_run.md: clause {it} of run is missing' for it in clauses if f'ensures {it} {{' not in page)
+    if not clauses:
+        yield 'crates/exb_run/src/top.rt: run has no clause'
 
 
 def definitions(crates):
     everything = set().union(*map(sources, crates)) | {'specs', 'src', 'proofs', 'antt', 'must', 'fail', 'MODULE', 'FUNCTION'}
-    for page in 'docs/DEFINITIONS.md', 'docs/definitions-of-the-tree.md', 'docs/glossary.md', 'docs/ARCHITECTURE.md', 'docs/SETTLING.md':
+    for page in NAMING:
         yield from (f'{page}: no {it} anywhere' for it in spoken(text(page)) if it not in everything)
 
 

@@ -1,4 +1,4 @@
-"""The pages: tools/pages.py, the man page, and the commands that pages show with what they print."""
+"""The pages: tools/pages.py, the made reference, their English, the man page, and the commands that pages show with what they print."""
 import os
 import re
 import shutil
@@ -19,8 +19,9 @@ def text(path):
         return it.read()
 
 
-def agree():
-    ran = subprocess.run([sys.executable, "tools/pages.py"], cwd=TOP, capture_output=True, text=True)
+def agree(*words):
+    """One of the tools that hold pages to their rules finds nothing."""
+    ran = subprocess.run([sys.executable, *words], cwd=TOP, capture_output=True, text=True)
     assert ran.returncode == 0, (ran.stdout + ran.stderr)[-2000:]
 
 
@@ -95,7 +96,9 @@ def shown(program, page):
 
 
 def pages(program):
-    found = [Test("pages", "tools/pages.py", agree), Test("pages", "docs/exbr.1", man_page),
+    found = [Test("pages", "tools/pages.py", lambda: agree("tools/pages.py")), Test("pages", "docs/exbr.1", man_page),
+             Test("pages", "docs/reference is as the sources have it", lambda: agree("tools/reference.py", "--check")),
+             Test("pages", "English of the pages", lambda: agree("tools/english.py")),
              Test("pages", "statuses of docs/exbr.1", statuses)]
     if program:
         of_examples = [f"examples/{it}/README.md" for it in sorted(os.listdir(f"{TOP}/examples"))]
