@@ -127,11 +127,12 @@ pub fn read_file<S: Shelf>(
     Err(ReadFault::Large)
 }
 
-// Appends a front of a text, at least one byte where there is one and at most a piece.
+// Appends a front of a text, at least one byte where there is one and at most two pieces: a piece of a
+// capture is full once its last record passed the size of a piece, and is to be written by one call.
 fn write_on<S: Shelf>(shelf: &mut S, id: u32, text: &[u8]) -> Result<usize, ShelfFault>
     requires { IsWriting (S.ids shelf.old id) }
     ensures bound { IfOk result (λ n. n ≤ length text.now) }
-    ensures piece { IfOk result (λ n. n ≤ 65_536) }
+    ensures piece { IfOk result (λ n. n ≤ 131_072) }
     ensures some { 0 < length text.now → IfOk result (λ n. 0 < n) }
     ensures appended { S.tells → IfOk result (λ n. Puts (S.file shelf.old) (S.file shelf.new) (S.ids shelf.old id).name
         (bytes_of (S.file shelf.old (S.ids shelf.old id).name) ++ take n text.now)) }
@@ -141,10 +142,10 @@ fn write_on<S: Shelf>(shelf: &mut S, id: u32, text: &[u8]) -> Result<usize, Shel
     ensures faults { NoFewer (S.faults shelf.old) (S.faults shelf.new) }
     ensures failed { IsErrOf result ShelfFault.Failed → Rose (S.faults shelf.old).writes (S.faults shelf.new).writes }
 {
-    shelf.write(id, &text[..text.len().min(PIECE)])
+    shelf.write(id, &text[..text.len().min(2 * PIECE)])
 }
 
-/// Appends a whole text to a file that was created, in pieces of at most [`PIECE`] bytes. Where it
+/// Appends a whole text to a file that was created, at most twice [`PIECE`] bytes a call. Where it
 /// fails, the file has a front of the text more.
 pub fn write_text<S: Shelf>(shelf: &mut S, id: u32, text: &[u8]) -> Result<(), ShelfFault>
     requires { IsWriting (S.ids shelf.old id) }
