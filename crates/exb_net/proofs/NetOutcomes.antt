@@ -293,6 +293,7 @@ module _ (tells : Type 0) (name : List ℕ) (counters : Bool) (file : Files) (ms
     count = 0;
     made = read_then_turn IsReading (net_names counters ms) 0 a c c (λ i r. r.reads) all_reading (λ j given. refl) (turn_none (net_names counters ms) c);
     all = λ is. absurd (late is);
+    unread = λ failed. inl refl;
   }
 
   -- it ended before files were made
