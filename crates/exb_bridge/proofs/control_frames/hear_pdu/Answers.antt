@@ -12,4 +12,4 @@ returns g c =
     let f = c.args.frame.now in
     on_ok_weaker c.hear_request.result (λ done.
     request_on s.tree (limits_in s) c.args.number (pdu_in f) c.in-Ok.pdu f (take (length f - 18) (drop 18 f)) s (whole g.rest c.args.bridge.now) (whole g.rest c.hear_request.new.bridge) c.args.room.now.post.log c.hear_request.new.room.post.log
-    (sym c.read.ensures ∙ c.in-Ok.is) c.if-pdu-ne2.false c.if-pdu.false (all_behind f) done) c.hear_request.ensures
+    (sym c.read.ensures ∙ c.in-Ok.is) c.if-pdu-ne-ECP_SUBTYPE.false c.if-pdu.false (all_behind f) done) c.hear_request.ensures
