@@ -14,17 +14,21 @@ pub struct ArrivalQueue {
     pub waiting: VecDeque<usize>,
 }
 
-/// How many of the queues are of a lower port; their ports rise.
+/// How many of the queues are of a lower port. Their ports rise, so the place is found by halves.
 fn place_of(queues: &[ArrivalQueue], port: PortId) -> usize
     ensures { result ≤ length queues.now }
 {
-    let mut place = 0;
-    for queue in queues {
-        if queue.port.number() < port.number() && place < queues.len() {
-            place += 1;
+    let mut low = 0;
+    let mut high = queues.len();
+    'halves: while low < high {
+        let middle = low + (high - low) / 2;
+        if queues[middle].port.number() < port.number() {
+            low = middle + 1;
+        } else {
+            high = middle;
         }
     }
-    place
+    low
 }
 
 /// Puts an arrival behind those of its port.
@@ -68,9 +72,12 @@ pub(crate) fn next_in(queues: &[ArrivalQueue], queue: usize) -> Option<usize> {
     }
 }
 
-/// It came.
-pub(crate) fn take_from(queues: &mut [ArrivalQueue], queue: usize) {
+/// It came. A queue in which no arrival is left goes.
+pub(crate) fn take_from(queues: &mut Vec<ArrivalQueue>, queue: usize) {
     if queue < queues.len() {
         let _ = queues[queue].waiting.pop_front();
+        if queues[queue].waiting.is_empty() {
+            let _ = queues.remove(queue);
+        }
     }
 }

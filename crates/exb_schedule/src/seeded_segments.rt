@@ -112,7 +112,7 @@ fn come_next(
         return Ok(());
     }
     come(world, rest, arrivals, at)?;
-    take_from(queues.as_mut_slice(), queue);
+    take_from(queues, queue);
     Ok(())
 }
 

@@ -1,5 +1,5 @@
 //! What may be drawn next, and the draw.
-ghost use Rattle.std.specs.Prelude.{◌≡◌, true};
+ghost use Rattle.std.specs.Prelude.{◌≡◌, ◌≤◌, ◌<◌, true, IfSome};
 ghost use Rattle.exb_model.specs.Tree.{is_extender};
 ghost use Rattle.exb_world.specs.WorldContracts.{tree_of};
 
@@ -45,6 +45,17 @@ impl StepChoices {
         }
         self.count = self.count.saturating_add(1);
     }
+
+    /// Offers the next arrival of each queue, in order.
+    fn offer_arrivals(&mut self, queues: usize) {
+        let queue = self.wanted.wrapping_sub(self.count);
+        if queue < queues as u64 {
+            self.drawn = StepChoice::Arrival {
+                queue: queue as usize,
+            };
+        }
+        self.count = self.count.saturating_add(queues as u64);
+    }
 }
 
 /// What is left of the segment.
@@ -60,11 +71,7 @@ fn offer_given(
     if rest.taken < commands {
         offers.offer(StepChoice::Command);
     }
-    for queue in 0..queues.len() {
-        if next_in(queues, queue).is_some() {
-            offers.offer(StepChoice::Arrival { queue });
-        }
-    }
+    offers.offer_arrivals(queues.len());
 }
 
 /// The words of a direction: the first data word, and each control word that is free.
@@ -90,6 +97,30 @@ fn offer_link(offers: &mut StepChoices, world: &World, link: u8) {
     }
 }
 
+/// The first link, by number from one on, on which a frame is, up or down.
+#[inline(always)]
+fn next_link(world: &World, from: u8) -> Option<u8>
+    requires { from ≤ 65 }
+    ensures { IfSome result (λ n. (from ≤ n) × (n < 65)) }
+{
+    let up = world.next_link(Way::Up, from);
+    let down = world.next_link(Way::Down, from);
+    match (up, down) {
+        (Some(up), Some(down)) => Some(up.min(down)),
+        (Some(link), None) | (None, Some(link)) => Some(link),
+        (None, None) => None,
+    }
+}
+
+/// The frames of all links, by number. Links without a frame aren't looked at.
+fn offer_links(offers: &mut StepChoices, world: &World) {
+    let mut from = 1u8;
+    'links: while let Some(link) = next_link(world, from) {
+        offer_link(offers, world, link);
+        from = link + 1;
+    }
+}
+
 /// All that may be drawn: what is left of the segment, the words of all links, and last a beat.
 fn offer_all(
     offers: &mut StepChoices,
@@ -99,9 +130,7 @@ fn offer_all(
     queues: &[ArrivalQueue],
 ) {
     offer_given(offers, rest, commands, queues);
-    for link in 1..65u8 {
-        offer_link(offers, world, link);
-    }
+    offer_links(offers, world);
     offers.offer(StepChoice::Beat);
 }
 

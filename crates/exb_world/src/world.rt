@@ -1,5 +1,5 @@
 //! The network as one value, and its calls.
-ghost use Rattle.std.specs.Prelude.{◌≡◌, ◌↔◌, ◌<◌, ◌≤◌, ℕ, [], true, false, All, IfNone, IfOk, IfSome, IsTrue, OnErr, OnOk, Some, length, filter, slice_get};
+ghost use Rattle.std.specs.Prelude.{◌≡◌, ◌≢◌, ◌↔◌, ◌<◌, ◌≤◌, ℕ, [], true, false, All, IfNone, IfOk, IfSome, IsTrue, OnErr, OnOk, Some, length, filter, slice_get};
 ghost use Rattle.exb_model.specs.Setup.{IsValid, limits_of, shape_of, start_of};
 ghost use Rattle.exb_model.specs.Tree.{is_extender};
 ghost use Rattle.exb_link.specs.LinkFrames.{is_control, is_data, leading};
@@ -312,6 +312,19 @@ impl World {
     {
         self.site.has_low_number(link);
         link_of(&self.core, link, way).free_at(at)
+    }
+
+    /// The first extender, by number from one on, on whose link of a way a frame is.
+    #[inline(always)]
+    pub fn next_link(&self, way: Way, from: u8) -> Option<u8>
+        requires { from ≤ 65 }
+        ensures found { IfSome result (λ n. (from ≤ n) × (n < 65) × (words_on n (way_of way) (world_of self.now) ≢ [])) }
+        ensures none { IfNone result ((n : ℕ) → from ≤ n → words_on n (way_of way) (world_of self.now) ≡ []) }
+    {
+        match way {
+            Way::Up => self.core.up.next_busy(from),
+            Way::Down => self.core.bridge.down.next_busy(from),
+        }
     }
 
     /// The first direction of a way, from a place on in the order in which a round goes through them, that has a word.
