@@ -1,18 +1,18 @@
 //! Calls one library call many times, so that `bench/libraries.py` and `bench/learned.py` can tell the time of one.
 //!
-//!     take PORTS TIMES      an extender takes a frame of a group of PORTS ports
-//!     rows 0 TIMES          the rows of a set of all 4,033 ports below one bridge port, 64 extenders
-//!     member VLANS TIMES    a port becomes a member of a VLAN and leaves it, among VLANS VLANs that
-//!                           have a set each
-//!     port VLANS TIMES      a port that is in all these VLANs goes down and up again
-//!     spaces COUNT 1        number spaces of 4,094 channels and 12,288 groups for COUNT bridge ports
-//!     spread COUNT TIMES    COUNT addresses are seen; then, TIMES times, one is seen and another
-//!                           looked up
-//!     alike COUNT TIMES     the same, with addresses that agree in their last two bytes
-//!     tick COUNT TIMES      COUNT addresses are seen; then TIMES seconds go by and none dies; prints
-//!                           the nanoseconds of all these ticks
-//!     forget COUNT TIMES    COUNT addresses are seen; then, TIMES times, ten more at a port of their
-//!                           own, which is forgotten; prints the nanoseconds of forgetting
+//!     take PORTS TIMES    an extender takes a frame of a group of PORTS ports
+//!     rows 0 TIMES        the rows of a set of all 4,033 ports below one bridge port, 64 extenders
+//!     member VLANS TIMES  a port becomes a member of a VLAN and leaves it, among VLANS VLANs that
+//!                         have a set each
+//!     port VLANS TIMES    a port that is in all these VLANs goes down and up again
+//!     spaces COUNT 1      number spaces of 4,094 channels and 12,288 groups for COUNT bridge ports
+//!     spread COUNT TIMES  COUNT addresses are seen; then, TIMES times, one is seen and another
+//!                         looked up
+//!     alike COUNT TIMES   the same, with addresses that agree in their last two bytes
+//!     tick COUNT TIMES    COUNT addresses are seen; then TIMES seconds go by and none dies; prints
+//!                         the nanoseconds of all these ticks
+//!     forget COUNT TIMES  COUNT addresses are seen; then, TIMES times, ten more at a port of their
+//!                         own, which is forgotten; prints the nanoseconds of forgetting
 #![tactic(auto)]
 
 mod addresses;
