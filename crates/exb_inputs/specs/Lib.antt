@@ -1,6 +1,7 @@
 pub mod Inputs
 pub mod CaptureChecks
 pub mod Answers
+pub mod PrintedOnce
 pub mod FaultPhases
 pub mod FaultCounts
 pub mod ShelfEffects

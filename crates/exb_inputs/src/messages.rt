@@ -3,6 +3,7 @@ ghost use Rattle.std.specs.Prelude.{◌≡◌, ◌≢◌, ◌≤◌, ◌++◌, I
 ghost use Rattle.exb_shelf.specs.FaultCounts.{after_print};
 ghost use Rattle.exb_shelf.specs.Files.{AppendsFront, BreaksOff};
 ghost use Rattle.exb_shelf.specs.Shelf.{Rose};
+ghost use Rattle.exb_inputs.specs.PrintedOnce.{PrintsLine};
 ghost use Rattle.exb_inputs.specs.Answers.{broken_text, changed_text, flaw_name, flaw_text, key_fault_text, part_name, topology_text, bad_line, capture_line, large_line, member_capture_line, member_line, net_line, output_line, fault_line, line_of, fault_status, status_of};
 
 use crate::fault::{AuditInput, Fault, InputFlaw};
@@ -296,6 +297,8 @@ pub fn report<O: Sink>(alloc: Global, out: &mut O, outcome: &Result<String, Faul
     ensures front { O.tells → AppendsFront (O.text out.old) (O.text out.new) (line_of outcome.now) }
     ensures short { O.tells → result ≢ status_of outcome.now → BreaksOff (O.text out.old) (O.text out.new) (line_of outcome.now) }
     ensures counts { result ≢ 7 → O.faults out.new ≡ O.faults out.old }
+    // The sink is told the line once: where it fails or wants memory nothing more is printed.
+    ensures once { PrintsLine O.tells (status_of outcome.now) result (O.faults out.old) (O.faults out.new) (O.text out.old) (O.text out.new) (line_of outcome.now) }
     ensures faults { O.faults out.old ≤ O.faults out.new }
 {
     match print_outcome(alloc, out, outcome) {

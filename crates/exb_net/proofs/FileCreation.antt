@@ -20,6 +20,7 @@ use Rattle.exb_outputs.specs.CreationOrder.{MadeInOrder, MakesInOrder}
 use Rattle.exb_outputs.specs.Manifests.{Listed, kind_at, output_count, output_name}
 use Rattle.exb_outputs.specs.ShelfEffects.{IsOfWriting, OnlyMakes, WritesListed}
 use Rattle.exb_outputs.specs.WrittenTexts.{AreCut, HasTexts, first_text, pieces_of}
+use Rattle.exb_outputs.proofs.CreationOrder.{writing_not_read}
 use Rattle.exb_outputs.proofs.KindPlaces.{kind_is}
 use Rattle.exb_outputs.proofs.OutputPrefixes.{both_parts}
 use Rattle.exb_shelf.specs.Files.{Files}
@@ -159,6 +160,7 @@ module _ (counters : Bool) (ms : List NetMember) (tells : Type 0) (k : ℕ) (old
     count = length (net_names counters (take k ms));
     made = subst (λ (xs : List NetMember). MadeInTurn (net_names counters xs) (length (net_names counters (take k ms))) given ids) whole s.made;
     all = λ late. ap (λ (xs : List NetMember). length (net_names counters xs)) whole;
+    unread = λ failed. inr (ap (λ (xs : List NetMember). length (net_names counters xs)) whole);
   }
 
 -- ---- the manifests of bridges with different names
@@ -294,13 +296,14 @@ module _ (law : BridgesWriteApart) (counters : Bool) (ms : List NetMember) (name
         }
 
     -- ---- where the next one fails
-    pub makes_some : {X : Type 0} (x : Fault) (n : ℕ) → (IsNetLate {X = X} (Err x) → ⊥) → MadeInOrder (manifest_with counters m) n ids ids2 → MakesNet {X = X} counters ms (Err x) given ids2
-    makes_some x n late made =
+    pub makes_some : {X : Type 0} (x : Fault) (n : ℕ) → IsOfWriting x → MadeInOrder (manifest_with counters m) n ids ids2 → MakesNet {X = X} counters ms (Err x) given ids2
+    makes_some {X = X} x n writing made =
         record {
           count = length (net_names counters (take k ms)) + n;
           made = subst (λ (xs : List (List ℕ)). MadeInTurn xs (length (net_names counters (take k ms)) + n) given ids2) (sym all_names)
               (turn_front (net_names counters (take (suc k) ms)) (net_names counters (drop (suc k) ms)) (length (net_names counters (take k ms)) + n) given ids2 (turn_more n made));
-          all = λ is. absurd (late is);
+          all = λ is. absurd (not_late X x writing is);
+          unread = λ failed. absurd (writing_not_read X x writing failed);
         }
       where
         all_names : net_names counters ms ≡ net_names counters (take (suc k) ms) ++ net_names counters (drop (suc k) ms)

@@ -293,6 +293,7 @@ module _ (tells : Type 0) (name : List ℕ) (counters : Bool) (file : Files) (ms
     count = 0;
     made = read_then_turn IsReading (net_names counters ms) 0 a c c (λ i r. r.reads) all_reading (λ j given. refl) (turn_none (net_names counters ms) c);
     all = λ is. absurd (late is);
+    unread = λ failed. inl refl;
   }
 
   -- it ended before files were made
@@ -360,6 +361,7 @@ module _ (tells : Type 0) (name : List ℕ) (counters : Bool) (file : Files) (ms
         count = made.count;
         made = read_then_turn IsReading (net_names counters ms) made.count a c d (λ i r. r.reads) all_reading (λ j given. opens.kept j given) made.made;
         all = made.all;
+        unread = made.unread;
       };
       behind = played_behind;
       first = λ t fault faulty. absurd (law.good name file ms ws fault (holds t) (good t) faulty);

@@ -13,7 +13,7 @@ use Rattle.exb_net_file.specs.declared.net_file.NetFile.{NetFile}
 use Rattle.exb_inputs.specs.declared.fault.InputFlaw.{InputFlaw}
 use Rattle.exb_net.specs.Answers.{IsNetReady}
 use Rattle.exb_inputs.specs.declared.fault.Fault.{Fault}
-use Rattle.exb_inputs.specs.declared.fault.Fault.TheVariants.{MemberCapture, MemberChanged}
+use Rattle.exb_inputs.specs.declared.fault.Fault.TheVariants.{MemberCapture, MemberChanged, Read}
 use Rattle.exb_inputs.specs.Inputs.{is_named, name_of}
 use Rattle.exb_outputs.specs.Manifests.{Listed, output_count, output_name}
 use Rattle.exb_shelf.specs.Files.{Files}
@@ -80,11 +80,13 @@ IsNetLate (Ok x) = ⊤
 IsNetLate (Err (MemberChanged name p at)) = ⊤
 IsNetLate (Err _) = ⊥
 
--- the first files of a net were made, and all of them where all went well or a capture turned out to be another one
+-- The first files of a net were made, and all of them where all went well or a capture turned out to be another one. Where the shelf failed
+-- to read that was before the first one was made, or behind the last.
 pub record MakesNet {X : Type 0} (counters : Bool) (ms : List NetMember) (result : Result X Fault) (given ids : ℕ → Id) : Type 0 where
   pub count : ℕ
   pub made : MadeInTurn (net_names counters ms) count given ids
   pub all : IsNetLate result → count ≡ length (net_names counters ms)
+  pub unread : IsErrOf result Read → (count ≡ 0) ⊎ (count ≡ length (net_names counters ms))
 
 -- the capture of each port of each bridge that is named was opened before this id was given
 abbrev pub EachOfNetBefore : List NetMember → ℕ → (ℕ → Id) → (ℕ → Id) → Type 0

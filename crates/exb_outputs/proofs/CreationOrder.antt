@@ -133,7 +133,7 @@ read_then_made P manifest k a b c reading opens kept m = record {
 
 -- ---- how many
 pub makes_all : {X : Type 0} (manifest : Listed) (k : ℕ) (result : Result X Fault) (a b : ℕ → Id) → MadeInOrder manifest k a b → k ≡ output_count manifest → MakesInOrder manifest result a b
-makes_all manifest k result a b m full = record { count = k; made = m; all = λ late. full }
+makes_all manifest k result a b m full = record { count = k; made = m; all = λ late. full; unread = λ failed. inr full }
 
 writing_early : (X : Type 0) (x : Fault) → IsOfWriting x → IsLate {X = X} (Err x) → ⊥
 writing_early X Usage is late = late
@@ -172,27 +172,36 @@ capture_early X Read is late = late
 capture_early X Write is late = late
 capture_early X Memory is late = late
 
+-- the fault of a result of another type
+fault_as : {X Y : Type 0} (x y : Fault) → ◌≡◌ {A = Result X Fault} (Err x) (Err y) → ◌≡◌ {A = Result Y Fault} (Err x) (Err y)
+fault_as {X = X} {Y = Y} x y e = let same : x ≡ y = cc in ap (λ (z : Fault). Err z) same
+
+-- while files are made nothing is read
+pub writing_not_read : (X : Type 0) (x : Fault) → IsOfWriting x → ◌≡◌ {A = Result X Fault} (Err x) (Err Read) → ⊥
+writing_not_read X x (inl is) e = (let z : ⊥ = cc in z)
+writing_not_read X x (inr is) e = (let z : ⊥ = cc in z)
+
 pub makes_some : {X : Type 0} (manifest : Listed) (k : ℕ) (x : Fault) (a b c : ℕ → Id) → MadeInOrder manifest k a b → ((j : ℕ) → (a j).given ≡ true → b j ≡ a j) → k < output_count manifest
     → ((j : ℕ) → c j ≡ b j) ⊎ ((id : ℕ) × MakesFile id (output_name manifest k) b c) → IsOfWriting x → MakesInOrder {X = X} manifest (Err x) a c
-makes_some {X = X} manifest k x a b c m kept room (inl same) is = record { count = k; made = made_same manifest k a b c m same; all = λ late. absurd (writing_early X x is late) }
-makes_some {X = X} manifest k x a b c m kept room (inr (id, made)) is = record { count = k + 1; made = made_more manifest k a b c m kept room id made; all = λ late. absurd (writing_early X x is late) }
+makes_some {X = X} manifest k x a b c m kept room (inl same) is = record { count = k; made = made_same manifest k a b c m same; all = λ late. absurd (writing_early X x is late); unread = λ failed. absurd (writing_not_read X x is failed) }
+makes_some {X = X} manifest k x a b c m kept room (inr (id, made)) is = record { count = k + 1; made = made_more manifest k a b c m kept room id made; all = λ late. absurd (writing_early X x is late); unread = λ failed. absurd (writing_not_read X x is failed) }
 
 -- none, where only captures were opened
 pub makes_none : {X : Type 0} (P : Id → Type 0) (manifest : Listed) (x : Fault) (a b : ℕ → Id) → ((i : Id) → P i → i.reads ≡ true) → Opens P a b → IsOfCapture x → MakesInOrder {X = X} manifest (Err x) a b
-makes_none {X = X} P manifest x a b reading opens is = record { count = 0; made = made_then_read P manifest 0 a a b reading (made_none manifest a) opens; all = λ late. absurd (capture_early X x is late) }
+makes_none {X = X} P manifest x a b reading opens is = record { count = 0; made = made_then_read P manifest 0 a a b reading (made_none manifest a) opens; all = λ late. absurd (capture_early X x is late); unread = λ failed. inl refl }
 
 -- what was made, where captures are opened behind it, and whatever ends it then
 pub makes_then_read : {X Y : Type 0} (P : Id → Type 0) (manifest : Listed) (first : X) (result : Result Y Fault) (a b c : ℕ → Id) → ((i : Id) → P i → i.reads ≡ true) → MakesInOrder manifest (Ok first) a b → Opens P b c → MakesInOrder manifest result a c
-makes_then_read P manifest first result a b c reading m opens = record { count = m.count; made = made_then_read P manifest m.count a b c reading m.made opens; all = λ late. m.all tt }
+makes_then_read P manifest first result a b c reading m opens = record { count = m.count; made = made_then_read P manifest m.count a b c reading m.made opens; all = λ late. m.all tt; unread = λ failed. inr (m.all tt) }
 
 -- and where they are opened before it
 pub read_then_makes : {X : Type 0} (P : Id → Type 0) (manifest : Listed) (result : Result X Fault) (a b c : ℕ → Id) → ((i : Id) → P i → i.reads ≡ true) → Opens P a b → ((j : ℕ) → (b j).given ≡ true → c j ≡ b j) → MakesInOrder manifest result b c
     → MakesInOrder manifest result a c
-read_then_makes P manifest result a b c reading opens kept m = record { count = m.count; made = read_then_made P manifest m.count a b c reading opens kept m.made; all = m.all }
+read_then_makes P manifest result a b c reading opens kept m = record { count = m.count; made = read_then_made P manifest m.count a b c reading opens kept m.made; all = m.all; unread = m.unread }
 
 -- the fault of another call
 pub makes_as : {X Y : Type 0} (manifest : Listed) (x : Fault) (a b : ℕ → Id) → MakesInOrder {X = X} manifest (Err x) a b → MakesInOrder {X = Y} manifest (Err x) a b
-makes_as {X = X} {Y = Y} manifest x a b m = record { count = m.count; made = m.made; all = late_as x m.all }
+makes_as {X = X} {Y = Y} manifest x a b m = record { count = m.count; made = m.made; all = late_as x m.all; unread = λ failed. m.unread (fault_as {X = Y} {Y = X} x Read failed) }
   where
     late_as : (y : Fault) → (IsLate {X = X} (Err y) → m.count ≡ output_count manifest) → IsLate {X = Y} (Err y) → m.count ≡ output_count manifest
     late_as Usage all late = absurd late

@@ -1,7 +1,7 @@
 -- In which order outputs are made.
-use Rattle.std.specs.Prelude.{⊤, ◌≡◌, ◌≢◌, ◌<◌, ◌≤◌, ℕ, true, false, List, Result, Ok, Err}
+use Rattle.std.specs.Prelude.{⊤, ◌≡◌, ◌≢◌, ◌<◌, ◌≤◌, ◌⊎◌, ℕ, true, false, List, Result, Ok, Err, IsErrOf}
 use Rattle.exb_inputs.specs.declared.fault.Fault.{Fault}
-use Rattle.exb_inputs.specs.declared.fault.Fault.TheVariants.{Changed}
+use Rattle.exb_inputs.specs.declared.fault.Fault.TheVariants.{Changed, Read}
 use Rattle.exb_shelf.specs.Shelf.{Id, writing}
 use Rattle.exb_outputs.specs.Manifests.{output_name, Listed, output_count}
 
@@ -28,8 +28,10 @@ IsLate (Ok x) = ⊤
 IsLate (Err (Changed p at)) = ⊤
 IsLate (Err _) = ⊥
 
--- the first outputs were made, and all of them where all went well or a capture turned out to be another one
+-- The first outputs were made, and all of them where all went well or a capture turned out to be another one. Where the shelf failed to read
+-- that was before the first one was made, or behind the last.
 pub record MakesInOrder {X : Type 0} (manifest : Listed) (result : Result X Fault) (given ids : ℕ → Id) : Type 0 where
   pub count : ℕ
   pub made : MadeInOrder manifest count given ids
   pub all : IsLate result → count ≡ output_count manifest
+  pub unread : IsErrOf result Read → (count ≡ 0) ⊎ (count ≡ output_count manifest)

@@ -17,7 +17,7 @@ use Rattle.exb_run.specs.OpenedFiles.{OpensBy}
 use Rattle.exb_run.specs.Outcomes.{CameOut}
 use Rattle.exb_outputs.specs.Counts.{IsSummary}
 use Rattle.exb_inputs.proofs.Outcomes.{Outcome}
-use Rattle.exb_run.proofs.Reports.{making_end, net_makes}
+use Rattle.exb_run.proofs.Reports.{is_read, making_end, net_makes}
 
 -- ---- what comes of it
 pub record NetPlaysOut (tells : Type 0) (name : List ℕ) (counters : Bool) (o : Outcome) (old new : Files) : Type 0 where
@@ -162,6 +162,7 @@ module _ (tells printing : Type 0) (name : List ℕ) (counters : Bool) (o : Outc
       | inl e ↦ inl (own_status 0 (λ h. omega arith) (λ h. omega arith) e)
       | inr e ↦ inr (own_status 10 (λ h. omega arith) (λ h. omega arith) e)
     ]));
+    six = λ e. r.made.unread (is_read o (own_status 6 (λ h. omega arith) (λ h. omega arith) e));
     four = λ e.
         let found = net_capture o come (own_status 4 (λ h. omega arith) (λ h. omega arith) e) in
         (found.0, found.1, found.2, r.own found.0 found.1 found.2 found.3, λ p. all_said 4 (λ h. omega arith) (λ h. omega arith) e p ∙ ap (λ (q : Outcome). before ++ line_of q) found.3);

@@ -26,6 +26,7 @@ use Rattle.exb_outputs.specs.Manifests.{Listed}
 use Rattle.exb_play.specs.ShelfEffects.{IsOfRun}
 use Rattle.exb_outputs.proofs.CreationOrder.{read_then_makes}
 use Rattle.exb_run.proofs.OpenedFiles.{listed_is_output}
+use Rattle.exb_run.proofs.Reports.{is_read}
 use Rattle.exb_inputs.proofs.Outcomes.{Outcome}
 
 -- ---- one topology
@@ -227,6 +228,7 @@ module _ (tells printing : Type 0) (name : List ℕ) (options : Options) (o : Ou
       | inl e ↦ inl (own_status 0 (λ h. omega arith) (λ h. omega arith) e)
       | inr e ↦ inr (own_status 10 (λ h. omega arith) (λ h. omega arith) e)
     ]));
+    six = λ e. r.made.unread (is_read o (own_status 6 (λ h. omega arith) (λ h. omega arith) e));
     four = λ e.
         let found = is_capture o come (own_status 4 (λ h. omega arith) (λ h. omega arith) e) in
         let own = r.own found.0 found.1 found.2 in

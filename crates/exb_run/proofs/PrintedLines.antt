@@ -19,7 +19,7 @@ use Rattle.exb_inputs.specs.declared.fault.Fault.{Fault}
 use Rattle.exb_inputs.specs.declared.fault.Fault.TheVariants.{Memory}
 use Rattle.exb_inputs.proofs.FaultLines.{memory_begins, memory_line}
 use Rattle.exb_run.specs.Outcomes.{CanCome}
-use Rattle.exb_run.specs.PrintedLines.{Prints}
+use Rattle.exb_run.specs.PrintedLines.{IsLineOf, Prints}
 use Rattle.exb_run.specs.SuccessLines.{SaysDone}
 use Rattle.exb_inputs.proofs.Outcomes.{Outcome}
 
@@ -33,23 +33,21 @@ late status own is other = elim (cases_eq status 1) [
   ]
 ]
 
+-- the line of an outcome is one that can be printed
+pub line_is : (o : Outcome) (a : Option Ask) (counted counts : Faults) → IfErr o (CanCome a) → IfOk o (λ text. SaysDone a (string_bytes text)) → CountsFaults o counted counts
+    → IsLineOf a counted counts (status_of o) (line_of o)
+line_is (Ok text) a counted counts come says faults = inr (refl, says)
+line_is (Err x) a counted counts come says faults =
+    inl (x, come, record { missing = λ name e. faults.missing name (ap (λ (y : Fault). Err y) e); read = λ e. faults.read (ap (λ (y : Fault). Err y) e); write = λ e. faults.write (ap (λ (y : Fault). Err y) e) }, refl, refl)
+
 pub prints_by : (o : Outcome) (a : Option Ask) (counted counts : Faults) (status : ℕ) (before after : List ℕ) → IfErr o (CanCome a) → IfOk o (λ text. SaysDone a (string_bytes text))
     → CountsFaults o counted counts → (status ≢ 1 → status ≢ 7 → status ≡ status_of o) → (status ≢ 1 → status ≢ 7 → after ≡ before ++ line_of o) → AppendsFront before after (line_of o)
     → (status ≢ status_of o → BreaksOff before after (line_of o)) → Prints a counted counts status before after
-prints_by (Ok text) a counted counts status before after come says faults is whole front short = record {
-  own = 0;
-  line = string_bytes text;
-  is = inr (refl, says);
-  late = late status 0 is;
-  whole = whole;
-  front = front;
-  short = short;
-}
-prints_by (Err x) a counted counts status before after come says faults is whole front short = record {
-  own = fault_status x;
-  line = fault_line x;
-  is = inl (x, come, record { missing = λ name e. faults.missing name (ap (λ (y : Fault). Err y) e); read = λ e. faults.read (ap (λ (y : Fault). Err y) e); write = λ e. faults.write (ap (λ (y : Fault). Err y) e) }, refl, refl);
-  late = late status (fault_status x) is;
+prints_by o a counted counts status before after come says faults is whole front short = record {
+  own = status_of o;
+  line = line_of o;
+  is = line_is o a counted counts come says faults;
+  late = late status (status_of o) is;
   whole = whole;
   front = front;
   short = short;

@@ -144,7 +144,8 @@ OpensInOrder tells (Some (Net name counters)) o file given ids = NetOpensInOrder
 OpensInOrder tells a o file given ids = ⊤
 
 -- The same by the status, with the line that was printed: at 4 that of the last port of which a capture was opened, and at 10 that of a
--- port whose capture is named.
+-- port whose capture is named. At 6 no output was made, since the topology or a capture could not be read, or all were, since a capture
+-- could not be read again.
 pub record RunOpened (tells printing : Type 0) (name : List ℕ) (options : Options) (status : ℕ) (file : Files) (given ids : ℕ → Id) (before after : List ℕ) : Type 0 where
   pub topology : Topology
   pub holds : tells → HoldsTopology name file topology
@@ -153,6 +154,7 @@ pub record RunOpened (tells printing : Type 0) (name : List ℕ) (options : Opti
   pub made : MadeInOrder (manifest_for topology options) count given ids
   pub behind : MadeBehind topology.captures given ids
   pub all : (status ≡ 0) ⊎ (status ≡ 10) → count ≡ output_count (manifest_for topology options)
+  pub six : status ≡ 6 → (count ≡ 0) ⊎ (count ≡ output_count (manifest_for topology options))
   pub four : status ≡ 4 → (p : ℕ) × (flaw : InputFlaw) × (is_named topology.captures p ≡ true) × Opens (ReadsUpTo name topology p) given ids × (printing → after ≡ before ++ fault_line (Capture p flaw))
   pub ten : status ≡ 10 → (p : ℕ) × (byte : ℕ) × (p < 4160) × (is_named topology.captures p ≡ true) × (printing → after ≡ before ++ fault_line (Changed p byte))
   pub first : tells → (p : ℕ) (fault : Fault) → FirstFault topology.captures file p fault → Opens (ReadsUpTo name topology p) given ids

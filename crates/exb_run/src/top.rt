@@ -1,33 +1,28 @@
 //! The top call.
-ghost use Rattle.std.specs.Prelude.{◌≡◌, ◌≢◌, ◌<◌, ◌≤◌, ◌+◌, ◌++◌, ◌⊎◌, ◌^◌, ℕ, Bool, true, List, All, length, Some, None, string_bytes, IfOk, IfErr, IsErrOf};
+ghost use Rattle.std.specs.Prelude.{◌≡◌, ◌<◌, ◌≤◌, ◌+◌, ◌⊎◌, ◌^◌, ℕ, true, All, length, Some, string_bytes, IfOk, IfErr, IsErrOf};
 ghost use Rattle.exb_make.specs.GeneratedInputs.{made};
 ghost use Rattle.exb_model.specs.Input.{Eager};
 ghost use Rattle.exb_model.specs.Setup.{IsValid, shape_of};
-ghost use Rattle.exb_shelf.specs.Files.{SameFiles, AppendsFront};
-ghost use Rattle.exb_shelf.specs.Shelf.{Opens, Rose};
+ghost use Rattle.exb_shelf.specs.Files.{SameFiles};
+ghost use Rattle.exb_shelf.specs.Shelf.{Opens};
 ghost use Rattle.exb_topology.specs.Soundness.{IsSound};
-ghost use Rattle.exb_cli.specs.declared.invocations.Options.{Options};
-ghost use Rattle.exb_cli.specs.CommandLines.{Run, Make, Net};
+ghost use Rattle.exb_cli.specs.CommandLines.{Run, Make};
 ghost use Rattle.exb_inputs.specs.declared.fault.Fault.{Fault};
 ghost use Rattle.exb_inputs.specs.declared.fault.InputFlaw.{InputFlaw};
 ghost use Rattle.exb_inputs.specs.Inputs.{input_of, is_named};
 ghost use Rattle.exb_run.specs.Outputs.{AreFrontsOf, IsPlayed};
-ghost use Rattle.exb_outputs.specs.OutputNames.{OnlyOutputs};
 ghost use Rattle.exb_inputs.specs.CaptureChecks.{AreAllGood, FirstFault};
 ghost use Rattle.exb_inputs.specs.ShelfEffects.{ReadsBelow, ReadsCapture, CountsFaults};
 ghost use Rattle.exb_outputs.specs.CreationOrder.{MakesInOrder};
-ghost use Rattle.exb_run.specs.OpenedFiles.{IsFileOf, IsOpenedFor, MadeBehind, OpenedInOrder, OpensBy, OpensInOrder, manifest_for};
+ghost use Rattle.exb_outputs.specs.OutputNames.{OnlyOutputs};
+ghost use Rattle.exb_run.specs.OpenedFiles.{IsFileOf, IsOpenedFor, MadeBehind, OpensBy, OpensInOrder, manifest_for};
 ghost use Rattle.exb_inputs.specs.FaultPhases.{IsOfPlay, IsOfPlaying};
-ghost use Rattle.exb_run.specs.Answers.{asked, mode_for, AreFronts, eager_summary, IsDone, IsRun, CanBeDone, OnlyAsked, Stops, StopsWith, IsText, IsOfInput, RoseBy, IsStatus};
-ghost use Rattle.exb_inputs.specs.Answers.{fault_status, status_of, fault_line, SaysBy};
-ghost use Rattle.exb_run.specs.StatusCounts.{CountedBy};
-ghost use Rattle.exb_net.specs.Headline.{NetHeadline};
-ghost use Rattle.exb_run.specs.Headline.{Headline};
-ghost use Rattle.exb_run.specs.OpenedNetFiles.{NetOpenedInOrder};
+ghost use Rattle.exb_run.specs.Answers.{asked, mode_for, eager_summary, IsStatus};
+ghost use Rattle.exb_inputs.specs.Answers.{status_of};
+ghost use Rattle.exb_run.specs.Endings.{Broken, Done, Leaves, Refused};
 ghost use Rattle.exb_run.specs.Outcomes.{CameOut};
-ghost use Rattle.exb_run.specs.PartialOutputs.{AreParts, LeavesParts};
+ghost use Rattle.exb_run.specs.PartialOutputs.{LeavesParts};
 ghost use Rattle.exb_play.specs.BridgeRuns.{mode_of};
-ghost use Rattle.exb_run.specs.PrintedLines.{Prints};
 ghost use Rattle.exb_outputs.specs.Counts.{IsSummary};
 
 use crate::audit::audit_topology;
@@ -188,70 +183,19 @@ pub fn run<S: Shelf, O: Sink>(
     requires fate { left fate < 2 ^ 56 }
     requires many { 15 ≤ length more.items }
     requires each { All (λ f. left f < 2 ^ 56) more.items }
-    // 0, of a run: the headline, as one record says it.
-    ensures headline { (name : List ℕ) (options : Options) → asked words.now ≡ Some (Run name options) → S.tells → O.tells → result ≡ 0
-        → Headline name options (S.file shelf.old) (S.file shelf.new) (O.text out.old) (O.text out.new) }
-    // 0, of a net: the same of all its bridges.
-    ensures net { (name : List ℕ) (counters : Bool) → asked words.now ≡ Some (Net name counters) → S.tells → O.tells → result ≡ 0
-        → NetHeadline name counters (S.file shelf.old) (S.file shelf.new) (O.text out.old) (O.text out.new) }
-    // 0, whatever is asked for: it is done, and the sink got the text that says so and nothing else. What is said of files needs no
-    // sink that tells, and of an input that is made no shelf that tells.
-    ensures done { S.tells → O.tells → result ≡ 0
-        → (text : List ℕ) × IsDone (asked words.now) (S.file shelf.old) (S.file shelf.new) text × (O.text out.new ≡ O.text out.old ++ text) }
-    ensures ran { S.tells → result ≡ 0 → (text : List ℕ) × IsDone (asked words.now) (S.file shelf.old) (S.file shelf.new) text }
-    ensures makes { (number : ℕ) → asked words.now ≡ Some (Make number) → O.tells → result ≡ 0
-        → O.text out.new ≡ O.text out.old ++ eager_summary (made number) }
-    // 2: exactly where the words are not accepted. 3, 4 and 5: exactly by the first fault of the topology, or of the file of a net and of
-    // all topologies, and of the captures that are named. 5, 6 and 7: only where a count of faults rose. 10: never where the files are told.
-    ensures two { result ≡ 2 → asked words.now ≡ None }
-    ensures usage { asked words.now ≡ None → result ≢ 1 → result ≢ 7 → result ≡ 2 }
-    ensures usage_seven { asked words.now ≡ None → result ≡ 7 → Rose (O.faults out.old) (O.faults out.new) }
-    ensures first { S.tells → IsOfInput result → StopsWith (asked words.now) (S.file shelf.old) result }
-    ensures stops { S.tells → (fault : Fault) → Stops (asked words.now) (S.file shelf.old) fault
-        → result ≢ 1 → result ≢ 6 → result ≢ 7 → result ≡ fault_status fault }
-    ensures stops_seven { S.tells → (fault : Fault) → Stops (asked words.now) (S.file shelf.old) fault
-        → result ≡ 7 → Rose (O.faults out.old) (O.faults out.new) }
-    ensures ten_never { S.tells → result ≢ 10 }
-    ensures rose { RoseBy (asked words.now) result (S.faults shelf.old) (S.faults shelf.new) (O.faults out.old) (O.faults out.new) }
-    // Each fault of the shelf is counted once, at its own status, and none behind it: a count of reading or writing that rose means 6 or 7.
-    ensures counts { CountedBy result (S.faults shelf.old) (S.faults shelf.new) (O.faults out.old) (O.faults out.new) }
+    // 0: all that the words ask for was read, played and written, and the sink got the text that says so and nothing else. The headline is here.
+    ensures done { Done S.tells O.tells (asked words.now) result (S.file shelf.old) (S.file shelf.new) (O.text out.old) (O.text out.new) }
+    // 2, 3, 4, 5, 11 and 12: exactly by the first fault of the words, or of what they ask for. Its line is printed, and no file has changed.
+    ensures refused { Refused S.tells O.tells (asked words.now) result (S.file shelf.old) (S.file shelf.new) (O.faults out.old) (O.faults out.new) (O.text out.old) (O.text out.new) }
+    // 1, 6, 7 and 10: memory ran out, or the shelf or the sink failed and counted that, once; nothing is tried again. Else what can be done is done.
+    ensures broken { Broken S.tells O.tells (asked words.now) result (S.file shelf.old) (S.file shelf.new) (S.faults shelf.old) (S.faults shelf.new)
+        (S.ids shelf.old) (S.ids shelf.new) (O.faults out.old) (O.faults out.new) (O.text out.old) (O.text out.new) }
+    // However it ended: what is printed, which files stay and what the others hold, and what was opened, in which order.
+    ensures leaves { Leaves S.tells O.tells (asked words.now) result (S.file shelf.old) (S.file shelf.new) (S.faults shelf.old) (S.faults shelf.new)
+        (S.ids shelf.old) (S.ids shelf.new) (O.faults out.old) (O.faults out.new) (O.text out.old) (O.text out.new) }
+    // Which statuses can come; and to make an input asks nothing of the shelf.
     ensures status { IsStatus (asked words.now) result }
-    // What is printed: the text of the status and nothing else, and a front of one text where printing ended early.
-    ensures says { O.tells → SaysBy result (O.faults out.old) (O.faults out.new) (O.text out.old) (O.text out.new) }
-    ensures stops_says { S.tells → O.tells → (fault : Fault) → Stops (asked words.now) (S.file shelf.old) fault
-        → result ≡ fault_status fault → O.text out.new ≡ O.text out.old ++ fault_line fault }
-    ensures front { S.tells → O.tells
-        → (text : List ℕ) × IsText (asked words.now) (S.file shelf.old) (S.file shelf.new) (S.faults shelf.old) (S.faults shelf.new) text
-        × AppendsFront (O.text out.old) (O.text out.new) text }
-    // The same of the text whatever the shelf tells: all of one line where the status is that line's own, and a part of it at 1 and 7.
-    ensures prints { O.tells → Prints (asked words.now) (S.faults shelf.old) (S.faults shelf.new) result (O.text out.old) (O.text out.new) }
-    ensures sink { result ≢ 7 → O.faults out.new ≡ O.faults out.old }
-    ensures out_of_memory { O.tells → O.text out.new ≡ O.text out.old ++ fault_line Fault.Memory → result ≡ 1 }
-    // What stays, what was written where it ended early, and which files are opened.
-    ensures early { result ≢ 0 → result ≢ 1 → result ≢ 6 → result ≢ 7 → result ≢ 10 → SameFiles (S.file shelf.old) (S.file shelf.new) }
-    ensures read_only { ¬ IsRun (asked words.now) → SameFiles (S.file shelf.old) (S.file shelf.new) }
-    ensures stopped { S.tells → (fault : Fault) → Stops (asked words.now) (S.file shelf.old) fault → SameFiles (S.file shelf.old) (S.file shelf.new) }
-    ensures others { S.tells → OnlyAsked (asked words.now) (S.file shelf.old) (S.file shelf.new) }
-    ensures fronts { S.tells → AreFronts (asked words.now) (S.file shelf.old) (S.file shelf.new) }
-    // In a drawn order too, and of the trace: these files hold fronts of the texts of what was told so far.
-    ensures parts { S.tells → AreParts (asked words.now) (S.file shelf.old) (S.file shelf.new) }
-    ensures opens { OpensBy S.tells result (asked words.now) (S.file shelf.old) (S.ids shelf.old) (S.ids shelf.new) }
     ensures alone { (number : ℕ) → asked words.now ≡ Some (Make number) → shelf.new ≡ shelf.old }
-    // What a run opened and made, and in which order, whatever the shelf tells; so status 10 is no way out, and none goes on behind a fault.
-    ensures order { (name : List ℕ) (options : Options) → asked words.now ≡ Some (Run name options)
-        → OpenedInOrder S.tells O.tells name options result (S.file shelf.old) (S.ids shelf.old) (S.ids shelf.new) (O.text out.old) (O.text out.new) }
-    // The same of a net.
-    ensures net_order { (name : List ℕ) (counters : Bool) → asked words.now ≡ Some (Net name counters)
-        → NetOpenedInOrder S.tells O.tells name counters result (S.file shelf.old) (S.ids shelf.old) (S.ids shelf.new) (O.text out.old) (O.text out.new) }
-    // With no fault of what is asked for, and none of shelf or sink, it does all, or memory ran out. To make an input asks nothing
-    // of the shelf.
-    ensures complete { S.tells → CanBeDone (asked words.now) (S.file shelf.old)
-        → ¬ Rose (S.faults shelf.old).reads (S.faults shelf.new).reads
-        → ¬ Rose (S.faults shelf.old).writes (S.faults shelf.new).writes
-        → ¬ Rose (O.faults out.old) (O.faults out.new)
-        → result ≢ 1 → result ≡ 0 }
-    ensures complete_made { (number : ℕ) → asked words.now ≡ Some (Make number)
-        → ¬ Rose (O.faults out.old) (O.faults out.new) → result ≢ 1 → result ≡ 0 }
 {
     let outcome = work(alloc, words, shelf, fate, more);
     let status = report(alloc, out, &outcome);

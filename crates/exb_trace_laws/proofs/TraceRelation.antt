@@ -79,8 +79,8 @@ module _ (t : Shape) (l : Limits) (i : Basis) (w : World) (g : List Given) (h : 
       s.follows.next p
       ∙ ap (λ (n : ℕ). n + 1) (sym (length-map (arrivals_at p g) (λ (a : Arrival). a.bytes)) ∙ ap (λ (fs : List (List ℕ)). length fs) (sym (frames_at p g)))
 
-  word_record : (x : LinkFrame) (st : Stamp) → x.stamp ≡ Some st → IsWordOf t g (datum_by x.bytes (Some st)) → IsRecord t (captures_of (arrivals_of g)) x
-  word_record x st is k =
+  word_record : (n : ℕ) (x : LinkFrame) (st : Stamp) → x.stamp ≡ Some st → IsWordOf t g n (datum_by x.bytes (Some st)) → IsRecord t (captures_of (arrivals_of g)) x
+  word_record n x st is k =
       let outer = and_parts (nat_le 64 st.port) (is_external t st.port) k.outer in
       record {
         stamp = st;
@@ -89,21 +89,21 @@ module _ (t : Shape) (l : Limits) (i : Basis) (w : World) (g : List Given) (h : 
         frame = ap (λ (fs : List (List ℕ)). numbered fs st.index) (frames_at st.port g) ∙ frame_of (arrivals_at st.port g) st.index st.moment (stripped x.bytes) k.record_of;
       }
 
-  each_record : (xs : List LinkFrame) → Each IsStamped xs → items.Each (IsWordOf t g) (data_words xs) → Each (λ (x : LinkFrame). is_control x ≡ false → IsRecord t (captures_of (arrivals_of g)) x) xs
-  each_record [] stamped named = tt
-  each_record (x ∷ xs) stamped named =
+  each_record : (n : ℕ) (xs : List LinkFrame) → Each IsStamped xs → items.Each (IsWordOf t g n) (data_words xs) → Each (λ (x : LinkFrame). is_control x ≡ false → IsRecord t (captures_of (arrivals_of g)) x) xs
+  each_record n [] stamped named = tt
+  each_record n (x ∷ xs) stamped named =
       elim (cases_Bool (is_control x)) [
-        | inl e ↦ (λ plain. absurd (both e plain), each_record xs stamped.1 (rw e at named))
+        | inl e ↦ (λ plain. absurd (both e plain), each_record n xs stamped.1 (rw e at named))
         | inr e ↦
-            let z : items.Each (IsWordOf t g) (datum_by x.bytes x.stamp ∷ data_words xs) = rw e at named in
-            (λ plain. by_stamp x.stamp refl (stamped.0 plain) z.0, each_record xs stamped.1 z.1)
+            let z : items.Each (IsWordOf t g n) (datum_by x.bytes x.stamp ∷ data_words xs) = rw e at named in
+            (λ plain. by_stamp x.stamp refl (stamped.0 plain) z.0, each_record n xs stamped.1 z.1)
       ]
     where
       both : is_control x ≡ true → is_control x ≡ false → ⊥
       both a b = cc
 
-      by_stamp : (o : Option Stamp) → x.stamp ≡ o → (st : Stamp) × (x.stamp ≡ Some st) → IsWordOf t g (datum_by x.bytes x.stamp) → IsRecord t (captures_of (arrivals_of g)) x
-      by_stamp o same some k = word_record x some.0 some.1 (subst (λ (z : Option Stamp). IsWordOf t g (datum_by x.bytes z)) some.1 k)
+      by_stamp : (o : Option Stamp) → x.stamp ≡ o → (st : Stamp) × (x.stamp ≡ Some st) → IsWordOf t g n (datum_by x.bytes x.stamp) → IsRecord t (captures_of (arrivals_of g)) x
+      by_stamp o same some k = word_record n x some.0 some.1 (subst (λ (z : Option Stamp). IsWordOf t g n (datum_by x.bytes z)) some.1 k)
 
 -- ---- external ports stay no cascade ports
 module _ (round : TagRoundTrip) (words : SendsAreWords) (leave : SendsLeaveAsFlat) (law : StepsTell) (stay : StepsStayWritten) (sound : StepsStaySound) (t : Shape) (l : Limits) (b : Basis) (start : MayStart t l b) where
@@ -137,6 +137,6 @@ standing_stays_traced round words leave law stay sound runs s before steps valid
     let serves : Serves t w (captures_of (arrivals_of g)) = record {
       stations = stations_after round words leave law stay sound t l b start before (beginning s) may first (begins_serving t l (start_of s) s.ageing);
       next = awaits t l i w g h left stood;
-      records = λ n there. each_record t l i w g h left stood (w.up n) (r.kept.stamped.ups n) (stood.names.words n (link_there t n there));
+      records = λ n there. each_record t l i w g h left stood n (w.up n) (r.kept.stamped.ups n) (stood.names.words n (link_there t n there));
     } in
     runs t l start.setting start.few w steps (arrivals_of g) h left lines r.going.sound serves make ready traced

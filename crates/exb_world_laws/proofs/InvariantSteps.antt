@@ -414,8 +414,8 @@ module _ (t : Shape) (l : Limits) (i0 : Basis) (start : MayStart t l i0) (round 
             let taken : IsTaken t w v n x (done_by t l (Carry n Up) w).events = taken_in t l w n x low found k.stamped clean in
             let s : Stamp = taken.stamp in
             let y : Arrival = arrival_by s.port s (stripped x.bytes) in
-            let its : IsWordOf t (g ++ []) (datum x) = (subst (Each (IsWordOf t (g ++ []))) (data_first (w.up n) x found).1 (same.words n link)).0 in
-            let of : IsWordOf t (g ++ []) (datum_by x.bytes (Some s)) = subst (λ (o : Option Stamp). IsWordOf t (g ++ []) (datum_by x.bytes o)) taken.stamped its in
+            let its : IsWordOf t (g ++ []) n (datum x) = (subst (Each (IsWordOf t (g ++ []) n)) (data_first (w.up n) x found).1 (same.words n link)).0 in
+            let of : IsWordOf t (g ++ []) n (datum_by x.bytes (Some s)) = subst (λ (o : Option Stamp). IsWordOf t (g ++ []) n (datum_by x.bytes o)) taken.stamped its in
             let a = numbered_pair (arrivals_at s.port (g ++ [])) s.index (s.moment, stripped x.bytes) of.record_of in
             let done : R (arrival_event w.control.bridge y ∷ []) = record {
               indexed = indexed;

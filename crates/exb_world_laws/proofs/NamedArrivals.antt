@@ -22,11 +22,12 @@ use Rattle.exb_world_spec.specs.Steps.{first_data}
 use Rattle.exb_link.specs.LinkFrames.{without_data}
 use Rattle.exb_flight.specs.Items.{Word as Datum, Item, Data, Each, words_of}
 use Rattle.exb_flight.specs.Items as items
-use Rattle.exb_flight.specs.Tree.{Over, IsLink, IsDeep}
+use Rattle.exb_flight.specs.Tree.{Over, itself, IsLink, IsDeep}
 use Rattle.exb_flight.specs.Flight.{add, change}
 use Rattle.exb_flight.specs.UpwardOrder.{of_port, waiting}
 use Rattle.exb_flight.specs.NamedArrivals.{told_by, told_at, times, once_to, firsts, indices}
 use Rattle.exb_flight.proofs.ItemLists.{each_first}
+use Rattle.exb_flight.proofs.ExtendersAbove.{over_child}
 use Rattle.exb_flight.proofs.LinkItems.{each_more, each_less}
 use Rattle.exb_flight.proofs.IndexLists.{times_append, once_more, each_change, all_low, rise_end, firsts_append, numbered_more, numbered_last}
 use Rattle.exb_flight.proofs.NamedArrivals.{Named, named_waits, named_ignored, named_taken}
@@ -91,8 +92,8 @@ of_more t g more event.Settled k = tt
 pub all_of_more : (t : Shape) (g more : List Given) (h : History) → Each (IsOfArrival t g) h → Each (IsOfArrival t (g ++ more)) h
 all_of_more t g more h k = each_change (IsOfArrival t g) (IsOfArrival t (g ++ more)) h (of_more t g more) k
 
-pub words_more : (t : Shape) (g more : List Given) (fs : List Datum) → Each (IsWordOf t g) fs → Each (IsWordOf t (g ++ more)) fs
-words_more t g more fs k = each_change (IsWordOf t g) (IsWordOf t (g ++ more)) fs (λ f its. record { outer = its.outer; record_of = record_more g more f.port f.index (f.moment, stripped f.bytes) its.record_of }) k
+pub words_more : (t : Shape) (g more : List Given) (n : ℕ) (fs : List Datum) → Each (IsWordOf t g n) fs → Each (IsWordOf t (g ++ more) n) fs
+words_more t g more n fs k = each_change (IsWordOf t g n) (IsWordOf t (g ++ more) n) fs (λ f its. record { outer = its.outer; below = its.below; record_of = record_more g more f.port f.index (f.moment, stripped f.bytes) its.record_of }) k
 
 -- an event of no arrival
 abbrev pub NamesNone : Event → Type 0
@@ -210,7 +211,7 @@ module _ (t : Shape) where
       record {
         ports = λ r ext. named_same w v g (g ++ j) h (h then es) r (λ deep. waits_as v (upward w) r (λ n. ups n ∙ sym (upward_words w n))) (told_all_none r es h none) (ap (λ (xs : List Arrival). length xs) (same r)) (k.ports r ext);
         events = of_all_none t (g ++ j) es h none (all_of_more t g j h k.events);
-        words = λ n link. subst (Each (IsWordOf t (g ++ j))) (sym (ups n)) (words_more t g j (data_words (w.up n)) (k.words n link));
+        words = λ n link. subst (Each (IsWordOf t (g ++ j) n)) (sym (ups n)) (words_more t g j n (data_words (w.up n)) (k.words n link));
       }
 
   -- ---- arrivals
@@ -255,10 +256,10 @@ module _ (t : Shape) where
             ];
         events = all_of_more t g (Came a ∷ []) h k.events;
         words = λ n link.
-            subst (Each (IsWordOf t j)) (sym (ups n))
-            (each_more (upward w) (device a.port) d (IsWordOf t j) n
-            (subst (Each (IsWordOf t j)) (sym (upward_words w n)) (words_more t g (Came a ∷ []) (data_words (w.up n)) (k.words n link)))
-            (λ e. record { outer = outer_of a.port high ext; record_of = record_last g a index ∙ ap (λ (f : List ℕ). Some (a.moment, f)) (sym clean) }));
+            subst (Each (IsWordOf t j n)) (sym (ups n))
+            (each_more (upward w) (device a.port) d (IsWordOf t j n) n
+            (subst (Each (IsWordOf t j n)) (sym (upward_words w n)) (words_more t g (Came a ∷ []) n (data_words (w.up n)) (k.words n link)))
+            (λ e. record { outer = outer_of a.port high ext; below = itself (sym e); record_of = record_last g a index ∙ ap (λ (f : List ℕ). Some (a.moment, f)) (sym clean) }));
       }
 
   -- its extender ignores it
@@ -284,7 +285,7 @@ module _ (t : Shape) where
                   (named_ignored (told_at r h) (indices (waiting t (upward w) r)) most (deep_named w g h r deep (k.ports r r_ext)))
             ];
         events = (ext, all_of_more t g (Came a ∷ []) h k.events);
-        words = λ n link. subst (Each (IsWordOf t j)) (sym (ups n)) (words_more t g (Came a ∷ []) (data_words (w.up n)) (k.words n link));
+        words = λ n link. subst (Each (IsWordOf t j n)) (sym (ups n)) (words_more t g (Came a ∷ []) n (data_words (w.up n)) (k.words n link));
       }
 
   -- what is told of a frame that comes to the bridge
@@ -323,7 +324,7 @@ module _ (t : Shape) where
                   (local_more (told_at r h) most (is_relayed b a.port a.bytes) (low_named w g h r low (k.ports r r_ext)))
             ];
         events = (of_arrival j b a ext (record_last g a index), all_of_more t g (Came a ∷ []) h k.events);
-        words = λ n link. subst (Each (IsWordOf t j)) (sym (ups n)) (words_more t g (Came a ∷ []) (data_words (w.up n)) (k.words n link));
+        words = λ n link. subst (Each (IsWordOf t j n)) (sym (ups n)) (words_more t g (Came a ∷ []) n (data_words (w.up n)) (k.words n link));
       }
 
   -- ---- words that go on
@@ -334,15 +335,17 @@ module _ (t : Shape) where
       let rest : List Datum = data_words (without_data (w.up n)) in
       let first = first_upward w n x found in
       let links : ℕ → List Item = add (change (upward w) n (items.without_data (upward w n))) (device (on t n)) (Data (datum x)) in
-      let as_up : (m : ℕ) → IsLink t m → Each (IsWordOf t g) (words_of (upward w m)) = λ m there. subst (Each (IsWordOf t g)) (sym (upward_words w m)) (k.words m there) in
+      let as_up : (m : ℕ) → IsLink t m → Each (IsWordOf t g m) (words_of (upward w m)) = λ m there. subst (Each (IsWordOf t g m)) (sym (upward_words w m)) (k.words m there) in
       record {
         ports = λ r ext.
             named_same w v g g h h r (λ deep. waits_as v links r ups ∙ carry_up_keeps t tree (upward w) n link high (datum x) rest first r (deep_of r deep ext) over) refl refl (k.ports r ext);
         events = k.events;
         words = λ m there.
-            subst (Each (IsWordOf t g)) (sym (ups m))
-            (each_more (change (upward w) n (items.without_data (upward w n))) (device (on t n)) (datum x) (IsWordOf t g) m (each_less (upward w) n (IsWordOf t g) m (as_up m there))
-            (λ e. each_first (IsWordOf t g) (upward w n) (datum x) rest first (as_up n link)));
+            subst (Each (IsWordOf t g m)) (sym (ups m))
+            (each_more (change (upward w) n (items.without_data (upward w n))) (device (on t n)) (datum x) (IsWordOf t g m) m (each_less (upward w) n (IsWordOf t g m) m (as_up m there))
+            (λ e.
+            let its : IsWordOf t g n (datum x) = each_first (IsWordOf t g n) (upward w n) (datum x) rest first (as_up n link) in
+            record { outer = its.outer; below = over_child t m n (device (datum x).port) high (sym e) over; record_of = its.record_of }));
       }
 
   -- ---- words that come to the bridge
@@ -357,8 +360,8 @@ module _ (t : Shape) where
       let a : Arrival = arrival_by s.port s (stripped x.bytes) in
       let i : History = arrival_event b a ∷ h in
       let links : ℕ → List Item = change (upward w) n (items.without_data (upward w n)) in
-      let as_up : (m : ℕ) → IsLink t m → Each (IsWordOf t g) (words_of (upward w m)) = λ m there. subst (Each (IsWordOf t g)) (sym (upward_words w m)) (k.words m there) in
-      let its : IsWordOf t g d = subst (IsWordOf t g) is (each_first (IsWordOf t g) (upward w n) (datum x) rest first (as_up n link)) in
+      let as_up : (m : ℕ) → IsLink t m → Each (IsWordOf t g m) (words_of (upward w m)) = λ m there. subst (Each (IsWordOf t g m)) (sym (upward_words w m)) (k.words m there) in
+      let its : IsWordOf t g n d = subst (IsWordOf t g n) is (each_first (IsWordOf t g n) (upward w n) (datum x) rest first (as_up n link)) in
       let takes : (r : ℕ) → IsDeep t r → of_port r (d ∷ []) ++ waiting t (upward v) r ≡ waiting t (upward w) r = λ r deep.
       ap (λ (xs : List Datum). of_port r (d ∷ []) ++ xs) (waits_as v links r ups)
       ∙ (ap (λ (f : Datum). of_port r (f ∷ []) ++ waiting t links r) (sym is) ∙ carry_in_takes t tree (upward w) n link low (datum x) rest first r deep over) in
@@ -376,5 +379,5 @@ module _ (t : Shape) where
                   (subst (λ (xs : List Datum). Named (told_at r h) (indices xs) (length (arrivals_at r g))) was (deep_named w g h r deep (k.ports r r_ext))))
             ];
         events = (of_arrival g b a (and_parts (nat_le 64 s.port) (is_external t s.port) its.outer).1 its.record_of, k.events);
-        words = λ m there. subst (Each (IsWordOf t g)) (sym (ups m)) (each_less (upward w) n (IsWordOf t g) m (as_up m there));
+        words = λ m there. subst (Each (IsWordOf t g m)) (sym (ups m)) (each_less (upward w) n (IsWordOf t g m) m (as_up m there));
       }

@@ -5,7 +5,7 @@ use Rattle.std.specs.List.{range_with_len}
 use Rattle.exb_model.specs.declared.command.Command.TheVariants as command
 use Rattle.exb_model.specs.declared.event.Event.{Event}
 use Rattle.exb_model.specs.declared.event.Event.TheVariants as event
-use Rattle.exb_model.specs.Tree.{Shape, is_external, is_extended, opening_ports}
+use Rattle.exb_model.specs.Tree.{Shape, device, is_external, is_extended, opening_ports}
 use Rattle.exb_model.specs.Setup.{Limits}
 use Rattle.exb_model.specs.ETags.{stripped}
 use Rattle.exb_model.specs.declared.arrival.Arrival.{Arrival}
@@ -20,7 +20,7 @@ use Rattle.exb_control_spec.specs.declared.job.Job.TheVariants as job
 use Rattle.exb_control_spec.specs.Runs.Journal.{pending}
 use Rattle.exb_world_spec.specs.Worlds.{World, Left}
 use Rattle.exb_flight.specs.Items.{Word, Item, data_of, Each}
-use Rattle.exb_flight.specs.Tree.{IsLink}
+use Rattle.exb_flight.specs.Tree.{IsLink, Over}
 use Rattle.exb_flight.specs.FlightFacts.{AreOf}
 use Rattle.exb_flight.specs.UpwardOrder.{waiting}
 use Rattle.exb_flight.specs.NamedArrivals.{told_at, times, once_to, firsts, indices}
@@ -71,15 +71,17 @@ IsOfArrival t g (event.Relay p n moment f) = (is_external t p ≡ true) × (numb
 IsOfArrival t g (event.Ignored p n) = is_external t p ≡ true
 IsOfArrival t g _ = Unit {0}
 
--- An upward word is of a port of an extender; its stamp has the moment of its arrival, and without its E-TAG it has its bytes.
-pub record IsWordOf (t : Shape) (g : List Given) (f : Word) : Type 0 where
+-- An upward word on the link of extender n is of a port of that extender or of one below it, so it stands on its port's way; its stamp has
+-- the moment of its arrival, and without its E-TAG it has its bytes. So the words that wait for each port are all that there are.
+pub record IsWordOf (t : Shape) (g : List Given) (n : ℕ) (f : Word) : Type 0 where
   pub outer : is_extended t f.port ≡ true
+  pub below : Over t n (device f.port)
   pub record_of : numbered (records_at g f.port) f.index ≡ Some (f.moment, stripped f.bytes)
 
 pub record NamesGiven (t : Shape) (w : World) (g : List Given) (h : History) : Type 0 where
   pub ports : (p : ℕ) → is_external t p ≡ true → IsNamed t w g h p
   pub events : Each (IsOfArrival t g) h
-  pub words : (n : ℕ) → IsLink t n → Each (IsWordOf t g) (data_words (w.up n))
+  pub words : (n : ℕ) → IsLink t n → Each (IsWordOf t g n) (data_words (w.up n))
 
 -- ---- rule 4: each command and each automatic up is decided once, or waits
 abbrev pub command_number : Job → Option ℕ

@@ -106,7 +106,7 @@ returns g c =
       );
       cut = λ tells. tt;
       only = subst (λ (p : Listed). OnlyMakes S.tells p old new given ids) under outputs.only;
-      made = subst (λ (p : Listed). MakesInOrder p (Ok tt) given ids) under (record { count = made.count; made = made.made; all = λ late. made.all tt });
+      made = subst (λ (p : Listed). MakesInOrder p (Ok tt) given ids) under (record { count = made.count; made = made.made; all = λ late. made.all tt; unread = λ failed. inr (made.all tt) });
       causes = tt;
       faults = counts_ok _ _ _ outputs.faults.once;
     }

@@ -1,6 +1,4 @@
 use Rattle.std.proofs.Common.{rules, ◌≡◌, ℕ, suc, ◌+◌, List, [], ◌++◌, ◌∷◌, length, refl, ap, sym, subst, ◌∙◌, arith}
-use Rattle.std.specs.declared.alloc.Global.{Global}
-use Rattle.std.specs.declared.vec.Vec.{Vec}
 use Rattle.std.proofs.lemmas.List.{length-map}
 use Rattle.std.proofs.lemmas.Result.{err_from_is_err_and}
 use Rattle.exb_model.specs.Setup.{IsValid}
@@ -13,7 +11,7 @@ use Rattle.exb_outputs.specs.Manifests.{Listed}
 use Rattle.exb_outputs.specs.ShelfEffects.{OnlyMakes}
 use Rattle.exb_outputs.specs.WrittenTexts.{AreCut}
 use Rattle.exb_net.specs.declared.bridge_outputs.BridgeOutputs.{BridgeOutputs}
-use Rattle.exb_net.proofs.FileCreation.{SetUpTo, all_net, all_set, cut_before, made_all, makes_some, next_here, not_late, only_all, opened_more, set_next, set_none}
+use Rattle.exb_net.proofs.FileCreation.{SetUpTo, all_net, all_set, cut_before, made_all, makes_some, next_here, only_all, opened_more, set_next, set_none}
 use Rattle.exb_net.proofs.preparation.set_desks.Goals as goal
 
 pub loop-bridge-init : goal.loop-bridge-init
@@ -136,5 +134,5 @@ returns-in_err-set_desk-clause-made g c =
     let k = next_here c.args.counters ms ws c.args.parts.now taken c.as_slice-setups.result.now c.as_slice-rests.result.now c.as_slice-setups.ensures c.as_slice-rests.ensures i (omega arith) c.index-setups-bridge.result c.index-rests-bridge.result
     c.as_str-name.result.now c.index-setups-bridge.is c.index-rests-bridge.is c.as_str-name.ensures in
     makes_some c.bridges_write_apart.ensures c.args.counters ms read.names read.apart S.tells i (S.file c.args.shelf.now) now new (S.ids c.args.shelf.now) ids ids2 c.loop-bridge.desks.items k.member k.here
-    (c.loop-bridge.invariant.set ms ws taken read) (subst (λ (p : Listed). OnlyMakes S.tells p now new ids ids2) k.manifest bad.only) x bad.made.count (not_late (Vec BridgeOutputs Global) x bad.causes)
+    (c.loop-bridge.invariant.set ms ws taken read) (subst (λ (p : Listed). OnlyMakes S.tells p now new ids ids2) k.manifest bad.only) x bad.made.count bad.causes
     (subst (λ (p : Listed). MadeInOrder p bad.made.count ids ids2) k.manifest bad.made.made))
