@@ -1,4 +1,4 @@
-#!/usr/bin/env python3
+#!/usr/bin/env -S python3 -I
 """Shows where a trace breaks, in the folder in which the run was made:
 
     tools/trace_break.py TOPOLOGY [LINES]
@@ -99,12 +99,20 @@ def show(trace, rule, at, around):
         print(f"> {at + 1:6} (end)")
 
 
+def said(text):
+    """Says why it ends, in a line, and gives the status."""
+    print(f"trace_break: {text}", file=sys.stderr)
+    return 2
+
+
 def read(name):
     try:
+        if os.path.exists(name) and not os.path.isfile(name):
+            sys.exit(said(f"{name}: it isn't a file of the disk"))
         with open(name, "rb") as file:
             return file.read()
-    except OSError as error:
-        sys.exit(f"trace_break: {name}: {error.strerror}")
+    except (OSError, ValueError) as error:
+        sys.exit(said(f"{name}: {getattr(error, 'strerror', None) or error}"))
 
 
 def main():
@@ -115,15 +123,15 @@ def main():
     try:
         text = read(asked.topology).decode()
         bridge = Bridge(text)
-    except (ValueError, LookupError, TypeError):
-        sys.exit(f"trace_break: {asked.topology} is no topology: `exbr check {asked.topology}` says where it has a fault")
+    except (ValueError, LookupError, TypeError, RecursionError):
+        sys.exit(said(f"{asked.topology} is no topology: `exbr check {asked.topology}` says where it has a fault"))
     prefix = bridge.bridge.get("out", "out-")
     names = [*glob.glob(f"{glob.escape(prefix)}*.pcap"), f"{prefix}journal.txt", f"{prefix}trace.txt"]
     captures, outputs = ({name: read(name) for name in them} for them in (bridge.captures.values(), names))
     try:
         trace = trace_of(text, captures, outputs)
     except (ValueError, LookupError, struct.error):
-        sys.exit(f"trace_break: one of these files isn't what it is to be: `exbr audit {asked.topology}` names the first, and the place in it")
+        sys.exit(said(f"one of these files isn't what it is to be: `exbr audit {asked.topology}` names the first, and the place in it"))
     broken = trace.breaks()
     if broken is None:
         print(f"legal {len(trace.lines)}")
@@ -133,4 +141,6 @@ def main():
 
 
 if __name__ == "__main__":
-    sys.exit(main())
+    sys.path.insert(0, os.path.join(TOP, "tools", "desk"))
+    from exbr_desk.errors import ended
+    sys.exit(ended("trace_break", main))

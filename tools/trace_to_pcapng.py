@@ -1,4 +1,4 @@
-#!/usr/bin/env python3
+#!/usr/bin/env -S python3 -I
 """Turns a trace into a capture for Wireshark.
 
     tools/trace_to_pcapng.py out-trace.txt trace.pcapng     (or exbr-trace-to-pcapng, as ./install puts it there)
@@ -15,6 +15,26 @@ SECTION, INTERFACE, PACKET = 0x0A0D0D0A, 1, 6
 COMMENT, NAME, FLAGS = 1, 2, 2
 INBOUND, OUTBOUND = 1, 2
 MILLISECOND, SECOND = 1_000, 1_000_000
+
+
+def ended(main):
+    """The status: 2, and one line that drives no terminal, where a file can't be read, or isn't a trace."""
+    try:
+        if len(sys.argv) == 3 and os.path.exists(sys.argv[1]) and not os.path.isfile(sys.argv[1]):
+            sys.exit(f"{os.path.basename(sys.argv[0])}: {sys.argv[1]}: it isn't a file of the disk")
+        if len(sys.argv) == 3 and os.path.islink(sys.argv[2]):
+            sys.exit(f"{os.path.basename(sys.argv[0])}: {sys.argv[2]}: it is a link, and nothing is written through it; name a file")
+        return main() or 0
+    except (struct.error, OverflowError):
+        said = f"{os.path.basename(sys.argv[0])}: {sys.argv[1]}: a line or a time in it is longer than a capture can have"
+    except MemoryError:
+        said = f"{os.path.basename(sys.argv[0])}: out of memory"
+    except SystemExit as fault:
+        if not isinstance(fault.code, str):
+            raise
+        said = fault.code
+    print("".join(it if it.isprintable() else f"\\x{ord(it):02x}" for it in said), file=sys.stderr)
+    return 2
 
 
 def padded(data):
@@ -100,4 +120,4 @@ def main():
 
 
 if __name__ == "__main__":
-    main()
+    sys.exit(ended(main))

@@ -40,17 +40,17 @@ class TraceBreak(unittest.TestCase):
     def test_a_line_that_is_none(self):
         self.lines(lambda them: [*them, "in x1 nowhere\n"])
         status, out, err = self.says("topology.toml")
-        self.assertEqual((status, out), (1, ""))
+        self.assertEqual((status, out), (2, ""))
         self.assertIn("`exbr audit topology.toml` names the first", err)
 
     def test_files_that_are_not_there_or_no_topology(self):
         os.remove(f"{self.folder}/out-journal.txt")
-        self.assertEqual(self.says("topology.toml"), (1, "", "trace_break: out-journal.txt: No such file or directory\n"))
+        self.assertEqual(self.says("topology.toml"), (2, "", "trace_break: out-journal.txt: No such file or directory\n"))
         for text in ("x = [", "[[extender]]\nnumber = 1\n"):
             with open(f"{self.folder}/bad.toml", "w", encoding="utf-8") as file:
                 file.write(text)
             status, out, err = self.says("bad.toml")
-            self.assertEqual((status, out, err.split(":")[1]), (1, "", " bad.toml is no topology"))
+            self.assertEqual((status, out, err.split(":")[1]), (2, "", " bad.toml is no topology"))
 
 
 if __name__ == "__main__":

@@ -45,7 +45,7 @@ class TraceToPcapng(unittest.TestCase):
     def test_what_is_no_trace(self):
         for text, why in ((b"in x1 up\n", "line 1 is none of a trace"), (b"beat\n= tick\n", "line 2 is none of a trace"), (b"in x1 up zz\n", "line 1 is none of a trace"),
                           (b"\xff\n", "no trace, which is a text of ASCII")):
-            self.assertEqual(self.says(text), (1, f"trace_to_pcapng.py: trace.txt: {why}\n"))
+            self.assertEqual(self.says(text), (2, f"trace_to_pcapng.py: trace.txt: {why}\n"))
             self.assertFalse(os.path.exists(f"{self.folder}/trace.pcapng"))
 
 

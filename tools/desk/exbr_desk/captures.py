@@ -9,6 +9,7 @@ import os
 import struct
 from typing import BinaryIO, Iterable, Iterator, NamedTuple
 
+from . import safe_files
 from .errors import DeskError
 
 SECOND = 1_000_000_000
@@ -50,6 +51,17 @@ class Pieces:
             more = self.file.read(count)
         self.data += more
         return len(self.data) >= count
+
+    def skip(self, count: int) -> bool:
+        """Goes on by so many bytes, without reading those that it need not, and says whether the file has them."""
+        if len(self.data) - self.at >= count:
+            self.at += count
+            return True
+        place = self.place() + count
+        if os.fstat(self.file.fileno()).st_size < place:
+            return False
+        self.data, self.at, self.base = b"", 0, self.file.seek(place)
+        return True
 
     def place(self) -> int:
         return self.base + self.at
@@ -120,7 +132,7 @@ class Blocks:
             raise pieces.fault("Cut", pieces.place())
 
     def block(self, pieces: Pieces) -> tuple[int, int]:
-        """Kind and length of the next block, all of which then stands in `pieces`."""
+        """Kind and length of the next block, all of which then stands in `pieces`. One that says nothing here is skipped, and has no length."""
         place, at = pieces.place(), pieces.at
         if pieces.data[at:at + 4] == PCAPNG:
             magic = pieces.data[at + 8:at + 12]
@@ -131,9 +143,11 @@ class Blocks:
         ours = kind in (0x0A0D0D0A, 1, 3, 6)
         if length < 12 or length % 4 or (ours and length > BLOCK):
             raise pieces.fault("Length", place + 4)
-        if not pieces.has(length):
+        if not (pieces.has(length) if ours else pieces.skip(length)):
             raise pieces.fault("Cut", place)
-        if ours and struct.unpack_from(self.order + "I", pieces.data, pieces.at + length - 4)[0] != length:
+        if not ours:
+            return kind, 0
+        if struct.unpack_from(self.order + "I", pieces.data, pieces.at + length - 4)[0] != length:
             raise pieces.fault("Length", place + length - 4)
         return kind, length
 
@@ -220,12 +234,7 @@ def form_of(file: BinaryIO, name: str) -> Classic | Blocks:
 
 def opened(path: str) -> BinaryIO:
     """The file, or a line that says why it can't be read."""
-    try:
-        if os.path.isdir(path):
-            raise DeskError(f"{path}: it is a folder")
-        return open(path, "rb", buffering=0)
-    except OSError as fault:
-        raise DeskError(f"{path}: {fault.strerror}") from None
+    return safe_files.opened(path)
 
 
 def records(path: str, piece: int = PIECE) -> Iterator[Record]:

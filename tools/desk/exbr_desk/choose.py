@@ -1,6 +1,7 @@
 """Which frames are meant: by port and number, by a display filter of Wireshark, or by simple words."""
 from __future__ import annotations
 
+import os
 import re
 import shutil
 import subprocess
@@ -109,8 +110,9 @@ def filtered(run: Run, display: str) -> set[Where]:
         raise DeskError("--filter needs tshark, which isn't there (Debian: apt install tshark); words as src=.. dst=.. need nothing")
     found: set[Where] = set()
     for port, capture in run.captures.items():
-        done = subprocess.run([tool, "-n", "-r", capture.path, "-Y", display, "-T", "fields", "-e", "frame.number"],
-                              capture_output=True, text=True, check=False)
+        # By its whole name, since a file may be called `-`.
+        done = subprocess.run([tool, "-n", "-r", os.path.abspath(capture.path), "-Y", display, "-T", "fields", "-e", "frame.number"],
+                              stdin=subprocess.DEVNULL, capture_output=True, text=True, errors="replace", check=False)
         if done.returncode:
             lines = [line for line in done.stderr.splitlines() if line.strip() and not line.startswith("Running as user")]
             raise DeskError(f"tshark on {capture.path}: {lines[0].removeprefix('tshark: ') if lines else f'status {done.returncode}'}")

@@ -3,7 +3,10 @@ from __future__ import annotations
 
 import os
 import sys
+import traceback
 from typing import Callable
+
+from .shown import Screen
 
 
 class DeskError(Exception):
@@ -12,6 +15,7 @@ class DeskError(Exception):
 
 def ended(name: str, main: Callable[[], int]) -> int:
     """The status of a tool: that of `main`, or 2 with a line on standard error where input is broken."""
+    sys.stdout, sys.stderr = Screen(sys.stdout), Screen(sys.stderr, by_line=True)
     try:
         return main()
     except DeskError as fault:
@@ -26,4 +30,12 @@ def ended(name: str, main: Callable[[], int]) -> int:
         print(f"{name}: out of memory", file=sys.stderr)
     except OSError as fault:
         print(f"{name}: {fault.filename or 'a file'}: {fault.strerror or fault}", file=sys.stderr)
+    except Exception as fault:  # noqa: BLE001
+        print(f"{name}: the input can't be read: {_strange(fault)}", file=sys.stderr)
     return 2
+
+
+def _strange(fault: Exception) -> str:
+    """A fault that no part of a tool has words for, and the place at which it came, for whoever mends it."""
+    at = traceback.extract_tb(fault.__traceback__)[-1]
+    return f"{type(fault).__name__}: {str(fault)[:200]} (at {os.path.basename(at.filename)}:{at.lineno})"

@@ -19,6 +19,7 @@ class Line(NamedTuple):
     cause: str | None = None
 
 
+LONGEST = 1 << 20
 WORDS = {"settled": 1, "tick": 2, "commit": 2, "relay": 3, "ignore": 3, "up": 2, "refuse": 5, "noup": 5}
 
 
@@ -49,14 +50,19 @@ def line_of(text: str, number: int = 0) -> Line | None:
     return Line(number, text, kind, port, value, cause)
 
 
+def look_at(path: str, rest: bytes, number: int = 0) -> None:
+    """That a line which has no end yet isn't longer than one can be."""
+    if len(rest) > LONGEST:
+        raise DeskError(f"{path}: {f'line {number}' if number else 'a line'} is too long")
+
+
 def texts(path: str) -> Iterator[str]:
     """The lines of a text file without their newlines, read in pieces. A last line without a newline is a fault."""
     with opened(path) as raw:
         rest, number = b"", 0
         while piece := raw.read(1 << 20):
             *whole, rest = (rest + piece).split(b"\n")
-            if len(rest) > 1 << 20:
-                raise DeskError(f"{path}: line {number + len(whole) + 1} is too long")
+            look_at(path, rest, number + len(whole) + 1)
             for line in whole:
                 number += 1
                 yield line.decode("ascii", "replace")

@@ -214,6 +214,7 @@ def _count(path: str) -> tuple[int, int]:
         rest = b""
         while piece := file.read(1 << 20):
             whole, _, rest = (rest + piece).rpartition(b"\n")
+            journal.look_at(path, rest)
             lines = b"\n" + whole
             settled += lines.count(b"\nsettled")
             ticks += lines.count(b"\ntick ")

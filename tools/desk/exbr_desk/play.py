@@ -6,7 +6,7 @@ import os
 import subprocess
 import time
 
-from . import runs, topology
+from . import runs, safe_files, topology
 from .errors import DeskError
 from .progress import Progress
 
@@ -61,12 +61,11 @@ def without(given: topology.Topology, numbers: set[int]) -> dict:
 def play(run: runs.Run, tables: dict, folder: str, exbr: str, options: list[str]) -> runs.Run:
     """Runs the program in a folder over these tables, with the captures of a run, and gives the run that it made there. The program
     says nothing on standard error, but the script that builds it does, so that stays where the user sees it."""
-    os.makedirs(folder, exist_ok=True)
+    safe_files.folder(folder)
     captures = {port: os.path.abspath(run.path(name)) for port, name in tables.get("captures", {}).items()}
     path = os.path.join(folder, "topology.toml")
     bridge = {key: value for key, value in tables["bridge"].items() if key != "out"}
-    with open(path, "w", encoding="utf-8") as out:
-        out.write(written(tables | {"bridge": bridge} | ({"captures": captures} if captures else {})))
+    safe_files.write(path, written(tables | {"bridge": bridge} | ({"captures": captures} if captures else {})).encode())
     size = sum(os.path.getsize(path) for path in captures.values() if os.path.exists(path))
     progress = Progress(f"running {os.path.basename(exbr)}: bytes written, captures have {size:,}")
     with subprocess.Popen([exbr, "run", "topology.toml", *options], cwd=folder, stdout=subprocess.PIPE) as process:

@@ -163,7 +163,7 @@ class Reading:
         """Why a command is refused now, or None. Where groups can't run out they aren't counted, which would take long."""
         channels, groups = self.topology.limits
         # Each part gives two sets below a port of the bridge, before the command and after it.
-        if groups < 2 * (self._count_parts() + (self._parts_after(table) if table["op"] in SETS else self._count_parts())):
+        if groups < 2 * self._most_parts(table) and groups < 2 * (self._count_parts() + self._parts_after(table)):
             return plain.refusal(self.tree, self.topology.tables["bridge"], self.now, table)
         if table["op"] != "up":
             return None
@@ -176,6 +176,11 @@ class Reading:
         needed = self.tree.cascades(trunk) + len(self.tree.extended[trunk] & self.now.present) + 1
         return f"channels {needed} {channels}" if needed > channels else None
 
+    def _most_parts(self, table: dict) -> int:
+        """No fewer parts than there are before a command and after it. A command gives a VLAN two, and two with each static entry of it."""
+        before = self._count_parts()
+        return 2 * before + (2 + 2 * len(self.now.statics) if table["op"] in SETS else 0)
+
     def _count_parts(self) -> int:
         """How many parts the configuration has, present or not."""
         if self._parts is None:
@@ -183,7 +188,7 @@ class Reading:
         return self._parts
 
     def _parts_after(self, table: dict) -> int:
-        return len(self.now.after(table).parts())
+        return len(self.now.after(table).parts()) if table["op"] in SETS else self._count_parts()
 
     def obey(self, command: Command, moment: int) -> Ordered:
         cause = self.refusal(command.table)

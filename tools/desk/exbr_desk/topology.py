@@ -7,11 +7,11 @@ from __future__ import annotations
 
 import os
 import re
-import tomllib
 from dataclasses import dataclass, field
 
-from . import plain
+from . import plain, safe_files, toml_text
 from .errors import DeskError
+from .shown import IN_LINE
 
 LARGEST = 16_777_216
 ADDRESS = re.compile("[0-9A-Fa-f]{2}(-[0-9A-Fa-f]{2}){5}|[0-9A-Fa-f]{2}(:[0-9A-Fa-f]{2}){5}")
@@ -19,7 +19,7 @@ WORD = re.compile("[*]|x([1-9]|[1-5][0-9]|6[0-4])[.][*]|(b|x([1-9]|[1-5][0-9]|6[
 ACCEPT, KINDS = ("all", "tagged", "untagged"), ("tagged", "untagged")
 # What a key may have: the range of a number, or the name of a form.
 KEYS = {
-    "bridge": {"ports": (1, 64), "channels": (1, 4094), "groups": (1, 12288), "ageing": (0, 1_000_000), "out": "text"},
+    "bridge": {"ports": (1, 64), "channels": (1, 4094), "groups": (1, 12288), "ageing": (0, 1_000_000), "out": "name"},
     "links": {"fate": "fate"},
     "extender": {"number": (1, 64), "on": "port", "ports": (1, 64)},
     "port": {"name": "port", "pvid": (1, 4094), "accept": ACCEPT, "filter": "switch", "isolated": "switch"},
@@ -41,7 +41,7 @@ def _is_word(value) -> bool:
 
 
 FORMS = {
-    "text": lambda it: isinstance(it, str), "switch": lambda it: isinstance(it, bool),
+    "text": lambda it: isinstance(it, str), "name": lambda it: isinstance(it, str) and not IN_LINE.search(it), "switch": lambda it: isinstance(it, bool),
     "fate": lambda it: isinstance(it, str) and not set(it) - set("PLTD"),
     "port": lambda it: isinstance(it, str) and plain.is_port(it),
     "address": lambda it: isinstance(it, str) and ADDRESS.fullmatch(it) is not None,
@@ -111,12 +111,8 @@ class Topology:
 
 def read(path: str) -> Topology:
     """The topology of a file."""
-    try:
-        with open(path, "rb") as file:
-            data = file.read(LARGEST + 1)
-    except OSError as fault:
-        raise DeskError(f"{path}: {fault.strerror}") from None
-    if len(data) > LARGEST:
+    data = safe_files.read(path, LARGEST)
+    if data is None:
         raise DeskError(f"{path}: topology: Large")
     try:
         text = data.decode()
@@ -128,8 +124,8 @@ def read(path: str) -> Topology:
 def of_text(text: str, path: str = "topology.toml") -> Topology:
     """The topology of a text, which is said to be that of a file."""
     try:
-        tables = tomllib.loads(text)
-    except (tomllib.TOMLDecodeError, RecursionError) as fault:
+        tables = toml_text.tables(text)
+    except (ValueError, RecursionError) as fault:
         raise DeskError(f"{path}: topology: NotToml ({fault})") from None
     try:
         _look(tables)
@@ -163,6 +159,8 @@ def _look(tables: dict) -> None:
             raise DeskError(f"Name at captures.{port}" + (" (a port of an extender needs quotes there)" if isinstance(value, dict) else ""))
         if not isinstance(value, str):
             raise DeskError(f"Kind at captures.{port}")
+        if not FORMS["name"](value):
+            raise DeskError(f"Name at captures.{port} (the tools take no name with control characters)")
     at = [it["at"] for it in tables.get("command", [])]
     for place, (one, other) in enumerate(zip(at, at[1:]), 1):
         if other < one:

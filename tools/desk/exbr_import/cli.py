@@ -3,7 +3,7 @@ import argparse
 import os
 import sys
 
-from exbr_desk import topology
+from exbr_desk import safe_files, topology
 from exbr_desk.errors import DeskError
 
 from . import folder, linux, switch, text
@@ -71,8 +71,4 @@ def write(path: str, written: str) -> None:
     if path == "-":
         sys.stdout.write(written)
         return
-    try:
-        with open(path, "w", encoding="utf-8") as file:
-            file.write(written)
-    except OSError as fault:
-        raise DeskError(f"{path}: {fault.strerror}") from None
+    safe_files.write(path, written.encode())

@@ -3,7 +3,7 @@ import argparse
 import os
 import sys
 
-from exbr_desk import runs
+from exbr_desk import runs, safe_files
 from exbr_desk.errors import DeskError
 
 from . import gather, page
@@ -43,10 +43,4 @@ def write(path: str, text: str) -> None:
     if path == "-":
         sys.stdout.write(text)
         return
-    part = f"{path}.part"
-    try:
-        with open(part, "w", encoding="utf-8") as file:
-            file.write(text)
-        os.replace(part, path)
-    except OSError as fault:
-        raise DeskError(f"{path}: {fault.strerror}") from None
+    safe_files.write(path, text.encode())

@@ -1,6 +1,8 @@
 """Builds HTML and SVG: every text and every attribute is escaped here, and nowhere else."""
 from html import escape
 
+from exbr_desk.shown import shown
+
 EMPTY_TAGS = frozenset(("meta", "br", "input", "rect", "circle", "line", "path"))
 
 
@@ -10,7 +12,7 @@ class Markup(str):
 
 def text(content: object) -> Markup:
     """A plain text as HTML."""
-    return content if isinstance(content, Markup) else Markup(escape(str(content), quote=False))
+    return content if isinstance(content, Markup) else Markup(escape(shown(content), quote=False))
 
 
 def attribute(name: str, value: object) -> str:
@@ -18,7 +20,7 @@ def attribute(name: str, value: object) -> str:
     if value is None or value is False:
         return ""
     key = name.rstrip("_").replace("_", "-")
-    return f" {key}" if value is True else f' {key}="{escape(str(value))}"'
+    return f" {key}" if value is True else f' {key}="{escape(shown(value))}"'
 
 
 def tag(name: str, /, *content: object, **attributes: object) -> Markup:

@@ -1,6 +1,10 @@
 """The page: one HTML file that holds all it needs, and asks for nothing from outside."""
+import base64
+import hashlib
 import json
 import os
+
+from exbr_desk import shown
 
 from . import lists, picture_time, picture_tree
 from .colours import Palette
@@ -20,7 +24,13 @@ def asset(name: str) -> str:
 
 def script_json(value: object) -> Markup:
     """JSON that can stand in a page: no `<` in it can end the element."""
-    return Markup(json.dumps(value, separators=(",", ":"), ensure_ascii=True).replace("<", "\\u003c"))
+    return Markup(shown.in_json(json.dumps(value, separators=(",", ":"), ensure_ascii=True)).replace("<", "\\u003c"))
+
+
+def policy(script: str) -> str:
+    """What a browser lets the page do: run this one script, and have styles of its own. It loads nothing and sends no form."""
+    sum_of_script = base64.b64encode(hashlib.sha256(script.encode()).digest()).decode()
+    return f"default-src 'none'; style-src 'unsafe-inline'; script-src 'sha256-{sum_of_script}'; form-action 'none'; base-uri 'none'"
 
 
 def number(value: int) -> str:
@@ -220,7 +230,7 @@ def build(report: Report) -> str:
     palette = Palette(report.ports)
     links = [tag("a", words, href=f"#{name}") for name, words in PARTS]
     head = tag("head", tag("meta", charset="utf-8"), tag("meta", name="viewport", content="width=device-width, initial-scale=1"),
-               tag("meta", http_equiv="Content-Security-Policy", content="default-src 'none'; style-src 'unsafe-inline'; script-src 'unsafe-inline'; img-src data:"),
+               tag("meta", http_equiv="Content-Security-Policy", content=policy(asset("page.js"))),
                tag("title", f"exbr: {report.title}"), tag("style", Markup(asset("page.css"))))
     order = "All of one second was played at once, in a drawn order." if report.seeded else "Each event was played to its end before the next."
     begins = f"Seconds count from {report.begins} UTC, as the captures have it. " if report.begins else ""

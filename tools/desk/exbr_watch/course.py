@@ -1,10 +1,14 @@
 """How far a run is. The program reads each capture twice: first all of them are looked through for faults, then they are played. So the
 bytes that it has read say how far it is."""
 import os
-import tomllib
 from dataclasses import dataclass
 
+from exbr_desk import safe_files, toml_text
+from exbr_desk.errors import DeskError
+from exbr_desk.topology import LARGEST
+
 SLACK = 0.002
+BRIDGES = 16
 
 
 @dataclass
@@ -15,12 +19,16 @@ class Input:
     octets: int
 
 
-def captures_of(path: str) -> list[str]:
-    """The captures that a topology names, or those of all topologies of a net."""
-    with open(path, "rb") as file:
-        tables = tomllib.load(file)
+def captures_of(path: str, is_net: bool = True) -> list[str]:
+    """The captures that a topology names, or those of all topologies of a net. A net stands in no other net."""
+    data = safe_files.read(path, LARGEST)
+    if data is None:
+        raise ValueError(f"{path} is too large")
+    tables = toml_text.tables(data.decode())
     if isinstance(tables.get("bridge"), list):
-        return [name for it in tables["bridge"] for name in captures_of(it["topology"])]
+        if not is_net or len(tables["bridge"]) > BRIDGES:
+            raise ValueError(f"{path} is no topology, or a net of too many")
+        return [name for it in tables["bridge"] for name in captures_of(it["topology"], False)]
     return list(tables.get("captures", {}).values())
 
 
@@ -28,7 +36,7 @@ def input_of(path: str) -> Input | None:
     """The captures of a topology or a net, with their sizes. None where it can't be told: then the program says what is wrong."""
     try:
         sizes = [os.stat(it).st_size for it in captures_of(path)]
-    except (OSError, ValueError, AttributeError, TypeError, KeyError, RecursionError):
+    except (OSError, ValueError, AttributeError, TypeError, KeyError, RecursionError, DeskError):
         return None
     return Input(len(sizes), sum(sizes))
 
