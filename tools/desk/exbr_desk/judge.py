@@ -4,12 +4,13 @@ from __future__ import annotations
 from dataclasses import dataclass, field
 from typing import Iterator
 
-from . import captures, frames, journal, plain
+from . import captures, earlier, frames, journal, plain
 from .align import Aligner
 from .captures import Pieces, form_of, opened
 from .counts import Counts
+from .errors import DeskError
 from .reading import NAMES, Arrival, Event, Reading, Where
-from .runs import Run
+from .runs import UNENDED, Run
 
 
 @dataclass
@@ -30,12 +31,13 @@ class Fault:
 
 
 class Judge:
-    """Goes through a run, and gives each event with its place in the files. `faults` has the differences so far. Counts are made
-    where they are asked for, or where the run has counters."""
+    """Goes through a run, and gives each event with its place in the files. `faults` has the differences so far, and `notes` what is to
+    be said of files that lie there and aren't of this run. Counts are made where they are asked for, or where the run has counters."""
 
     def __init__(self, run: Run, counting: bool = False):
         self.run, self.reading = run, Reading(run)
         self.faults: list[Fault] = []
+        self.notes = earlier.notes(run)
         self.left = 0
         self.counts = Counts(run) if counting or run.counters else None
         self._outputs = {port: self._output(port) for port in run.topology.external}
@@ -112,10 +114,13 @@ class Judge:
     def _keys(self, port: int) -> Iterator[tuple[int, bytes]]:
         """The microsecond and bytes of each record of an output. It is opened when its first record is asked for."""
         path = self.run.output(port)
-        with opened(path) as file:
-            form = form_of(file, path)
-            for _, time, frame in form.records(Pieces(file, path, form.start, self.run.piece)):
-                yield time // 1000, frame
+        try:
+            with opened(path) as file:
+                form = form_of(file, path)
+                for _, time, frame in form.records(Pieces(file, path, form.start, self.run.piece)):
+                    yield time // 1000, frame
+        except DeskError as fault:
+            raise DeskError(f"{fault}: {UNENDED}" if " Cut at " in str(fault) else str(fault)) from None
 
     def _leave(self, it: Arrival) -> None:
         """Looks for a frame at each port where it leaves."""
@@ -142,9 +147,15 @@ class Judge:
             text = f"record {place} ought to be {of}: {_difference(wanted, found)}"
         self.faults.append(Fault(self.run.output(port), what, place, text, arrival, port, found[1] if found else None))
 
-
     def _counters(self, path: str) -> None:
-        """Holds the counters of the run against those of the rules."""
+        """Holds the counters of the run against those of the rules. Those of an earlier run are left out."""
+        before = len(self.faults)
+        self._judge_counters(path)
+        if len(self.faults) > before and earlier.is_older(self.run, path):
+            del self.faults[before:]
+            self.notes.append(earlier.left_out(self.run, path))
+
+    def _judge_counters(self, path: str) -> None:
         there = list(journal.texts(path))
         for number, (port, ought) in enumerate(zip(self.counts.ports, self.counts.lines()), 1):
             found = there[number - 1] if number <= len(there) else None

@@ -14,13 +14,13 @@ TOP = os.path.normpath(os.path.join(os.path.dirname(os.path.abspath(__file__)), 
 
 
 def program(named: str | None = None) -> str:
-    """The program: that which is named, here or by EXBR, or the one that `tools/program` says these sources give. None is built here,
-    since that takes long."""
-    for path in [named] if named else [os.environ.get("EXBR_PROGRAM"), os.environ.get("EXBR")]:
-        if path and os.path.isfile(path) and os.access(path, os.X_OK):
-            return os.path.abspath(path)
-    if named:
-        raise DeskError(f"{named} is no program")
+    """The program: the one that `--program` names, else the one that the variable EXBR names, else the one that `tools/program` says these
+    sources give. What is named and isn't a program is a fault. None is built here, since that takes long."""
+    path, by = (named, "--program") if named else (os.environ.get("EXBR"), "EXBR")
+    if path:
+        if not (os.path.isfile(path) and os.access(path, os.X_OK)):
+            raise DeskError(f"{path} is no program (it is named by {by})")
+        return os.path.abspath(path)
     try:
         said = subprocess.run([os.path.join(TOP, "tools", "program")], capture_output=True, text=True, stdin=subprocess.DEVNULL)
     except OSError:
@@ -72,7 +72,7 @@ def play(run: runs.Run, tables: dict, folder: str, exbr: str, options: list[str]
     with subprocess.Popen([exbr, "run", "topology.toml", *options], cwd=folder, stdout=subprocess.PIPE) as process:
         status, line = _waited(process, folder, progress)
     if status:
-        raise DeskError(f"exbr ended with status {status}: {line or 'it said nothing'}")
+        raise DeskError(f"exbr ended with status {status}: {topology.by_number(line) or 'it said nothing'}")
     return runs.whole(folder)
 
 

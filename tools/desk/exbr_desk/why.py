@@ -6,11 +6,13 @@ import json
 import sys
 from dataclasses import dataclass, field
 
-from . import choose, explain, frames, plain, runs, trace
+from . import choose, earlier, explain, frames, plain, runs, trace
+from .captures import SECOND
 from .errors import DeskError
 from .judge import Fault, Judge, seconds
 from .progress import Progress
 from .reading import NAMES, Arrival, Where
+from .standing import Standing
 
 SHOWN = 20
 STEP = 4096
@@ -49,12 +51,14 @@ class Why:
         self.answers: list[Answer] = []
         self.more = 0
         self.elsewhere: list[str] = []
+        self.standing = Standing()
         self.count = 0
 
     def go(self, progress: Progress) -> None:
         reading, choice = self.judge.reading, self.choice
         for event in self.judge.events():
             if event.__class__ is not Arrival:
+                self.standing.take(event)
                 continue
             self.count += 1
             if choice is not None and choice.has(event):
@@ -66,7 +70,7 @@ class Why:
             self._follow(self.run.trace)
 
     def _keep(self, it: Arrival, reading) -> None:
-        if len(self.answers) < self.limit:
+        if not self.limit or len(self.answers) < self.limit:
             self.answers.append(Answer(it, explain.explain(reading, it)))
         else:
             self.more += 1
@@ -88,7 +92,15 @@ class Why:
     def _follow(self, path: str) -> None:
         """The hops of the frames in the trace, and whether they lead where the rules do."""
         of = {(it.arrival.port, it.arrival.index): it for it in self.answers}
-        found, faults = trace.hops(self.run.topology, path, set(of), self.run.journal)
+        try:
+            found, faults = trace.hops(self.run.topology, path, set(of), self.run.journal)
+        except DeskError:
+            if not earlier.is_older(self.run, path):
+                raise
+            found, faults = {}, ["it isn't a trace"]
+        if faults and earlier.is_older(self.run, path):
+            self.judge.notes.append(earlier.left_out(self.run, path))
+            return
         self.elsewhere += [f"{path}: {text}" for text in faults]
         external = set(self.run.topology.external)
         for where, hops in found.items():
@@ -120,11 +132,13 @@ def _hops_differ(it: Arrival, hops: list[trace.Hop], external: set[int]) -> list
 
 def in_words(why: Why) -> list[str]:
     """All that is told, in lines."""
-    told = []
+    told = [f"FIRST: {it}" for it in why.standing.lines(why.run.topology.commands)]
+    told += [f"note: {it}" for it in why.judge.notes]
+    told += [""] if told else []
     for answer in why.answers:
         told += _answer_in_words(why, answer) + [""]
     if why.more:
-        told += [f"{explain.counted(why.more, 'more frame')} fit; --limit {why.more + why.limit} shows all", ""]
+        told += [f"{explain.counted(why.more, 'more frame')} fit; --limit 0 shows all", ""]
     if why.elsewhere:
         told.append(f"{explain.counted(len(why.elsewhere), 'difference')}{' elsewhere' if why.answers else ''} between the files and the rules:")
         told += [f"  {text}" for text in why.elsewhere[:SHOWN]]
@@ -154,7 +168,8 @@ def _answer_in_words(why: Why, answer: Answer) -> list[str]:
 def in_json(why: Why) -> dict:
     """All that is told, for programs."""
     return {"frames": [_answer_in_json(why, it) for it in why.answers], "more": why.more, "elsewhere": why.elsewhere,
-            "arrivals": why.count, "left": why.judge.left, "agrees": why.agrees}
+            "arrivals": why.count, "left": why.judge.left, "agrees": why.agrees, "notes": why.judge.notes,
+            **why.standing.in_json()}
 
 
 def _answer_in_json(why: Why, answer: Answer) -> dict:
@@ -164,7 +179,7 @@ def _answer_in_json(why: Why, answer: Answer) -> dict:
             for (port, kind), place in zip(it.targets, it.places)]
     hops = [{"line": hop.line, "way": hop.way, "place": hop.place, "etag": vars(etag) if (etag := frames.etag_of(hop.frame)) else None,
              "frame": hop.frame.hex()} for hop in answer.hops]
-    return {"port": NAMES[it.port], "index": it.index, "time": seconds(it.moment), "frame": it.frame.hex(), "about": frames.describe(it.frame),
+    return {"port": NAMES[it.port], "index": it.index, "time": it.moment / SECOND, "nanoseconds": it.moment, "frame": it.frame.hex(), "about": frames.describe(it.frame),
             "journal": {"line": it.line or None, "text": it.text}, "relayed": it.is_relayed, "rule": it.rule, "vlan": it.vid, "how": it.how,
             "learned": learned, "left": left, "because": [sentence.text for sentence in answer.told], "trace": hops, "faults": answer.faults}
 
@@ -176,7 +191,7 @@ def words_of(words: list[str] | None) -> argparse.Namespace:
     parser.add_argument("--folder", metavar="FOLDER", help="where the names in the topology are taken from (default: the topology's folder)")
     parser.add_argument("--filter", metavar="FILTER", help="a display filter of Wireshark over the captures; needs tshark")
     parser.add_argument("--all", action="store_true", help="no frame, but all differences between the files and the rules")
-    parser.add_argument("--limit", type=int, default=5, metavar="N", help="how many frames are told where more fit (default 5)")
+    parser.add_argument("--limit", type=int, default=5, metavar="N", help="how many frames are told where more fit (default 5, 0: all)")
     parser.add_argument("--json", action="store_true", help="the same for programs")
     return parser.parse_args(words)
 
@@ -185,8 +200,8 @@ def main(words: list[str] | None = None) -> int:
     asked = words_of(words)
     if asked.all and (asked.frame or asked.filter):
         raise DeskError("--all goes over the whole run, so no frame is named beside it")
-    if asked.limit < 1:
-        raise DeskError("--limit is at least 1")
+    if asked.limit < 0:
+        raise DeskError("--limit is 0 or more")
     run = runs.whole(asked.run, asked.folder)
     choice = None if asked.all else choose.choice(run, asked.frame, asked.filter)
     progress = Progress("frames followed", run.arrivals)

@@ -188,7 +188,7 @@ class Large(ground.InFolder):
         taken = [choice.takes(LEFT if at % 10 else NOWHERE if at % 20 else IGNORED) for at in range(1000)]
         self.assertEqual(sum(taken[0::10]), 50)
         self.assertEqual(sum(taken) - 50, 45)
-        self.assertIn("the first 50 of the 100 frames that went nowhere, and of the 900 others each 20th", choice.words())
+        self.assertIn("the first 50 of the 100 frames that went nowhere, and of the 900 others every 20th", choice.words())
         few = Choice(100, 100)
         self.assertTrue(all(few.takes(LEFT) for _ in range(100)))
         self.assertEqual(few.words(), "")
