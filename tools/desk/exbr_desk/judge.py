@@ -2,7 +2,7 @@
 from __future__ import annotations
 
 from dataclasses import dataclass, field
-from typing import Iterator
+from typing import Callable, Iterator
 
 from . import captures, earlier, frames, journal, plain
 from .align import Aligner
@@ -40,6 +40,9 @@ class Judge:
         self.notes = earlier.notes(run)
         self.left = 0
         self.counts = Counts(run) if counting or run.counters else None
+        # Told of an event, or of a frame and which of its targets it is, whose place is found only after a difference was looked into.
+        self.late_line: Callable[[Event], None] = lambda event: None
+        self.late_place: Callable[[Arrival, int], None] = lambda it, at: None
         self._outputs = {port: self._output(port) for port in run.topology.external}
         self._journal: Aligner | None = None
 
@@ -65,7 +68,7 @@ class Judge:
 
     def _eager(self) -> Iterator[Event]:
         """Without a seed each line of the journal is told by the captures."""
-        it = self._journal = Aligner(journal.texts(self.run.journal), self._tell_line, _set_line)
+        it = self._journal = Aligner(journal.texts(self.run.journal), self._tell_line, self._set_line)
         expect = it.expect
         for event in self.reading.events():
             event.line = expect(event.text, event)
@@ -109,7 +112,15 @@ class Judge:
     def _output(self, port: int) -> Aligner:
         def tell(what, place, wanted, item, found):
             self._tell_record(port, what, place, wanted, item, found)
-        return Aligner(self._keys(port), tell, _set_place)
+        return Aligner(self._keys(port), tell, self._set_place)
+
+    def _set_line(self, event: Event, place: int) -> None:
+        event.line = place
+        self.late_line(event)
+
+    def _set_place(self, item: tuple[Arrival, int], place: int) -> None:
+        item[0].places[item[1]] = place
+        self.late_place(*item)
 
     def _keys(self, port: int) -> Iterator[tuple[int, bytes]]:
         """The microsecond and bytes of each record of an output. It is opened when its first record is asked for."""
@@ -164,14 +175,6 @@ class Judge:
                 self.faults.append(Fault(path, "changed" if found is not None else "missing", number, text, None, port))
         for number in range(len(self.counts.ports) + 1, len(there) + 1):
             self.faults.append(Fault(path, "extra", number, f"line {number}, '{there[number - 1]}', ought not to be there"))
-
-
-def _set_line(event: Event, place: int) -> None:
-    event.line = place
-
-
-def _set_place(item: tuple[Arrival, int], place: int) -> None:
-    item[0].places[item[1]] = place
 
 
 def _with_tag(frame: bytes) -> str:
