@@ -11,11 +11,12 @@ class Course:
 
     def __init__(self, run: Run, table: Table):
         self.run, self.table = run, table
+        self.start = run.topology.start()
+        self.start.present |= set(run.topology.external) - table.standing.absent.keys()
         self._begin()
 
     def _begin(self) -> None:
-        self.reading, self.epoch = Reading(self.run), 0
-        self.reading.now.present |= set(self.run.topology.external) - self.table.standing.absent.keys()
+        self.reading, self.epoch = Reading(self.run, self.start.copy()), 0
 
     def at(self, row: int) -> Reading:
         """The reading as it stood when a row came, but for what was learned."""

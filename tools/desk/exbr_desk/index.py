@@ -214,6 +214,11 @@ def _capture(run: Run, port: int, told: list, columns: dict) -> Capture:
 
 # Both.
 
+def may_stand(run: Run) -> bool:
+    """Whether an index may be written beside a run."""
+    return os.access(os.path.dirname(path_of(run)) or ".", os.W_OK | os.X_OK)
+
+
 def made(run: Run, what: str, quiet: bool = False) -> Table:
     """What became of each frame, found by going through the run: quickly, or, where a file isn't what it has to be, with each difference."""
     table = swift.table_of(run, Progress(what, run.arrivals, quiet))

@@ -58,7 +58,7 @@ def without(given: topology.Topology, numbers: set[int]) -> dict:
     return {name: its for name, its in given.tables.items() if name != "command"} | ({"command": left} if left else {})
 
 
-def play(run: runs.Run, tables: dict, folder: str, exbr: str, options: list[str]) -> runs.Run:
+def play(run: runs.Run, tables: dict, folder: str, exbr: str, options: list[str], quiet: bool = False) -> runs.Run:
     """Runs the program in a folder over these tables, with the captures of a run, and gives the run that it made there. The program
     says nothing on standard error, but the script that builds it does, so that stays where the user sees it."""
     os.makedirs(folder, exist_ok=True)
@@ -68,7 +68,7 @@ def play(run: runs.Run, tables: dict, folder: str, exbr: str, options: list[str]
     with open(path, "w", encoding="utf-8") as out:
         out.write(written(tables | {"bridge": bridge} | ({"captures": captures} if captures else {})))
     size = sum(os.path.getsize(path) for path in captures.values() if os.path.exists(path))
-    progress = Progress(f"running {os.path.basename(exbr)}: bytes written, captures have {size:,}")
+    progress = Progress(f"running {os.path.basename(exbr)}: bytes written, captures have {size:,}", quiet=quiet)
     with subprocess.Popen([exbr, "run", "topology.toml", *options], cwd=folder, stdout=subprocess.PIPE) as process:
         status, line = _waited(process, folder, progress)
     if status:

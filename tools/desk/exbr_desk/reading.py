@@ -97,10 +97,10 @@ class Reading:
     """The bridge as it is after each event that it gave. `now` is its configuration, `learned` what it has learned, `since` which
     command set something last, by what was set."""
 
-    def __init__(self, run: Run):
+    def __init__(self, run: Run, now: plain.Configuration | None = None):
         self.run, self.topology = run, run.topology
         self.tree, self.ageing = run.topology.tree, run.topology.ageing
-        self.now = run.topology.start()
+        self.now = run.topology.start() if now is None else now
         self.clock = 0
         self.learned: dict[tuple[int, bytes], Entry] = {}
         self.since: dict[tuple, int] = {}
