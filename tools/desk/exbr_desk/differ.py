@@ -251,11 +251,14 @@ def _arriving(found: Differences) -> tuple[set[Pair], set[Pair]]:
     still, already, homes = set(), set(), found.before.homes
     for reach, pairs, alive in ((found.after, found.loses, still), (found.before, found.gains, already)):
         columns, addresses = reach.table.columns, reach.table.addresses
-        of = {pair.port for pair in pairs}
-        for row in [row for row, port in enumerate(columns["port"]) if port in of]:
-            source, to = addresses[columns["source"][row]], addresses[columns["target"][row]]
+        of, meant = {pair.port for pair in pairs}, {pair.to for pair in pairs}
+        wanted = {number for number, it in enumerate(addresses) if it and (it in meant or (None in meant and it[0] & 1))}
+        for row in [row for row, number in enumerate(columns["target"]) if number in wanted]:
             where = columns["port"][row], columns["index"][row]
-            for whom, there in reached(homes, to, reach.at(where)) if to else ():
+            if where[0] not in of:
+                continue
+            source, to = addresses[columns["source"][row]], addresses[columns["target"][row]]
+            for whom, there in reached(homes, to, reach.at(where)):
                 pair = Pair(where[0], b"" if whom is None else source, whom, there)
                 if pair in pairs and pairs[pair].low < where[1]:
                     alive.add(pair)

@@ -73,9 +73,10 @@ def reach_of(run: Run, what: str, with_homes: bool, keep: bool = True, quiet: bo
     table = index.table_of(run, what, keep, quiet)
     found = Reach(run, table, {port: array("I", bytes(4 * capture.count)) for port, capture in run.captures.items()}, list(table.outcomes))
     found._known = {it: at for at, it in enumerate(found.outcomes)}
-    columns, of = table.columns, found.of
-    for port, at, number in zip(columns["port"], columns["index"], columns["outcome"]):
-        of[port][at - 1] = number
+    columns = table.columns
+    for port, its in found.of.items():
+        rows = table.rows(port)
+        its[:len(rows)] = array("I", map(columns["outcome"].__getitem__, rows))
     if with_homes:
         found.homes = _homes(table, set(zip(columns["source"], columns["port"])))
     for fault in table.faults:

@@ -85,13 +85,12 @@ class Table:
     def rows(self, port: int) -> Sequence[int]:
         """The row of each record of a port, by its number less one."""
         if not self._rows:
-            highest: dict[int, int] = {}
-            for at, index in zip(self.columns["port"], self.columns["index"]):
-                if index > highest.get(at, 0):
-                    highest[at] = index
-            self._rows = {at: array("I", bytes(4 * many)) for at, many in highest.items()}
-            for row, (at, index) in enumerate(zip(self.columns["port"], self.columns["index"])):
-                self._rows[at][index - 1] = row
+            found: dict[int, array] = {at: array("I") for at in set(self.columns["port"])}
+            puts = {at: its.append for at, its in found.items()}
+            for row, at in enumerate(self.columns["port"]):
+                puts[at](row)
+            # Without a seed the records of a port come in order.
+            self._rows = {at: array("I", sorted(its, key=self.columns["index"].__getitem__)) for at, its in found.items()} if self.is_seeded else found
         return self._rows.get(port, ())
 
     def epoch(self, row: int) -> int:
