@@ -13,6 +13,7 @@ from . import differ, index, play, runs
 from .beside import Beside
 from .differ import Differences
 from .errors import DeskError
+from .place import check_place, put
 from .reach import Reach, reach_of
 from .told import detail, summary
 from .told_json import in_json
@@ -28,6 +29,7 @@ examples:
   exbr-compare tonight/before tonight/after
   exbr-compare topology.toml --without 3-5,9     what commands 3 to 5 and 9 do
   exbr-compare topology.toml --without all       what all commands do
+  exbr-compare topology.toml --without all --html changes.html
   exbr-compare old.toml new.toml --play          runs both first"""
 def words_of(words: list[str] | None) -> argparse.Namespace:
     parser = argparse.ArgumentParser(prog="exbr-compare", description=ABOUT, epilog=STATUS, formatter_class=argparse.RawDescriptionHelpFormatter)
@@ -39,6 +41,7 @@ def words_of(words: list[str] | None) -> argparse.Namespace:
     parser.add_argument("--seed", metavar="N", help="runs it with this seed")
     parser.add_argument("--keep", metavar="FOLDER", help="keeps what was run, as FOLDER/before and FOLDER/after")
     parser.add_argument("--limit", type=int, default=200, metavar="N", help="how many lines each part of the detail has (default 200, 0: all)")
+    parser.add_argument("--html", metavar="FILE", help="makes the page of differences as well: one HTML file, for a change ticket")
     parser.add_argument("--brief", action="store_true", help="the first lines alone, without detail")
     parser.add_argument("--json", action="store_true", help="all of it for programs")
     return parser.parse_args(words)
@@ -120,6 +123,9 @@ def compared(two: Two) -> Differences:
 
 
 def show(found: Differences, asked: argparse.Namespace) -> int:
+    """Prints what was found, and makes the page of it where one is asked for."""
+    if asked.html:
+        put(asked.html, page_of(found, asked))
     if asked.json:
         print(json.dumps(in_json(found), indent=1))
     else:
@@ -128,6 +134,15 @@ def show(found: Differences, asked: argparse.Namespace) -> int:
             print(line)
     sys.stdout.flush()
     return 1 if found.differs else 0
+
+
+def page_of(found: Differences, asked: argparse.Namespace) -> str:
+    """The page of differences."""
+    # It stands on the parts of the report's page, which nothing else here needs.
+    from exbr_report import changes, changes_page
+    without = f", without commands {asked.without} and with them" if asked.without not in (None, "all") else ", without its commands and with them"
+    title = asked.before + (f" and {asked.after}" if asked.after else without)
+    return changes_page.build(changes.changes_of(found, title))
 
 
 def main(words: list[str] | None = None) -> int:
@@ -141,6 +156,8 @@ def main(words: list[str] | None = None) -> int:
         raise DeskError("--keep, --program and --seed are for runs that are made now, by --without or --play")
     if asked.limit < 0:
         raise DeskError("--limit is 0 or more")
+    if asked.html:
+        check_place(asked.html)
     if not makes:
         return show(compared(known(runs.whole(asked.before), runs.whole(asked.after))), asked)
     if asked.keep:

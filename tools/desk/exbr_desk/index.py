@@ -18,6 +18,7 @@ from typing import Iterator, Sequence
 from . import plain, standing, swift, trace_index
 from .captures import SECOND, Blocks, Capture, Classic
 from .judge import Fault, Judge, is_seeded
+from .place import umask
 from .progress import Progress
 from .runs import Run
 from .table import COLUMNS, NEVER, Done, Filling, Outcome, Table
@@ -114,17 +115,11 @@ def write(run: Run, table: Table, path: str) -> None:
                 file.write(data)
                 file.write(bytes(-len(data) % 8))
             file.close()
-            os.chmod(file.name, 0o666 & ~_umask())
+            os.chmod(file.name, 0o666 & ~umask())
             os.replace(file.name, path)
         except BaseException:
             os.unlink(file.name)
             raise
-
-
-def _umask() -> int:
-    found = os.umask(0)
-    os.umask(found)
-    return found
 
 
 def _kind(column) -> str:

@@ -121,7 +121,7 @@ def summary(found: Differences) -> list[str]:
                     f"{counted_pairs(found.more, homes)} with more")
     rest += [_frames(found), *_vlans(found)]
     rest.append(f"commands: before {differ.commands(found.before)}; after {differ.commands(found.after)}{_by_command(found)}")
-    rest += _files(found)
+    rest += files(found)
     room, lost = TOP - len(told) - len(rest), rows(found.loses, homes)
     return told + (cut_by_ports(lost, homes, room) if len(lost) > room else [f"  {who(row, homes)}: {lost_facts(found, row)}" for row in lost]) + rest
 
@@ -241,7 +241,8 @@ def _vlans(found: Differences) -> list[str]:
     return ["frames that differ by VLAN: " + "; ".join(told[:12]) + (f"; and {len(told) - 12} more VLANs" if len(told) > 12 else "")]
 
 
-def _files(found: Differences) -> list[str]:
+def files(found: Differences) -> list[str]:
+    """Where the files of a run differ from the rules, and what in them no record accounts for."""
     told = [f"{name}: {counted(len(reach.faults), 'difference')} between its files and the rules (exbr-why --all); what the files have counts"
             for name, reach in (("BEFORE", found.before), ("AFTER", found.after)) if reach.faults]
     return told + found.strange[:1]

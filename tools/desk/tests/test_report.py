@@ -163,7 +163,7 @@ class Faults(ground.InFolder):
         os.remove(os.path.join(folder, "in-b4.pcap"))
         self.assert_line(self.page(folder), 2, "in-b4.pcap")
         self.assert_line(self.page(self.played("office"), "--frames", "0"), 2, "--frames")
-        self.assert_line(ground.tool("exbr-report", self.played("lossy-links"), "-o", self.path("no", "where")), 2, "No such file")
+        self.assert_line(ground.tool("exbr-report", self.played("lossy-links"), "-o", self.path("no", "where")), 2, "there is no folder")
         self.assert_line(ground.tool("exbr-report"), 2, "usage")
         self.assert_line(ground.tool("exbr-report", "--help"), 0)
 
