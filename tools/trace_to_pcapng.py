@@ -10,6 +10,7 @@ line takes a microsecond, a beat goes on to the next millisecond, and a tick tak
 import os
 import struct
 import sys
+import tempfile
 
 SECTION, INTERFACE, PACKET = 0x0A0D0D0A, 1, 6
 COMMENT, NAME, FLAGS = 1, 2, 2
@@ -66,8 +67,8 @@ class Packet:
 
 
 def packets_of(lines):
-    """The packets of a trace. A journal line without a packet before it in its step stands at the next one."""
-    time, found, waiting, step = 0, [], [], None
+    """The packets of a trace, step by step. A journal line without a packet before it in its step stands at the next one."""
+    time, waiting, step, held = 0, [], None, []
     for number, line in enumerate(lines, 1):
         time += 1
         if line == "beat":
@@ -80,23 +81,60 @@ def packets_of(lines):
             step = None if word in ("tick", "settled") else step
             (step.comments if step else waiting).append(line[2:])
         else:
-            try:
-                way, device, side, data = line.split(" ")
-                frame = bytes.fromhex(data)
-            except ValueError:
-                raise ValueError(f"line {number} is none of a trace") from None
-            found.append(Packet(time, way, f"{device} {side}", frame, waiting))
+            packet = packet_of(line, number, time, waiting)
+            if packet.way == "in":
+                # Comments come to the packet that its step began with, so those before it are done.
+                yield from held
+                held, step = [], packet
+            held.append(packet)
             waiting = []
-            step = found[-1] if way == "in" else step
+    yield from held
+
+
+def packet_of(line, number, time, comments):
+    """A line with bytes."""
+    try:
+        way, device, side, data = line.split(" ")
+        return Packet(time, way, f"{device} {side}", bytes.fromhex(data), comments)
+    except ValueError:
+        raise ValueError(f"line {number} is none of a trace") from None
+
+
+def blocks_of(packets):
+    """The file, piece by piece. An interface stands before the first packet of its place."""
+    yield block(SECTION, struct.pack("<IHHq", 0x1A2B3C4D, 1, 0, -1))
+    places = {}
+    for packet in packets:
+        if packet.place not in places:
+            places[packet.place] = len(places)
+            yield block(INTERFACE, struct.pack("<HHI", 1, 0, 0) + options((NAME, packet.place.encode())))
+        yield packet.text(places[packet.place])
+
+
+def lines_of(trace):
+    """The lines of a trace, one after the other."""
+    for line in trace:
+        yield line.removesuffix("\n")
+
+
+def write(trace, path):
+    """Writes the capture beside its place first, so that no half of one stands there."""
+    with tempfile.NamedTemporaryFile(dir=os.path.dirname(path) or ".", prefix=".exbr-", delete=False) as out:
+        try:
+            for piece in blocks_of(packets_of(lines_of(trace))):
+                out.write(piece)
+            out.close()
+            os.chmod(out.name, 0o666 & ~umask())
+            os.replace(out.name, path)
+        except BaseException:
+            os.unlink(out.name)
+            raise
+
+
+def umask():
+    found = os.umask(0)
+    os.umask(found)
     return found
-
-
-def capture_of(packets):
-    """The file: an interface for each place, in the order in which they come, and the packets."""
-    places = list(dict.fromkeys(packet.place for packet in packets))
-    text = block(SECTION, struct.pack("<IHHq", 0x1A2B3C4D, 1, 0, -1))
-    text += b"".join(block(INTERFACE, struct.pack("<HHI", 1, 0, 0) + options((NAME, place.encode()))) for place in places)
-    return text + b"".join(packet.text(places.index(packet.place)) for packet in packets)
 
 
 def main():
@@ -106,17 +144,19 @@ def main():
         return
     if len(words) != 2:
         sys.exit(f"usage: {name} TRACE CAPTURE")
+    if os.path.isdir(words[1]):
+        sys.exit(f"{name}: {words[1]}: it is a folder")
     try:
-        with open(words[0], encoding="ascii") as trace:
-            packets = packets_of(trace.read().splitlines())
-        with open(words[1], "wb") as out:
-            out.write(capture_of(packets))
+        with open(words[0], encoding="ascii", newline="\n") as trace:
+            write(trace, words[1])
     except OSError as error:
-        sys.exit(f"{name}: {error.filename}: {error.strerror}")
+        sys.exit(f"{name}: {words[1] if '.exbr-' in str(error.filename) else error.filename}: {error.strerror}")
     except UnicodeDecodeError:
         sys.exit(f"{name}: {words[0]}: no trace, which is a text of ASCII")
     except ValueError as error:
         sys.exit(f"{name}: {words[0]}: {error}")
+    except KeyboardInterrupt:
+        sys.exit(f"{name}: interrupted")
 
 
 if __name__ == "__main__":

@@ -1,4 +1,5 @@
 """What tools/trace_to_pcapng.py makes of a trace: a capture whose packets are its frames in order, and a line for what is no trace."""
+import importlib.util
 import os
 import subprocess
 import sys
@@ -41,6 +42,29 @@ class TraceToPcapng(unittest.TestCase):
         self.assertGreaterEqual(moments[2] - moments[1], 2_000_000_000)
         for words in (b"x1 up", b"x1 1", b"b 1", b"up x1.1"):
             self.assertIn(words, text)
+
+    def test_a_trace_is_not_held_in_memory(self):
+        """Packets come as soon as their step is over, however long the trace is."""
+        spec = importlib.util.spec_from_file_location("trace_to_pcapng", f"{TOP}/tools/trace_to_pcapng.py")
+        module = importlib.util.module_from_spec(spec)
+        spec.loader.exec_module(module)
+        taken = []
+
+        def lines():
+            for at in range(1_000_000):
+                taken.append(at)
+                yield ("in b 1 00", "= relay b1 1", "out b 2 00", "= settled")[at % 4]
+
+        pieces = module.blocks_of(module.packets_of(lines()))
+        # A section, an interface and a packet, which its step's comment is in; then the packet that leaves.
+        its = [next(pieces) for _ in range(5)]
+        self.assertLess(len(taken), 10)
+        self.assertIn(b"relay b1 1", its[2])
+
+    def test_what_can_not_be_written(self):
+        os.mkdir(f"{self.folder}/trace.pcapng")
+        self.assertEqual(self.says(TRACE.encode()), (1, "trace_to_pcapng.py: trace.pcapng: it is a folder\n"))
+        self.assertEqual(sorted(os.listdir(self.folder)), ["trace.pcapng", "trace.txt"])
 
     def test_what_is_no_trace(self):
         for text, why in ((b"in x1 up\n", "line 1 is none of a trace"), (b"beat\n= tick\n", "line 2 is none of a trace"), (b"in x1 up zz\n", "line 1 is none of a trace"),

@@ -7,6 +7,7 @@ from __future__ import annotations
 
 import os
 import struct
+from itertools import islice
 from typing import BinaryIO, Iterable, Iterator, NamedTuple
 
 from . import safe_files
@@ -70,6 +71,16 @@ class Pieces:
         return DeskError(f"{self.name}: {what} at {place}")
 
 
+class Found:
+    """What a look through a capture has found so far: how many records, the moment of the last one, the time of the first one, and where
+    each 256th begins, with the moment before it."""
+
+    def __init__(self):
+        self.count = self.moment = 0
+        self.first: int | None = None
+        self.marks: list[tuple[Classic | Blocks, int]] = []
+
+
 class Classic:
     """Where the reading of a classic capture stands: byte order, unit of fractions, place."""
 
@@ -102,6 +113,64 @@ class Classic:
     def at_place(self, place: int) -> Classic:
         return Classic(self.order, self.unit, place)
 
+    def scan(self, pieces: Pieces, found: Found) -> None:
+        """Goes through all records without taking their bytes out."""
+        while len(pieces.data) - pieces.at >= 16 or pieces.has(16):
+            if self._whole(pieces, found):
+                continue
+            # The next record is faulty, or not all of it is there.
+            count = 16 + self._length(pieces)
+            if not pieces.has(count):
+                raise pieces.fault("Cut", pieces.place())
+        if pieces.has(1):
+            raise pieces.fault("Cut", pieces.place())
+
+    def batch(self, pieces: Pieces) -> list[tuple[Classic, int, bytes]]:
+        """The next records, as many as stand whole in a piece, but one at least where one is left."""
+        return list(islice(self.records(pieces), 1)) + self._all(pieces)
+
+    def _all(self, pieces: Pieces) -> list[tuple[Classic, int, bytes]]:
+        unpack, unit, data, at, found = struct.Struct(self.order + "III").unpack_from, self.unit, pieces.data, pieces.at, []
+        last = len(data) - 16
+        while at <= last:
+            seconds, fraction, length = unpack(data, at)
+            end = at + 16 + length
+            if fraction * unit >= SECOND or length > LONGEST or end > last + 16:
+                break
+            found.append((self, seconds * SECOND + fraction * unit, data[at + 16:end]))
+            at = end
+        pieces.at = at
+        return found
+
+    def _whole(self, pieces: Pieces, found: Found) -> bool:
+        """Takes the records that stand whole in a piece, and says whether there was one."""
+        unpack, unit, data, begin = struct.Struct(self.order + "III").unpack_from, self.unit, pieces.data, pieces.at
+        at, last, base, moment, number, most = begin, len(data) - 16, pieces.base, found.moment, found.count, (SECOND - 1) // self.unit
+        while at <= last:
+            seconds, fraction, length = unpack(data, at)
+            if fraction > most or length > LONGEST or at + length > last:
+                break
+            if not number % STRIDE:
+                found.marks.append((self.at_place(base + at), moment))
+            time = seconds * SECOND + fraction * unit
+            if time > moment:
+                moment = time
+            if not number:
+                found.first = time
+            number += 1
+            at += 16 + length
+        pieces.at, found.moment, found.count = at, moment, number
+        return at > begin
+
+    def _length(self, pieces: Pieces) -> int:
+        """The length of the next record, whose head is there."""
+        _, fraction, length = struct.unpack_from(self.order + "III", pieces.data, pieces.at)
+        if fraction * self.unit >= SECOND:
+            raise pieces.fault("Time", pieces.place() + 4)
+        if length > LONGEST:
+            raise pieces.fault("Length", pieces.place() + 8)
+        return length
+
 
 class Blocks:
     """Where the reading of a pcapng file stands: the byte order of the section, its interfaces, the time of the record before."""
@@ -130,6 +199,15 @@ class Blocks:
                 yield place, time, frame
         if pieces.has(1):
             raise pieces.fault("Cut", pieces.place())
+
+    def scan(self, pieces: Pieces, found: Found) -> None:
+        """Goes through all records."""
+        for place, time, _ in self.records(pieces):
+            if not found.count % STRIDE:
+                found.marks.append((self.seen.at_place(place), found.moment))
+            found.moment = max(found.moment, time)
+            found.first = time if not found.count else found.first
+            found.count += 1
 
     def block(self, pieces: Pieces) -> tuple[int, int]:
         """Kind and length of the next block, all of which then stands in `pieces`. One that says nothing here is skipped, and has no length."""
@@ -258,20 +336,27 @@ class Capture:
         self.first_second: int | None = None
         self._scan()
 
+    @classmethod
+    def known(cls, path: str, piece: int, count: int, first_second: int | None, marks: list[tuple[Classic | Blocks, int]]) -> Capture:
+        """A capture that was looked through before."""
+        it = cls.__new__(cls)
+        it.path, it.piece, it.count, it.first_second, it._marks = path, piece, count, first_second, marks
+        it.size = os.path.getsize(path) if os.path.exists(path) else 0
+        it._coming, it._next = iter(()), 0
+        return it
+
+    @property
+    def marks(self) -> list[tuple[Classic | Blocks, int]]:
+        """Where every 256th record begins, with the moment before it."""
+        return self._marks
+
     def _scan(self) -> None:
-        moment, number, marks = 0, 0, self._marks
+        found = Found()
         with opened(self.path) as file:
             form = form_of(file, self.path)
-            for place, time, _ in form.records(Pieces(file, self.path, form.start, 1 << 20)):
-                if not number % STRIDE:
-                    state = form.seen if isinstance(form, Blocks) else form
-                    marks.append((state.at_place(place), moment))
-                if time > moment:
-                    moment = time
-                if not number:
-                    self.first_second = time // SECOND
-                number += 1
-        self.count = number
+            form.scan(Pieces(file, self.path, form.start, 1 << 20), found)
+        self.count, self._marks = found.count, found.marks
+        self.first_second = None if found.first is None else found.first // SECOND
 
     def from_number(self, index: int) -> Iterator[Record]:
         """The records from a number on, each with its moment: its time, or the moment of the record before it if that is greater."""
@@ -286,6 +371,19 @@ class Capture:
                 number += 1
                 if number >= index:
                     yield Record(number, moment, frame)
+
+    def batches(self, port: int) -> Iterator[list[tuple]]:
+        """All records, many at a time, each as its moment, 1, the port, its number and its bytes."""
+        with opened(self.path) as file:
+            form = form_of(file, self.path)
+            pieces, moment, index = Pieces(file, self.path, form.start, self.piece), 0, 0
+            while its := list(islice(form.records(pieces), 1)) if isinstance(form, Blocks) else form.batch(pieces):
+                batch = []
+                for _, time, frame in its:
+                    moment = time if time > moment else moment
+                    index += 1
+                    batch.append((moment, 1, port, index, frame))
+                yield batch
 
     def record(self, index: int) -> Record:
         """The record with a number, with its moment as its time. Reading them in order costs no more than reading through."""

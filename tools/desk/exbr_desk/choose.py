@@ -6,11 +6,13 @@ import re
 import shutil
 import subprocess
 from dataclasses import dataclass, field
+from typing import Callable, Iterable, Sequence
 
-from . import frames, plain
+from . import plain
 from .errors import DeskError
-from .reading import Arrival, Where
+from .reading import Where
 from .runs import Run
+from .table import Outcome, Table
 from .topology import ADDRESS
 
 TYPES = {"arp": 0x0806, "ipv4": 0x0800, "ip": 0x0800, "ipv6": 0x86DD, "lldp": 0x88CC}
@@ -25,20 +27,52 @@ class Choice:
     named: set[Where] | None = None
     words: dict[str, object] = field(default_factory=dict)
 
-    def has(self, it: Arrival) -> bool:
-        if self.named is not None and (it.port, it.index) not in self.named:
-            return False
-        return all(TESTS[word](it, value) for word, value in self.words.items())
+    def rows(self, table: Table) -> Sequence[int]:
+        """The rows of a table that are meant, in order."""
+        found = range(table.count) if self.named is None else sorted(row_of(table, *it) for it in self.named)
+        for word, value in self.words.items():
+            found = TESTS[word](table, found, value)
+        return found
+
+
+def row_of(table: Table, port: int, index: int) -> int:
+    """The row of a record."""
+    its = [row for row, at in enumerate(table.columns["port"]) if at == port]
+    # In most runs the records of a port come in order.
+    if index <= len(its) and table.columns["index"][its[index - 1]] == index:
+        return its[index - 1]
+    return next(row for row in its if table.columns["index"][row] == index)
+
+
+def _by(name: str, table: Table, rows: Iterable[int], value: int) -> list[int]:
+    """The rows with a value in a column."""
+    column = table.columns[name]
+    if isinstance(rows, range):
+        return [row for row, it in enumerate(column) if it == value]
+    return [row for row in rows if column[row] == value]
+
+
+def _by_address(name: str, table: Table, rows: Iterable[int], value: bytes) -> list[int]:
+    return _by(name, table, rows, table.addresses.index(value)) if value in table.addresses else []
+
+
+def _by_outcome(table: Table, rows: Iterable[int], fits: Callable[[Outcome], bool]) -> list[int]:
+    """The rows of outcomes that fit."""
+    good = bytearray(fits(table.outcomes[number]) for number in range(len(table.outcomes)))
+    column = table.columns["outcome"]
+    if isinstance(rows, range):
+        return [row for row, it in enumerate(column) if good[it]]
+    return [row for row in rows if good[column[row]]]
 
 
 TESTS = {
-    "src": lambda it, value: it.frame[6:12] == value,
-    "dst": lambda it, value: it.frame[:6] == value,
-    "vlan": lambda it, value: it.vid == value,
-    "port": lambda it, value: it.port == value,
-    "to": lambda it, value: any(port == value for port, _ in it.targets),
-    "type": lambda it, value: (head := frames.ethernet(it.frame)) is not None and head.type == value,
-    "rule": lambda it, value: (it.rule or "passes").split()[0] == value,
+    "src": lambda table, rows, value: _by_address("source", table, rows, value),
+    "dst": lambda table, rows, value: _by_address("target", table, rows, value),
+    "vlan": lambda table, rows, value: _by_outcome(table, rows, lambda it: it.vid == value),
+    "port": lambda table, rows, value: _by("port", table, rows, value),
+    "to": lambda table, rows, value: _by_outcome(table, rows, lambda it: value in it.ports),
+    "type": lambda table, rows, value: _by("type", table, rows, value),
+    "rule": lambda table, rows, value: _by_outcome(table, rows, lambda it: (it.rule or "passes").split()[0] == value),
 }
 
 

@@ -64,8 +64,14 @@ def explain(reading: Reading, it: Arrival) -> list[Sentence]:
 
 def since(reading: Reading, *what) -> str:
     """Which command touched something last, where one did."""
-    number = reading.since.get(what)
+    number = last(reading.since, *what)
     return f" (as command {number} left it)" if number else ""
+
+
+def last(since: dict[tuple, int], *what) -> int:
+    """The number of the command that set something last, or 0. A membership is set by what sets all members, too."""
+    found = since.get(what, 0)
+    return max(found, since.get(("vlan", what[1]), 0)) if what[0] == "member" else found
 
 
 def _because(reading: Reading, it: Arrival) -> str:
@@ -83,7 +89,8 @@ def _refused(reading: Reading, it: Arrival) -> Sentence:
     if it.rule == "accept":
         return Sentence(f"accept {rules.accept}", values | {"since": since(reading, "accept", port)})
     if it.rule in ("vlan", "filter"):
-        values |= {"since": since(reading, "vlan", it.vid), "because": _because(reading, it), "filters": since(reading, "filter", port)}
+        about = ("members", it.vid) if it.rule == "vlan" else ("member", it.vid, port)
+        values |= {"since": since(reading, *about), "because": _because(reading, it), "filters": since(reading, "filter", port)}
     return Sentence(it.rule, values)
 
 
@@ -117,7 +124,7 @@ def _left_out(reading: Reading, it: Arrival) -> list[Sentence]:
             if it.how == "static":
                 told.append(Sentence("not back", values))
         elif port not in members:
-            told.append(Sentence("not member", values | {"since": since(reading, "vlan", it.vid)}))
+            told.append(Sentence("not member", values | {"since": since(reading, "member", it.vid, port)}))
         elif port not in now.present:
             told.append(Sentence("not present", values | {"since": since(reading, "present", port) or _never(port)}))
         else:

@@ -2,14 +2,15 @@
 from __future__ import annotations
 
 from dataclasses import dataclass, field
-from typing import Iterator
+from typing import Callable, Iterator
 
-from . import captures, frames, journal, plain
+from . import captures, earlier, frames, journal, plain
 from .align import Aligner
 from .captures import Pieces, form_of, opened
 from .counts import Counts
+from .errors import DeskError
 from .reading import NAMES, Arrival, Event, Reading, Where
-from .runs import Run
+from .runs import UNENDED, Run
 
 
 @dataclass
@@ -30,14 +31,18 @@ class Fault:
 
 
 class Judge:
-    """Goes through a run, and gives each event with its place in the files. `faults` has the differences so far. Counts are made
-    where they are asked for, or where the run has counters."""
+    """Goes through a run, and gives each event with its place in the files. `faults` has the differences so far, and `notes` what is to
+    be said of files that lie there and aren't of this run. Counts are made where they are asked for, or where the run has counters."""
 
     def __init__(self, run: Run, counting: bool = False):
         self.run, self.reading = run, Reading(run)
         self.faults: list[Fault] = []
+        self.notes = earlier.notes(run)
         self.left = 0
         self.counts = Counts(run) if counting or run.counters else None
+        # Told of an event, or of a frame and which of its targets it is, whose place is found only after a difference was looked into.
+        self.late_line: Callable[[Event], None] = lambda event: None
+        self.late_place: Callable[[Arrival, int], None] = lambda it, at: None
         self._outputs = {port: self._output(port) for port in run.topology.external}
         self._journal: Aligner | None = None
 
@@ -63,7 +68,7 @@ class Judge:
 
     def _eager(self) -> Iterator[Event]:
         """Without a seed each line of the journal is told by the captures."""
-        it = self._journal = Aligner(journal.texts(self.run.journal), self._tell_line, _set_line)
+        it = self._journal = Aligner(journal.texts(self.run.journal), self._tell_line, self._set_line)
         expect = it.expect
         for event in self.reading.events():
             event.line = expect(event.text, event)
@@ -107,15 +112,26 @@ class Judge:
     def _output(self, port: int) -> Aligner:
         def tell(what, place, wanted, item, found):
             self._tell_record(port, what, place, wanted, item, found)
-        return Aligner(self._keys(port), tell, _set_place)
+        return Aligner(self._keys(port), tell, self._set_place)
+
+    def _set_line(self, event: Event, place: int) -> None:
+        event.line = place
+        self.late_line(event)
+
+    def _set_place(self, item: tuple[Arrival, int], place: int) -> None:
+        item[0].places[item[1]] = place
+        self.late_place(*item)
 
     def _keys(self, port: int) -> Iterator[tuple[int, bytes]]:
         """The microsecond and bytes of each record of an output. It is opened when its first record is asked for."""
         path = self.run.output(port)
-        with opened(path) as file:
-            form = form_of(file, path)
-            for _, time, frame in form.records(Pieces(file, path, form.start, self.run.piece)):
-                yield time // 1000, frame
+        try:
+            with opened(path) as file:
+                form = form_of(file, path)
+                for _, time, frame in form.records(Pieces(file, path, form.start, self.run.piece)):
+                    yield time // 1000, frame
+        except DeskError as fault:
+            raise DeskError(f"{fault}: {UNENDED}" if " Cut at " in str(fault) else str(fault)) from None
 
     def _leave(self, it: Arrival) -> None:
         """Looks for a frame at each port where it leaves."""
@@ -142,9 +158,15 @@ class Judge:
             text = f"record {place} ought to be {of}: {_difference(wanted, found)}"
         self.faults.append(Fault(self.run.output(port), what, place, text, arrival, port, found[1] if found else None))
 
-
     def _counters(self, path: str) -> None:
-        """Holds the counters of the run against those of the rules."""
+        """Holds the counters of the run against those of the rules. Those of an earlier run are left out."""
+        before = len(self.faults)
+        self._judge_counters(path)
+        if len(self.faults) > before and earlier.is_older(self.run, path):
+            del self.faults[before:]
+            self.notes.append(earlier.left_out(self.run, path))
+
+    def _judge_counters(self, path: str) -> None:
         there = list(journal.texts(path))
         for number, (port, ought) in enumerate(zip(self.counts.ports, self.counts.lines()), 1):
             found = there[number - 1] if number <= len(there) else None
@@ -153,14 +175,6 @@ class Judge:
                 self.faults.append(Fault(path, "changed" if found is not None else "missing", number, text, None, port))
         for number in range(len(self.counts.ports) + 1, len(there) + 1):
             self.faults.append(Fault(path, "extra", number, f"line {number}, '{there[number - 1]}', ought not to be there"))
-
-
-def _set_line(event: Event, place: int) -> None:
-    event.line = place
-
-
-def _set_place(item: tuple[Arrival, int], place: int) -> None:
-    item[0].places[item[1]] = place
 
 
 def _with_tag(frame: bytes) -> str:

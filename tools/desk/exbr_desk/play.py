@@ -14,12 +14,13 @@ TOP = os.path.normpath(os.path.join(os.path.dirname(os.path.abspath(__file__)), 
 
 
 def program(named: str | None = None) -> str:
-    """The program: the one that is named, here or by EXBR, or else the one that ./exbr runs. None is built here, since that takes long."""
-    for path in [named] if named else [os.environ.get("EXBR_PROGRAM"), os.environ.get("EXBR")]:
-        if path and os.path.isfile(path) and os.access(path, os.X_OK):
-            return os.path.abspath(path)
-    if named:
-        raise DeskError(f"{named} is no program")
+    """The program: the one that `--program` names, else the one that the variable EXBR names, else the one that `tools/program` says these
+    sources give. What is named and isn't a program is a fault. None is built here, since that takes long."""
+    path, by = (named, "--program") if named else (os.environ.get("EXBR"), "EXBR")
+    if path:
+        if not (os.path.isfile(path) and os.access(path, os.X_OK)):
+            raise DeskError(f"{path} is no program (it is named by {by})")
+        return os.path.abspath(path)
     try:
         said = subprocess.run([os.path.join(TOP, "tools", "program")], capture_output=True, text=True, stdin=subprocess.DEVNULL)
     except OSError:
@@ -58,7 +59,7 @@ def without(given: topology.Topology, numbers: set[int]) -> dict:
     return {name: its for name, its in given.tables.items() if name != "command"} | ({"command": left} if left else {})
 
 
-def play(run: runs.Run, tables: dict, folder: str, exbr: str, options: list[str]) -> runs.Run:
+def play(run: runs.Run, tables: dict, folder: str, exbr: str, options: list[str], quiet: bool = False) -> runs.Run:
     """Runs the program in a folder over these tables, with the captures of a run, and gives the run that it made there. The program
     says nothing on standard error, but the script that builds it does, so that stays where the user sees it."""
     safe_files.folder(folder)
@@ -67,11 +68,11 @@ def play(run: runs.Run, tables: dict, folder: str, exbr: str, options: list[str]
     bridge = {key: value for key, value in tables["bridge"].items() if key != "out"}
     safe_files.write(path, written(tables | {"bridge": bridge} | ({"captures": captures} if captures else {})).encode())
     size = sum(os.path.getsize(path) for path in captures.values() if os.path.exists(path))
-    progress = Progress(f"running {os.path.basename(exbr)}: bytes written, captures have {size:,}")
+    progress = Progress(f"running {os.path.basename(exbr)}: bytes written, captures have {size:,}", quiet=quiet)
     with subprocess.Popen([exbr, "run", "topology.toml", *options], cwd=folder, stdout=subprocess.PIPE) as process:
         status, line = _waited(process, folder, progress)
     if status:
-        raise DeskError(f"exbr ended with status {status}: {line or 'it said nothing'}")
+        raise DeskError(f"exbr ended with status {status}: {topology.by_number(line) or 'it said nothing'}")
     return runs.whole(folder)
 
 

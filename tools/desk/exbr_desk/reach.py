@@ -1,60 +1,42 @@
-"""Which frame reached whom in a run: for each record the ports where it left, and with which tag.
-
-A record has a small number for its outcome, so a million of them take some megabytes.
-"""
+"""Which frame reached whom in a run: for each record the ports where it left, and with which tag."""
 from __future__ import annotations
 
 from array import array
 from dataclasses import dataclass, field
-from typing import NamedTuple
+from typing import Iterable
 
-from . import frames
-from .judge import Fault, Judge
-from .progress import Progress
-from .reading import Arrival, Ordered, Where
+from . import frames, index, runs
+from .course import Course
+from .judge import Fault
+from .reading import Where
 from .runs import Run
-
-STEP = 4096
-UNTAGGED = 0
-
-
-class Outcome(NamedTuple):
-    """What became of a frame: the VLAN in which it passed, the rule that kept it out, how its target was found (`static`, `learned`
-    at port `to`, or `flooded`), and each port where it left with the VLAN of the tag with which it did (0: none)."""
-
-    vid: int | None
-    rule: str | None
-    how: str | None
-    to: int | None
-    left: tuple[tuple[int, int], ...]
-
-    @property
-    def ports(self) -> set[int]:
-        return {port for port, _ in self.left}
-
-
-NEVER = Outcome(None, "never", None, None, ())
+from .table import NEVER, UNTAGGED, Outcome, Table
 
 
 @dataclass
 class Reach:
-    """The outcome of each record of a run, and what else is to be said of it."""
+    """The outcome of each record of a run, by port and number, and what else is to be said of it. `numbers` are those that its commands
+    have in the topology from which it was made, where some were left out of it."""
 
     run: Run
+    table: Table
     of: dict[int, array] = field(default_factory=dict)
-    outcomes: list[Outcome] = field(default_factory=lambda: [NEVER])
+    outcomes: list[Outcome] = field(default_factory=list)
     homes: dict[bytes, tuple[int, ...]] = field(default_factory=dict)
-    commits: list[int] = field(default_factory=list)
-    refusals: dict[int, str] = field(default_factory=dict)
-    faults: list[Fault] = field(default_factory=list)
-    _known: dict[Outcome, int] = field(default_factory=lambda: {NEVER: 0}, repr=False)
+    numbers: dict[int, int] = field(default_factory=dict)
+    _known: dict[Outcome, int] = field(default_factory=dict, repr=False)
 
-    def number(self, outcome: Outcome) -> int:
-        found = self._known.get(outcome)
-        if found is None:
-            found = self._known[outcome] = len(self.outcomes)
-            self.outcomes.append(outcome)
-        return found
+    @property
+    def faults(self) -> list[Fault]:
+        return self.table.faults
+
+    @property
+    def commits(self) -> list[int]:
+        return self.table.effects
+
+    @property
+    def refusals(self) -> dict[int, str]:
+        return self.table.standing.refused
 
     def at(self, where: Where) -> Outcome:
         """The outcome of a record. One that the run doesn't have never came."""
@@ -62,56 +44,54 @@ class Reach:
         return self.outcomes[its[where[1] - 1]] if its is not None and where[1] <= len(its) else NEVER
 
     def put(self, where: Where, outcome: Outcome) -> None:
-        self.of[where[0]][where[1] - 1] = self.number(outcome)
+        number = self._known.get(outcome)
+        if number is None:
+            number = self._known[outcome] = len(self.outcomes)
+            self.outcomes.append(outcome)
+        self.of[where[0]][where[1] - 1] = number
+
+    def epoch(self, where: Where) -> int:
+        """How many commands had taken effect before a record came. One that never came counts from the end."""
+        rows = self.table.rows(where[0])
+        return self.table.epoch(rows[where[1] - 1]) if where[1] <= len(rows) else len(self.table.effects)
+
+    def number(self, command: int) -> int:
+        """The number that a command has in the topology from which the run was made."""
+        return self.numbers.get(command, command)
+
+    def addresses(self, where: Where) -> tuple[bytes, bytes]:
+        """Source and destination of a record."""
+        row = self.table.rows(where[0])[where[1] - 1]
+        return self.table.addresses[self.table.columns["source"][row]], self.table.addresses[self.table.columns["target"][row]]
+
+    def course(self) -> Course:
+        return Course(self.run, self.table)
 
 
-def reach_of(run: Run, what: str, with_homes: bool) -> Reach:
-    """Goes through a run. Where files and rules differ, what the files have counts. With `homes`, at which ports each address speaks."""
-    found = Reach(run, {port: array("I", bytes(4 * capture.count)) for port, capture in run.captures.items()})
-    judge, progress, count = Judge(run), Progress(what, run.arrivals), 0
-    seen: dict[tuple, int] = {}
-    try:
-        for event in judge.events():
-            if event.__class__ is Arrival:
-                key = event.vid, event.rule, event.how, event.entry.port if event.how == "learned" else None, event.targets
-                number = seen.get(key)
-                if number is None:
-                    number = seen[key] = found.number(_outcome(key))
-                found.of[event.port][event.index - 1] = number
-                if with_homes and len(event.frame) >= 14 and not event.frame[6] & 1:
-                    _lives(found.homes, event.frame[6:12], event.port)
-                count += 1
-                if not count % STEP:
-                    progress.at(count)
-            elif event.__class__ is Ordered:
-                _note(found, event)
-    finally:
-        progress.end()
-    found.faults = judge.faults
-    for fault in judge.faults:
+def reach_of(run: Run, what: str, with_homes: bool, keep: bool = True, quiet: bool = False) -> Reach:
+    """The outcomes of a run. Where files and rules differ, what the files have counts. With `homes`, at which ports each address speaks."""
+    table = index.table_of(run, what, keep, quiet)
+    found = Reach(run, table, {port: array("I", bytes(4 * capture.count)) for port, capture in run.captures.items()}, list(table.outcomes))
+    found._known = {it: at for at, it in enumerate(found.outcomes)}
+    columns = table.columns
+    for port, its in found.of.items():
+        rows = table.rows(port)
+        its[:len(rows)] = array("I", map(columns["outcome"].__getitem__, rows))
+    if with_homes:
+        found.homes = _homes(table, set(zip(columns["source"], columns["port"])))
+    for fault in table.faults:
         _as_in_files(found, fault)
     return found
 
 
-def _outcome(key: tuple) -> Outcome:
-    vid, rule, how, to, targets = key
-    return Outcome(vid, rule, how, to, tuple((port, vid if kind == "tagged" else UNTAGGED) for port, kind in targets))
-
-
-def _note(found: Reach, event: Ordered) -> None:
-    if event.cause:
-        found.refusals[event.command.number] = event.cause
-    else:
-        found.commits.append(event.command.number)
-
-
-def _lives(homes: dict[bytes, tuple[int, ...]], address: bytes, port: int) -> None:
-    """Notes that an address speaks at a port. Nearly all speak at one alone."""
-    there = homes.get(address)
-    if there is None:
-        homes[address] = (port,)
-    elif port not in there:
-        homes[address] = tuple(sorted((*there, port)))
+def _homes(table: Table, pairs: Iterable[tuple[int, int]]) -> dict[bytes, tuple[int, ...]]:
+    """At which ports each address of a station speaks."""
+    found: dict[bytes, tuple[int, ...]] = {}
+    for number, port in sorted(pairs):
+        address = table.addresses[number]
+        if address and not address[0] & 1:
+            found[address] = (*found.get(address, ()), port)
+    return found
 
 
 def _as_in_files(found: Reach, fault: Fault) -> None:
@@ -124,3 +104,5 @@ def _as_in_files(found: Reach, fault: Fault) -> None:
         head = frames.ethernet(fault.frame)
         others = tuple(sorted((*others, (fault.port, head.tags[0][1] & 0xFFF if head and head.tags else UNTAGGED))))
     found.put(fault.arrival, before._replace(left=others))
+
+

@@ -34,7 +34,8 @@ class Arrival:
     `rule` says why it is relayed to nobody: `absent`, `short`, `long` or `reserved` (it is ignored), or `bad tag`, `accept`, `vlan`
     or `filter` (the rules of its port refuse it); None where it passes in VLAN `vid`. `how` says where its target comes from:
     `static`, `learned` or `flooded`. `targets` are the ports where it leaves, with the kind of each, `tagged` or `untagged`;
-    `places` says as which record of the port's output each was found (0: it wasn't, or not yet). `line` is its line of the journal.
+    `places` says as which record of the port's output each was found (0: it wasn't, or not yet). `line` is its line of the journal, and
+    `row` its place in a table of what became of each frame.
     """
 
     port: int
@@ -49,6 +50,7 @@ class Arrival:
     targets: tuple[tuple[int, str], ...] = ()
     places: list[int] = field(default_factory=list)
     line: int = 0
+    row: int = -1
 
     @property
     def is_relayed(self) -> bool:
@@ -95,10 +97,10 @@ class Reading:
     """The bridge as it is after each event that it gave. `now` is its configuration, `learned` what it has learned, `since` which
     command set something last, by what was set."""
 
-    def __init__(self, run: Run):
+    def __init__(self, run: Run, now: plain.Configuration | None = None):
         self.run, self.topology = run, run.topology
         self.tree, self.ageing = run.topology.tree, run.topology.ageing
-        self.now = run.topology.start()
+        self.now = run.topology.start() if now is None else now
         self.clock = 0
         self.learned: dict[tuple[int, bytes], Entry] = {}
         self.since: dict[tuple, int] = {}
@@ -193,20 +195,31 @@ class Reading:
     def obey(self, command: Command, moment: int) -> Ordered:
         cause = self.refusal(command.table)
         if cause is None:
-            self.now.command(command.table)
-            self._known.clear()
-            self._parts = None if command.table["op"] in SETS else self._parts
-            for what in _set_by(command.table):
-                self.since[what] = command.number
+            self.change(command)
             if command.table["op"] == "down":
                 gone = plain.number_of(command.table["port"])
                 self.learned = {key: entry for key, entry in self.learned.items() if entry.port != gone}
         return Ordered(command, moment, self.clock, cause)
 
+    def change(self, command: Command) -> None:
+        """Does what a command says, but for what is forgotten by it."""
+        self.now.command(command.table)
+        self._known.clear()
+        self._parts = None if command.table["op"] in SETS else self._parts
+        for what in set_by(command.table):
+            self.since[what] = command.number
+
     # Frames.
 
     def arrive(self, port: int, index: int, moment: int, frame: bytes) -> Arrival:
         """Looks a frame up, and learns then."""
+        it = self.look(port, index, moment, frame)
+        if it.rule is None and not frame[6] & 1 and self.ageing:
+            self.learned[it.vid, frame[6:12]] = Entry(port, self.clock, index, moment)
+        return it
+
+    def look(self, port: int, index: int, moment: int, frame: bytes) -> Arrival:
+        """What becomes of a frame now."""
         it = Arrival(port, index, moment, frame, self.clock)
         if port not in self.now.present:
             it.rule = "absent"
@@ -218,8 +231,6 @@ class Reading:
         it.vid, it.rule = plain.passes(self.now, port, frame)
         if it.rule is None:
             self._look_up(it)
-            if not frame[6] & 1 and self.ageing:
-                self.learned[it.vid, frame[6:12]] = Entry(port, self.clock, index, moment)
         return it
 
     def _look_up(self, it: Arrival) -> None:
@@ -238,6 +249,10 @@ class Reading:
                 it.targets = self._targets((it.port, it.vid, None), None)
         it.places = [0] * len(it.targets)
 
+    def targets(self, port: int, vid: int, at: int | None) -> tuple[tuple[int, str], ...]:
+        """Where a frame of a VLAN leaves that goes to one port, or is flooded."""
+        return self._targets((port, vid, at), None if at is None else {at})
+
     def _targets(self, key: tuple, chosen) -> tuple[tuple[int, str], ...]:
         """The targets in port order. They are kept until the configuration changes."""
         found = self._known.get(key)
@@ -247,11 +262,13 @@ class Reading:
         return found
 
 
-def _set_by(table: dict) -> list[tuple]:
-    """What a command sets."""
+def set_by(table: dict) -> list[tuple]:
+    """What a command sets: of a VLAN all its members, or one of them and with it whether it has any."""
     op = table["op"]
-    if op in ("vlan", "member", "unmember"):
-        return [("vlan", table["vid"])]
+    if op == "vlan":
+        return [("vlan", table["vid"]), ("members", table["vid"])]
+    if op in ("member", "unmember"):
+        return [("member", table["vid"], plain.number_of(table["port"])), ("members", table["vid"])]
     if op in ("static", "unstatic"):
         return [("static", table["vid"], plain.address_of(table["mac"]))]
     port = plain.number_of(table["port"])

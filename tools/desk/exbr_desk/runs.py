@@ -9,6 +9,9 @@ from . import plain, topology
 from .captures import PIECE, Capture
 from .errors import DeskError
 
+SETTLED = b"settled\n"
+UNENDED = "this run didn't end, or is still going on"
+
 
 @dataclass
 class Run:
@@ -56,14 +59,22 @@ class Run:
             self._captures = {port: Capture(self.path(name), self.piece) for port, name in self.topology.captures.items()}
         return self._captures
 
+    def take_captures(self, captures: dict[int, Capture]) -> None:
+        """Takes captures that were looked through before."""
+        _allow_files()
+        self._captures = captures
+
     @property
     def arrivals(self) -> int:
         return sum(capture.count for capture in self.captures.values())
 
+    def outputs(self) -> list[str]:
+        """The files that every run writes. A trace and counters are written where they are asked for alone."""
+        return [*map(self.output, self.topology.external), self.journal]
+
     def missing(self) -> list[str]:
-        """The files that a run writes and that aren't there. A trace and counters are written where they are asked for alone."""
-        files = [self.journal, *map(self.output, self.topology.external)]
-        return [file for file in files if not os.path.exists(file)]
+        """Those of them that aren't there, the journal first."""
+        return [file for file in (self.journal, *self.outputs()[:-1]) if not os.path.exists(file)]
 
 
 def _allow_files() -> None:
@@ -90,4 +101,26 @@ def whole(place: str, folder: str | None = None) -> Run:
     if missing:
         more = f" and {len(missing) - 1} more" if len(missing) > 1 else ""
         raise DeskError(f"{missing[0]}{more} isn't there: this topology wasn't run in {run.folder}, or its files were taken away")
+    if why := unended(run):
+        raise DeskError(why)
     return run
+
+
+def unended(run: Run) -> str | None:
+    """Why the run that wrote these files didn't end, where they can't be read for that: one is empty, or the journal ends within a line."""
+    empty = [path for path in run.outputs() if os.path.isfile(path) and not os.path.getsize(path)]
+    if empty:
+        more = f" and {len(empty) - 1:,} more are" if len(empty) > 1 else " is"
+        return f"{empty[0]}{more} empty: {UNENDED}"
+    last = end_of(run.journal)
+    return f"{run.journal} ends within a line: {UNENDED}" if last and not last.endswith(b"\n") else None
+
+
+def end_of(path: str) -> bytes:
+    """The last bytes of a journal, as many as its last line has where the run ended; nothing where it can't be read."""
+    try:
+        with open(path, "rb") as file:
+            file.seek(max(0, os.path.getsize(path) - len(SETTLED)))
+            return file.read()
+    except OSError:
+        return b""

@@ -132,10 +132,16 @@ def of_text(text: str, path: str = "topology.toml") -> Topology:
         tree = _tree(tables)
         _look_at_ports(tables, set(tree.external), tree)
     except DeskError as fault:
-        raise DeskError(f"{path}: topology: {fault}") from None
+        raise DeskError(by_number(f"{path}: topology: {fault}")) from None
     commands = [Command(number, it["at"], it) for number, it in enumerate(tables.get("command", []), 1)]
     captures = {plain.number_of(port): name for port, name in tables.get("captures", {}).items()}
     return Topology(path, text, tables, tree, commands, dict(sorted(captures.items())))
+
+
+def by_number(text: str) -> str:
+    """A fault at a command, which keys count from 0, with its number as journals and tools count commands, from 1."""
+    found = re.search(r" at command\[(\d{1,9})\]", text)
+    return f"{text} (command {int(found[1]) + 1})" if found else text
 
 
 def _look(tables: dict) -> None:

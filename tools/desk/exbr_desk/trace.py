@@ -8,7 +8,7 @@ from __future__ import annotations
 import re
 from collections import deque
 from dataclasses import dataclass
-from typing import Iterator, NamedTuple
+from typing import Iterable, Iterator, NamedTuple
 
 from . import frames, journal, plain
 from .errors import DeskError
@@ -56,8 +56,13 @@ class Spoken(NamedTuple):
 
 def spoken(path: str) -> Iterator[Spoken]:
     """The lines of a trace. One in no form of a line is a fault."""
+    return spoken_in(path, journal.texts(path))
+
+
+def spoken_in(path: str, texts: Iterable[str]) -> Iterator[Spoken]:
+    """The same of lines that are those of a file."""
     places: dict[tuple[str, str], tuple[int, int]] = {}
-    for number, text in enumerate(journal.texts(path), 1):
+    for number, text in enumerate(texts, 1):
         if text == BEAT:
             yield Spoken(number, BEAT)
         elif text.startswith("= "):
@@ -139,6 +144,15 @@ class Ways:
         return self.here
 
 
+def held(line: Spoken, texts: Iterator[tuple[int, str]], told: str, rest: list[str]) -> tuple[Iterator | None, list[str]]:
+    """A line of the journal in a trace against the next one of the journal itself. After the first that differs no more are looked at."""
+    number, text = next(texts, (0, None))
+    if text == line.data:
+        return texts, rest
+    is_told = f"line {number} of {told} is '{text}'" if text is not None else f"{told} is at its end"
+    return None, [f"line {line.number} is '= {line.data}', and {is_told}"]
+
+
 def hops(topology: Topology, path: str, wanted: set[Where], told: str | None = None) -> tuple[dict[Where, list[Hop]], list[str]]:
     """The hops of some records, and what in the trace can't be. Where a journal is `told`, its lines have to be those of the trace."""
     found: dict[Where, list[Hop]] = {it: [] for it in wanted}
@@ -147,10 +161,7 @@ def hops(topology: Topology, path: str, wanted: set[Where], told: str | None = N
         if where in found and line.kind in (IN, OUT):
             found[where].append(Hop(line.number, line.kind, line.device, line.side, bytes.fromhex(line.data)))
         elif line.kind == SAID and texts is not None:
-            number, text = next(texts, (0, None))
-            if text != line.data:
-                is_told = f"line {number} of {told} is '{text}'" if text is not None else f"{told} is at its end"
-                rest, texts = [f"line {line.number} is '= {line.data}', and {is_told}"], None
+            texts, rest = held(line, texts, told, rest)
     if texts is not None and (behind := next(texts, None)):
         rest.append(f"it ends, and line {behind[0]} of {told} is '{behind[1]}'")
     return found, ways.faults + rest

@@ -6,14 +6,15 @@ import json
 import sys
 from dataclasses import dataclass, field
 
-from . import choose, explain, frames, plain, runs, trace
+from . import choose, earlier, explain, frames, index, plain, runs, trace, trace_index
+from .captures import SECOND
+from .course import Course
 from .errors import DeskError
-from .judge import Fault, Judge, seconds
-from .progress import Progress
+from .judge import Fault
 from .reading import NAMES, Arrival, Where
+from .table import Table
 
 SHOWN = 20
-STEP = 4096
 ABOUT = """The way of a frame through a run: what the journal says, the VLAN in which it passed or the rule of its port that refused it,
 whether its target was learned (when, and by which frame), static or flooded, where it left and with which tag, and with a trace
 each hop with its E-TAG. The reason is computed by a second, plain reading of the rules. Where that doesn't agree with the files,
@@ -41,40 +42,40 @@ class Answer:
 
 
 class Why:
-    """Goes through a run and keeps what is told of the frames that are meant."""
+    """What is told of the frames of a run that are meant. `elsewhere` has the differences between its files and the rules that are of none
+    of these, `notes` what is to be said of files that aren't of this run."""
 
-    def __init__(self, run: runs.Run, choice: choose.Choice | None, limit: int):
-        self.run, self.choice, self.limit = run, choice, limit
-        self.judge = Judge(run)
+    def __init__(self, run: runs.Run, choice: choose.Choice | None, limit: int, keep: bool = True):
+        self.run, self.choice, self.limit, self.keep = run, choice, limit, keep
+        self.table = Table()
         self.answers: list[Answer] = []
         self.more = 0
         self.elsewhere: list[str] = []
-        self.count = 0
+        self.notes: list[str] = []
 
-    def go(self, progress: Progress) -> None:
-        reading, choice = self.judge.reading, self.choice
-        for event in self.judge.events():
-            if event.__class__ is not Arrival:
-                continue
-            self.count += 1
-            if choice is not None and choice.has(event):
-                self._keep(event, reading)
-            if not self.count % STEP:
-                progress.at(self.count)
+    @property
+    def count(self) -> int:
+        return self.table.count
+
+    @property
+    def left(self) -> int:
+        return self.table.left
+
+    def go(self, quiet: bool = False) -> None:
+        self.table = index.table_of(self.run, "frames followed", self.keep, quiet)
+        self.notes = list(self.table.notes)
+        course, rows = Course(self.run, self.table), self.choice.rows(self.table) if self.choice is not None else ()
+        shown = rows[:self.limit] if self.limit else rows
+        self.more = len(rows) - len(shown)
+        self.answers = [Answer(it, explain.explain(course.at(it.row), it)) for it in map(course.arrival, shown)]
         self._sort_faults()
         if self.run.trace:
             self._follow(self.run.trace)
 
-    def _keep(self, it: Arrival, reading) -> None:
-        if len(self.answers) < self.limit:
-            self.answers.append(Answer(it, explain.explain(reading, it)))
-        else:
-            self.more += 1
-
     def _sort_faults(self) -> None:
         """Puts each difference to the frame of which it is, or to those elsewhere."""
         of = {(it.arrival.port, it.arrival.index): it for it in self.answers}
-        for fault in self.judge.faults:
+        for fault in self.table.faults:
             text = f"{fault.file}: {fault.text}"
             if fault.arrival in of:
                 of[fault.arrival].faults.append(text)
@@ -83,17 +84,31 @@ class Why:
             for answer in self.answers:
                 if fault.what == "extra" and fault.frame is not None and _looks_like(fault, answer.arrival):
                     answer.faults.append(f"{text}; it has addresses and content of this frame")
-        self.elsewhere += [f"{file}: so many differences that no more were looked for" for file in self.judge.given_up]
+        self.elsewhere += [f"{file}: so many differences that no more were looked for" for file in self.table.given_up]
 
     def _follow(self, path: str) -> None:
         """The hops of the frames in the trace, and whether they lead where the rules do."""
         of = {(it.arrival.port, it.arrival.index): it for it in self.answers}
-        found, faults = trace.hops(self.run.topology, path, set(of), self.run.journal)
+        try:
+            found, faults = self._hops(path, of)
+        except DeskError:
+            if not earlier.is_older(self.run, path):
+                raise
+            found, faults = {}, ["it isn't a trace"]
+        if faults and earlier.is_older(self.run, path):
+            self.notes.append(earlier.left_out(self.run, path))
+            return
         self.elsewhere += [f"{path}: {text}" for text in faults]
         external = set(self.run.topology.external)
         for where, hops in found.items():
             of[where].hops = hops
             of[where].faults += [f"{path}: {text}" for text in _hops_differ(of[where].arrival, hops, external)]
+
+    def _hops(self, path: str, of: dict[Where, Answer]) -> tuple[dict[Where, list[trace.Hop]], list[str]]:
+        """The hops of frames, by the index where it has them."""
+        if not self.table.hops:
+            return trace.hops(self.run.topology, path, set(of), self.run.journal)
+        return {where: trace_index.hops(self.run, self.table, it.arrival.row) for where, it in of.items()}, self.table.trace_faults
 
     @property
     def agrees(self) -> bool:
@@ -120,18 +135,20 @@ def _hops_differ(it: Arrival, hops: list[trace.Hop], external: set[int]) -> list
 
 def in_words(why: Why) -> list[str]:
     """All that is told, in lines."""
-    told = []
+    told = [f"FIRST: {it}" for it in why.table.standing.lines(why.run.topology.commands)]
+    told += [f"note: {it}" for it in why.notes]
+    told += [""] if told else []
     for answer in why.answers:
         told += _answer_in_words(why, answer) + [""]
     if why.more:
-        told += [f"{explain.counted(why.more, 'more frame')} fit; --limit {why.more + why.limit} shows all", ""]
+        told += [f"{explain.counted(why.more, 'more frame')} fit; --limit 0 shows all", ""]
     if why.elsewhere:
         told.append(f"{explain.counted(len(why.elsewhere), 'difference')}{' elsewhere' if why.answers else ''} between the files and the rules:")
         told += [f"  {text}" for text in why.elsewhere[:SHOWN]]
         told += [f"  and {len(why.elsewhere) - SHOWN} more"] if len(why.elsewhere) > SHOWN else []
         told.append("Where they differ the file that is named is wrong, or it isn't of this run, or the reading here is wrong.")
     elif why.agrees:
-        told.append(f"The files agree with the rules: {explain.counted(why.count, 'frame')} came, {why.judge.left:,} left.")
+        told.append(f"The files agree with the rules: {explain.counted(why.count, 'frame')} came, {why.left:,} left.")
     return told
 
 
@@ -154,7 +171,8 @@ def _answer_in_words(why: Why, answer: Answer) -> list[str]:
 def in_json(why: Why) -> dict:
     """All that is told, for programs."""
     return {"frames": [_answer_in_json(why, it) for it in why.answers], "more": why.more, "elsewhere": why.elsewhere,
-            "arrivals": why.count, "left": why.judge.left, "agrees": why.agrees}
+            "arrivals": why.count, "left": why.left, "agrees": why.agrees, "notes": why.notes,
+            **why.table.standing.in_json()}
 
 
 def _answer_in_json(why: Why, answer: Answer) -> dict:
@@ -164,7 +182,7 @@ def _answer_in_json(why: Why, answer: Answer) -> dict:
             for (port, kind), place in zip(it.targets, it.places)]
     hops = [{"line": hop.line, "way": hop.way, "place": hop.place, "etag": vars(etag) if (etag := frames.etag_of(hop.frame)) else None,
              "frame": hop.frame.hex()} for hop in answer.hops]
-    return {"port": NAMES[it.port], "index": it.index, "time": seconds(it.moment), "frame": it.frame.hex(), "about": frames.describe(it.frame),
+    return {"port": NAMES[it.port], "index": it.index, "time": it.moment / SECOND, "nanoseconds": it.moment, "frame": it.frame.hex(), "about": frames.describe(it.frame),
             "journal": {"line": it.line or None, "text": it.text}, "relayed": it.is_relayed, "rule": it.rule, "vlan": it.vid, "how": it.how,
             "learned": learned, "left": left, "because": [sentence.text for sentence in answer.told], "trace": hops, "faults": answer.faults}
 
@@ -176,7 +194,8 @@ def words_of(words: list[str] | None) -> argparse.Namespace:
     parser.add_argument("--folder", metavar="FOLDER", help="where the names in the topology are taken from (default: the topology's folder)")
     parser.add_argument("--filter", metavar="FILTER", help="a display filter of Wireshark over the captures; needs tshark")
     parser.add_argument("--all", action="store_true", help="no frame, but all differences between the files and the rules")
-    parser.add_argument("--limit", type=int, default=5, metavar="N", help="how many frames are told where more fit (default 5)")
+    parser.add_argument("--limit", type=int, default=5, metavar="N", help="how many frames are told where more fit (default 5, 0: all)")
+    parser.add_argument("--no-index", action="store_true", help="keeps nothing beside the run for the next question")
     parser.add_argument("--json", action="store_true", help="the same for programs")
     return parser.parse_args(words)
 
@@ -185,16 +204,12 @@ def main(words: list[str] | None = None) -> int:
     asked = words_of(words)
     if asked.all and (asked.frame or asked.filter):
         raise DeskError("--all goes over the whole run, so no frame is named beside it")
-    if asked.limit < 1:
-        raise DeskError("--limit is at least 1")
+    if asked.limit < 0:
+        raise DeskError("--limit is 0 or more")
     run = runs.whole(asked.run, asked.folder)
     choice = None if asked.all else choose.choice(run, asked.frame, asked.filter)
-    progress = Progress("frames followed", run.arrivals)
-    why = Why(run, choice, asked.limit)
-    try:
-        why.go(progress)
-    finally:
-        progress.end()
+    why = Why(run, choice, asked.limit, not asked.no_index)
+    why.go()
     if choice is not None and not why.answers:
         raise DeskError(f"no frame fits; {why.count} frames came")
     print(json.dumps(in_json(why), indent=1) if asked.json else "\n".join(in_words(why)))

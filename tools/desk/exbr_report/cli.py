@@ -3,7 +3,7 @@ import argparse
 import os
 import sys
 
-from exbr_desk import runs, safe_files
+from exbr_desk import place, runs, safe_files
 from exbr_desk.errors import DeskError
 
 from . import gather, page
@@ -30,6 +30,7 @@ def main(words: list[str] | None = None) -> int:
     asked = parser().parse_args(words)
     if asked.frames < 1:
         raise DeskError("--frames takes a number from 1 on")
+    place.check_place(asked.output)
     run = runs.read(asked.run, asked.folder)
     if not os.path.exists(run.journal):
         raise DeskError(f"{run.journal} isn't there: this topology wasn't run in {run.folder}")
@@ -39,7 +40,7 @@ def main(words: list[str] | None = None) -> int:
 
 
 def write(path: str, text: str) -> None:
-    """Writes the page beside its place first, so that no half of one stands there."""
+    """Writes the page."""
     if path == "-":
         sys.stdout.write(text)
         return

@@ -32,9 +32,10 @@ class Counters:
 
 @dataclass
 class Port:
-    """An external port, as it was at the end of the run."""
+    """An external port, as it was at the end of the run: the first VLANs in which it is, and in how many it is."""
     name: str
     members: list[Member] = field(default_factory=list)
+    vlans: int = 0
     pvid: int = 1
     accept: str = "all"
     filter: bool = False

@@ -6,7 +6,7 @@ from collections import Counter
 from collections.abc import Iterator
 from datetime import datetime, timezone
 
-from exbr_desk import frames, journal, runs
+from exbr_desk import earlier, frames, journal, runs
 from exbr_desk.errors import DeskError
 from exbr_desk.judge import Judge, is_seeded
 from exbr_desk.plain import Configuration
@@ -106,22 +106,25 @@ def devices_of(run: runs.Run) -> list[Device]:
     return [bridge, *(Device(number, ports, NAMES[on]) for number, (on, ports) in sorted(run.topology.extenders.items()))]
 
 
-def vlans_by_port(now: Configuration) -> dict[int, list[Member]]:
-    """The first VLANs of each port."""
+def vlans_by_port(now: Configuration) -> tuple[dict[int, list[Member]], Counter]:
+    """The first VLANs of each port, and in how many it is."""
     found: dict[int, list[Member]] = {}
+    count: Counter = Counter()
     for vid, kinds in sorted(now.vlans.items()):
         for kind, ports in kinds.items():
             for port in ports:
                 them = found.setdefault(port, [])
-                if len(them) <= SHOWN_MEMBERS:
+                count[port] += 1
+                if len(them) < SHOWN_MEMBERS:
                     them.append(Member(vid, kind == "tagged"))
-    return found
+    return found, count
 
 
 def ports_of(seen: Gathering) -> list[Port]:
     """The external ports as they are at the end."""
-    now, members = seen.reading.now, vlans_by_port(seen.reading.now)
-    return [Port(NAMES[port], members.get(port, []), now.rules[port].pvid, now.rules[port].accept, now.rules[port].filter,
+    now = seen.reading.now
+    members, count = vlans_by_port(now)
+    return [Port(NAMES[port], members.get(port, []), count[port], now.rules[port].pvid, now.rules[port].accept, now.rules[port].filter,
                  now.rules[port].isolated, port in now.present, seen.judge.counted[port]) for port in seen.run.topology.external]
 
 
@@ -180,6 +183,13 @@ def disagreements(seen: Gathering) -> list[Notice]:
     if len(faults) > SHOWN_FAULTS:
         found.append(Notice("bad", f"There are {len(faults) - SHOWN_FAULTS:,} more such differences.", is_fault=True))
     return found
+
+
+def unended(seen: Gathering) -> list[Notice]:
+    """What lies there and isn't of this run, and whether the run didn't end."""
+    why = runs.unended(seen.run)
+    found = [Notice("bad", f"{why}. What stands here is of the part before it.", is_fault=True)] if why else []
+    return found + [Notice("note", f"{it}.") for it in seen.judge.notes]
 
 
 def refusals(seen: Gathering) -> list[Notice]:
@@ -259,7 +269,7 @@ def counted(seen: Gathering, ports: list[Port]) -> list[Notice]:
         told = counters_of(seen.run)
     except DeskError as fault:
         return [Notice("bad", f"{fault}.", is_fault=True)]
-    if told is None or seen.broken:
+    if told is None or seen.broken or earlier.is_older(seen.run, seen.run.counters):
         return []
     wrong = [it.name for it in ports if told.get(it.name) != [it.counters.relayed, it.counters.refused, it.counters.ignored, it.counters.left, it.counters.octets]]
     return [Notice("bad", f"The written counters aren't those of the files at {lists.ports(wrong, 12)}.", is_fault=True)] if wrong else []
@@ -290,7 +300,7 @@ def report_of(run: runs.Run, most: int, quiet: bool = False) -> Report:
     progress.end()
     ports = ports_of(seen)
     vlans, every = vlans_of(seen)
-    notices = disagreements(seen) + counted(seen, ports) + refusals(seen) + lost(seen)
+    notices = refusals(seen) + unended(seen) + disagreements(seen) + counted(seen, ports) + lost(seen)
     title = os.path.basename(os.path.abspath(run.folder)) + "/" + os.path.basename(run.topology.path)
     return Report(title, begin_of(seen), devices_of(run), ports, vlans, changes_of(seen), spans_of(seen), notices,
                   seen.rows.data([it.name for it in ports], marked(seen)), seen.rows.choice.words(), is_seeded(run), every)

@@ -54,18 +54,18 @@ def section(name: str, title: str, *content: object) -> Markup:
 
 
 def figure(value: int, words: str, mark: str = "") -> Markup:
-    """A number that one sees first."""
-    return tag("li", tag("b", number(value)), tag("span", words), class_=mark if value else "")
+    """A number that one sees first. A word that ends with `(s)` loses or keeps its s."""
+    return tag("li", tag("b", number(value)), tag("span", words.replace("(s)", "" if value == 1 else "s")), class_=mark if value else "")
 
 
 def figures(report: Report) -> Markup:
     """The numbers of the summary, and what it hides: of those relayed, how many went nowhere."""
     done = [it for it in report.changes if it.done]
     refused = [it for it in report.changes if it.done is False]
-    return tag("ul", figure(report.total("arrived"), "frames arrived"), figure(report.total("left"), "copies left"),
+    return tag("ul", figure(report.total("arrived"), "frame(s) arrived"), figure(report.total("left"), "copy left" if report.total("left") == 1 else "copies left"),
                figure(report.total("refused"), "refused by their port's rules", "hot"), figure(report.total("nobody"), "let in, but for nobody", "hot"),
-               figure(report.total("ignored"), "ignored", "hot"), figure(len(done), "commands took effect"),
-               figure(len(refused), "commands refused", "wrong"), class_="tiles")
+               figure(report.total("ignored"), "ignored", "hot"), figure(len(done), "command(s) took effect"),
+               figure(len(refused), "command(s) refused", "wrong"), class_="tiles")
 
 
 def notices(report: Report) -> Markup:
@@ -118,7 +118,7 @@ def port_row(port: Port, at: int, palette: Palette) -> Markup:
     rules += ["isolated"] if port.isolated else []
     rules += [] if port.present else ["absent"]
     link = tag("a", port.name, href="#frames", data_frames=json.dumps({"port": str(at)}), title=f"The frames of {port.name}")
-    return tag("tr", tag("th", link, scope="row"), tag("td", port.pvid, class_="n"), tag("td", lists.chips(port.members, palette)),
+    return tag("tr", tag("th", link, scope="row"), tag("td", port.pvid, class_="n"), tag("td", lists.chips(port.members, port.vlans, palette)),
                tag("td", ", ".join(rules) or "–"), count(it.arrived), count(it.relayed), count(it.refused), count(it.nobody), count(it.ignored), count(it.left),
                tag("td", octets(it.octets), class_="n" if it.octets else "n zero"),
                tag("td", "; ".join(f"{words}: {number(many)}" for words, many in it.dropped.items()) or "–"))

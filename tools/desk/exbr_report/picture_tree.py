@@ -129,15 +129,15 @@ def vlan_words(port: Port) -> str:
     """The VLANs of a port in few letters."""
     if not port.members:
         return "no VLAN"
-    if len(port.members) > 2:
-        return f"{len(port.members)} VLANs"
+    if port.vlans > 2:
+        return f"{port.vlans} VLANs"
     return " ".join(f"{it.vid}{'t' if it.tagged else ''}" for it in port.members)
 
 
 def spoken(port: Port) -> str:
     """A port in words, for those who hear the page."""
     vlans = ", ".join(f"VLAN {it.vid} {'tagged' if it.tagged else 'untagged'}" for it in port.members[:8]) or "in no VLAN"
-    more = f" and {len(port.members) - 8} more" if len(port.members) > 8 else ""
+    more = f" and {port.vlans - 8} more" if port.vlans > 8 else ""
     state = ("" if port.present else ", absent") + (", isolated" if port.isolated else "")
     return f"Port {port.name}, {vlans}{more}{state}: {port.counters.arrived} frames arrived, {port.counters.left} left"
 

@@ -24,6 +24,13 @@ class Texts:
         return list(self.numbers)
 
 
+def ordinal(number: int) -> str:
+    """`second`, `third`, `4th`, `21st`: which of some frames."""
+    words = {1: "one", 2: "second", 3: "third"}
+    ending = "th" if number % 100 in (11, 12, 13) else {1: "st", 2: "nd", 3: "rd"}.get(number % 10, "th")
+    return words.get(number) or f"{number}{ending}"
+
+
 @dataclass
 class Choice:
     """Which frames a page holds: all where there are at most `most`, else up to half of it that went nowhere, and of those that left
@@ -54,8 +61,8 @@ class Choice:
         half = self.most // 2
         other = (f"all {self.other:,} frames that went nowhere" if self.other <= half
                  else f"the first {half:,} of the {self.other:,} frames that went nowhere")
-        return (f"This page doesn't hold all {self.arrivals:,} frames, so that it stays quick: it has {other}, and of the {self.left:,} others each "
-                f"{self.stride}th. Counters, time line and all else on the page go by all frames. exbr-report --frames N holds more.")
+        return (f"This page doesn't hold all {self.arrivals:,} frames, so that it stays quick: it has {other}, and of the {self.left:,} others every "
+                f"{ordinal(self.stride)}. Counters, time line and all else on the page go by all frames. exbr-report --frames N holds more.")
 
 
 class Rows:

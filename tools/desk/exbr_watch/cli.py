@@ -9,10 +9,11 @@ import time
 from exbr_desk import play
 from exbr_desk.errors import DeskError
 
-from . import process
+from . import causes, process
 from .course import Course, Input, Watch, input_of
 
-ABOUT = """Runs exbr and shows on standard error how far it is. What the program prints, and its status, pass through as they are."""
+ABOUT = """Runs exbr and shows on standard error how far it is. What the program prints, and its status, pass through as they are. Where a file
+couldn't be read or written it says on standard error which one, and why."""
 END = """status: that of the program; 128 and the signal's number where a signal ended it; 2 with a line on standard error where it can't be
 started. Example: exbr-watch -- run topology.toml --trace"""
 TURN = 0.25
@@ -124,4 +125,7 @@ def main(words: list[str] | None = None) -> int:
     finally:
         shown.end()
     status = running.returncode
+    said = causes.cause(status, asked.words, path, path_of_program)
+    if said:
+        print(f"exbr-watch: {said}", file=sys.stderr)
     return status if status >= 0 else 128 - status

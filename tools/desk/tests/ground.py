@@ -16,6 +16,7 @@ DESK = os.path.dirname(TESTS)
 TOOLS = os.path.dirname(DESK)
 TOP = os.path.dirname(TOOLS)
 EXAMPLES = os.path.join(TOP, "examples")
+HEADER = bytes.fromhex("d4c3b2a1020004000000000000000000ffff000001000000")
 PLAYED = ("campus", "first-path", "lossy-links", "office", "private-hosts", "static-group", "too-few-groups")
 if DESK not in sys.path:
     sys.path.insert(0, DESK)

@@ -24,7 +24,7 @@ HERE = os.path.dirname(os.path.abspath(__file__))
 CASES = os.path.join(HERE, "..", "..", "..", "crates", "exb_cases")
 sys.path[:0] = [os.path.join(HERE, ".."), HERE, CASES]
 import generated
-from exbr_desk import choose, progress, runs, why
+from exbr_desk import choose, runs, why
 from planted import PLANTED
 from world.schedule import run as run_world
 
@@ -63,7 +63,7 @@ def write_run(given: Given, folder: str, program: str | None) -> runs.Run:
 def looked_at(run: runs.Run) -> why.Why:
     """The way of each frame of a run."""
     found = why.Why(run, choose.Choice(words={}), 1 << 30)
-    found.go(progress.Progress("", quiet=True))
+    found.go(quiet=True)
     why.in_words(found)
     return found
 
@@ -94,7 +94,7 @@ def one(number: int, program: str | None, faults: bool, told: Counter) -> None:
             sys.exit(f"run {number} doesn't agree: {(found.elsewhere + [it.faults for it in found.answers])[:3]}")
         told["runs"] += 1
         told["frames"] += found.count
-        told["copies that left"] += found.judge.left
+        told["copies that left"] += found.left
         for what in PLANTED if faults else ():
             path, named = plant(folder, what, random.Random(f"{number} {what}"))
             if path is None:

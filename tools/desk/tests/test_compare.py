@@ -102,6 +102,84 @@ class Small(Compare):
         self.assertEqual((done.returncode, "AFTER has frames out of x1.2 for which no record accounts" in done.stdout), (1, True))
 
 
+class Paused(Compare):
+    """A pair that was cut off for a while, and would arrive at the end."""
+
+    DOWN, UP = ("[[command]]\nat = {}\nop = '{}'\nport = 'x1.2'\n".format(*it) for it in ((3, "down"), (7, "up")))
+
+    def compared(self, commands: str, other: str = "", talk: dict = TALK) -> dict:
+        one = self.run_of("one", topology(ALL, other), talk)
+        its = json.loads(self.tool("exbr-compare", one, self.run_of("two", topology(ALL, commands), talk), "--json").stdout)
+        self.text = self.tool("exbr-compare", one, self.path("two")).stdout
+        return its
+
+    def test_down_and_up_again(self):
+        its = self.compared(self.DOWN + self.UP)
+        self.assertEqual((its["loses"], its["gains"]), ([], []))
+        self.assertEqual([(it["source"], it["frames"], it["pause"], it["command"]) for it in its["paused"]],
+                         [("02:00:00:00:00:01", 2, {"from": 3, "to": 7, "by": 1, "again_by": 2}, 1), ("02:00:00:00:00:02", 2, {"from": 3, "to": 7, "by": 1, "again_by": 2}, 1)])
+        self.assertTrue(self.text.startswith("who loses connectivity: nobody\ncut off for a while: 1 pair of stations, from 3 s to 7 s (commands 1, 2); "
+                                             "at the end their frames would arrive\n"), self.text)
+        self.assertIn("cut off from 3 s to 7 s (commands 1, 2); would arrive at the end", self.text)
+
+    def test_down_and_not_up(self):
+        its = self.compared(self.DOWN)
+        self.assertEqual((len(its["loses"]), its["paused"]), (2, []))
+        self.assertEqual({it["command"] for it in its["loses"]}, {1})
+
+    def test_the_other_way_round_nothing_is_gained(self):
+        its = self.compared("", self.DOWN + self.UP)
+        self.assertEqual((its["loses"], its["gains"], [it["frames"] for it in its["more"]]), ([], [], [2, 2]))
+
+    def test_out_of_its_vlan_and_in_again(self):
+        out = "[[command]]\nat = 3\nop = 'unmember'\nvid = 1\nport = 'x1.2'\n[[command]]\nat = 6\nop = 'filter'\nport = 'x1.2'\nfilter = true\n"
+        back = "[[command]]\nat = 8\nop = 'member'\nvid = 1\nport = 'x1.2'\nkind = 'tagged'\n"
+        its = self.compared(out + back)
+        self.assertEqual([it["pause"] for it in its["paused"] if it["source"] == "02:00:00:00:00:01"], [{"from": 3, "to": 8, "by": 1, "again_by": 3}])
+        self.assertEqual([it["source"] for it in self.compared(out)["loses"]], ["02:00:00:00:00:01"])
+
+
+class ByCommand(Compare):
+    """Each lost or gained pair is told with the command that did it."""
+
+    def test_the_campus(self):
+        text, files = self.of_example("campus", ("op",))
+        before, after = self.run_of("before", text, files), self.example("campus")
+        its = json.loads(self.tool("exbr-compare", before, after, "--json").stdout)
+        self.assertEqual([(it["command"], it["loses"], it["gains"]) for it in its["by_command"]], [(1, 4, 0), (2, 0, 1)])
+        self.assertEqual({it["command"] for it in its["loses"]}, {1})
+        self.assertEqual(its["loses"][0]["why"][0]["run"], "after")
+        self.assertTrue(all(isinstance(it["first"][0], str) for it in its["loses"]))
+        back = json.loads(self.tool("exbr-compare", after, before, "--json").stdout)
+        self.assertEqual({(it["run"], it["command"]) for it in back["by_command"]}, {("before", 1), ("before", 2)})
+
+    def test_ranges_of_without(self):
+        exbr = needs_program()
+        folder = self.example("campus")
+        said = [self.tool("exbr-compare", folder, "--without", it, "--program", exbr, "--json").stdout for it in ("1,2,3", "1-3", "1-2,3", "all")]
+        self.assertEqual(len(set(said)), 1)
+        self.assertIn("no command 4", self.refused("exbr-compare", folder, "--without", "2-9", "--program", exbr))
+        for words in ("3-1", "1-", "-3", "1,,2", "1-2-3"):
+            self.assertIn("--without", self.refused("exbr-compare", folder, f"--without={words}", "--program", exbr))
+
+    def test_commands_that_are_left_out_keep_their_numbers(self):
+        """Without command 1 those that follow have other numbers in the run BEFORE; they are told by those of the topology."""
+        exbr = needs_program()
+        folder = self.example("campus")
+        its = json.loads(self.tool("exbr-compare", folder, "--without", "1", "--program", exbr, "--json").stdout)
+        self.assertEqual(its["commands"]["before"]["commits"], [2, 3])
+        self.assertEqual({it["command"] for it in its["by_command"]}, {1})
+
+
+class FirstLine(Compare):
+    def test_refused_commands_and_absent_ports_come_first(self):
+        one, other = self.example("too-few-groups", "one"), self.example("too-few-groups", "other")
+        done = self.tool("exbr-compare", one, other)
+        self.assertTrue(done.stdout.startswith("FIRST: BEFORE: 1 command was refused and changed nothing: 2 (vlan"), done.stdout)
+        its = json.loads(self.tool("exbr-compare", one, other, "--json").stdout)
+        self.assertEqual(its["standing"]["after"]["refused"], [{"command": 2, "cause": "groups 4 3"}])
+
+
 class Examples(Compare):
     def test_campus_without_its_commands(self):
         text, files = self.of_example("campus", ("op",))
@@ -111,7 +189,7 @@ class Examples(Compare):
         lines = done.stdout.splitlines()
         self.assertEqual(lines[0], "who loses connectivity: 1 pair of stations and 3 pairs of ports (frames to all)")
         self.assertLessEqual(lines.index(""), 10)
-        self.assertIn("  x4.1 -> x3.2, frames to all: VLAN 20: 1 frame (x4.1:1); now it is flooded in VLAN 20, without that port", lines)
+        self.assertIn("  x4.1 -> x3.2, frames to all: VLAN 20: 1 frame (x4.1:1); now it is flooded in VLAN 20, without that port (command 1)", lines)
 
     def test_without_runs_the_program(self):
         exbr = needs_program()

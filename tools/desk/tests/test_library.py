@@ -99,9 +99,9 @@ class Topologies(unittest.TestCase):
                            (x1 + "[[vlan]]\nvid = 3\nlast = 2", "Range at vlan[0].last"),
                            (x1 + "[[vlan]]\nvid = 1\nlast = 3\n[[vlan]]\nvid = 2", "Repeat at vlan[1].vid"),
                            (x1 + "[[static]]\nvid = 1\nmac = '02-00:00-00-00-01'\nports = []", "Name at static[0].mac"),
-                           (x1 + "[[command]]\nat = 0\nop = 'jump'", "Name at command[0].op"), (x1 + "[[command]]\nat = 0", "Missing at command[0].op"),
-                           (x1 + "[[command]]\nat = 0\nop = 'up'\nport = 'b2'\nvid = 3", "Unknown at command[0].vid"),
-                           (x1 + "[[command]]\nat = 2\nop = 'up'\nport = 'b2'\n[[command]]\nat = 1\nop = 'up'\nport = 'b2'", "Range at command[1].at"),
+                           (x1 + "[[command]]\nat = 0\nop = 'jump'", "Name at command[0].op (command 1)"), (x1 + "[[command]]\nat = 0", "Missing at command[0].op (command 1)"),
+                           (x1 + "[[command]]\nat = 0\nop = 'up'\nport = 'b2'\nvid = 3", "Unknown at command[0].vid (command 1)"),
+                           (x1 + "[[command]]\nat = 2\nop = 'up'\nport = 'b2'\n[[command]]\nat = 1\nop = 'up'\nport = 'b2'", "Range at command[1].at (command 2)"),
                            (x1 + "[captures]\nx1.1 = 'a'", "Name at captures.x1 (a port of an extender needs quotes there)"),
                            (x1 + "[captures]\nb1 = 'a'", "UnknownPort at captures.b1"),
                            (x1 + "[captures]\nb2 = 'out-b2.pcap'", "Repeat at captures.b2 (a run would write over this file)")):

@@ -163,7 +163,7 @@ class Faults(ground.InFolder):
         os.remove(os.path.join(folder, "in-b4.pcap"))
         self.assert_line(self.page(folder), 2, "in-b4.pcap")
         self.assert_line(self.page(self.played("office"), "--frames", "0"), 2, "--frames")
-        self.assert_line(ground.tool("exbr-report", self.played("lossy-links"), "-o", self.path("no", "where")), 2, "No such file")
+        self.assert_line(ground.tool("exbr-report", self.played("lossy-links"), "-o", self.path("no", "where")), 2, "there is no folder")
         self.assert_line(ground.tool("exbr-report"), 2, "usage")
         self.assert_line(ground.tool("exbr-report", "--help"), 0)
 
@@ -188,7 +188,7 @@ class Large(ground.InFolder):
         taken = [choice.takes(LEFT if at % 10 else NOWHERE if at % 20 else IGNORED) for at in range(1000)]
         self.assertEqual(sum(taken[0::10]), 50)
         self.assertEqual(sum(taken) - 50, 45)
-        self.assertIn("the first 50 of the 100 frames that went nowhere, and of the 900 others each 20th", choice.words())
+        self.assertIn("the first 50 of the 100 frames that went nowhere, and of the 900 others every 20th", choice.words())
         few = Choice(100, 100)
         self.assertTrue(all(few.takes(LEFT) for _ in range(100)))
         self.assertEqual(few.words(), "")

@@ -1,9 +1,11 @@
 """exbr-watch: what it takes from the system, what it shows, and what passes through."""
 import os
+import subprocess
 import sys
 import unittest
 
 import ground
+from exbr_desk import captures
 from exbr_watch import cli, course, process
 
 SLOW = """import sys, time
@@ -14,6 +16,52 @@ for turn in range(2):
 print("arrivals", *sys.argv[1:])
 sys.exit(7)
 """
+
+
+TWO = '[bridge]\nports = 2\n[captures]\n"b1" = "in.pcap"\n'
+
+
+class Causes(ground.InFolder):
+    """The file that a run couldn't read or write, over the program itself where it is there."""
+
+    def watched(self, *words: str) -> subprocess.CompletedProcess:
+        program = os.environ.get("EXBR_PROGRAM") or os.path.join(ground.TOP, "dist", "exbr")
+        if not os.access(program, os.X_OK):
+            self.skipTest("no program: set EXBR_PROGRAM")
+        return ground.process("exbr-watch", "--program", program, "--", *(words or ("run", "topology.toml")), cwd=self.folder)
+
+    def test_what_can_not_be_read(self):
+        self.write("topology.toml", TWO)
+        os.mkdir(self.path("in.pcap"))
+        done = self.watched()
+        self.assertEqual((done.returncode, done.stdout, done.stderr), (6, "exbr: read fault\n", "exbr-watch: in.pcap: it isn't a file of the disk\n"))
+
+    def test_what_can_not_be_written(self):
+        self.write("topology.toml", TWO)
+        self.write("in.pcap", captures.HEADER)
+        os.mkdir(self.path("out-b2.pcap"))
+        done = self.watched()
+        self.assertEqual((done.returncode, done.stdout, done.stderr), (7, "exbr: write fault\n", "exbr-watch: out-b2.pcap: Is a directory\n"))
+        os.rmdir(self.path("out-b2.pcap"))
+        self.write("topology.toml", TWO.replace("[captures]", 'out = "there/"\n[captures]'))
+        done = self.watched()
+        self.assertEqual((done.returncode, done.stderr), (7, "exbr-watch: there/b1.pcap: No such file or directory\n"))
+        self.assertFalse(os.path.exists(self.path("there")))
+
+    def test_of_a_net(self):
+        self.write("net.toml", '[[bridge]]\nname = "one"\ntopology = "topology.toml"\n[[bridge]]\nname = "two"\ntopology = "second.toml"\n')
+        self.write("topology.toml", TWO)
+        self.write("second.toml", "[bridge]\nports = 1\n")
+        self.write("in.pcap", captures.HEADER)
+        os.mkdir(self.path("two-b1.pcap"))
+        done = self.watched("net", "net.toml")
+        self.assertEqual((done.returncode, done.stderr), (7, "exbr-watch: two-b1.pcap: Is a directory\n"))
+
+    def test_the_number_of_a_command(self):
+        self.write("topology.toml", "[bridge]\nports = 2\n" + "[[command]]\nat = {}\nop = 'up'\nport = 'b2'\n".format(2) + "[[command]]\nat = 1\nop = 'up'\nport = 'b2'\n")
+        done = self.watched()
+        self.assertEqual((done.returncode, done.stdout), (3, "exbr: topology: Range at command[1].at\n"))
+        self.assertEqual(done.stderr, "exbr-watch: command[1] is command 2, as journals and tools count them\n")
 
 
 class Courses(unittest.TestCase):

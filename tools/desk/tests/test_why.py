@@ -177,13 +177,13 @@ class Broken(FolderTest):
                             (["b9"], "a frame is named"), (["color=red"], "no such word"), (["vlan=4095"], "a VLAN is 1 to 4094"),
                             (["src=1:2"], "an address is six pairs"), (["type=foo"], "a type is one of"), (["rule=luck"], "the rules are"),
                             ([], "no frame is named"), (["src=02:00:00:00:00:77"], "no frame fits"), (["--all", "x1.1:1"], "--all goes over"),
-                            (["--limit", "0", "x1.1:1"], "--limit is at least 1"), (["vlan=1", "vlan=2"], "vlan= is given twice")):
+                            (["--limit", "-1", "x1.1:1"], "--limit is 0 or more"), (["vlan=1", "vlan=2"], "vlan= is given twice")):
             self.assertIn(line, self.refused("exbr-why", *words, at=folder), words)
 
     def test_broken_files(self):
         for name, data, line in (("topology.toml", b"\xff", "NotToml"), ("topology.toml", b"[bridge]\nports = 0\n", "Range at bridge.ports"),
                                  ("in-x1.1.pcap", b"hello", "in-x1.1.pcap: NotPcap at 0"), ("out-x1.2.pcap", b"\xd4\xc3\xb2\xa1", "out-x1.2.pcap: Cut at 0"),
-                                 ("out-journal.txt", b"settled", "out-journal.txt: line 1 has no end"), ("out-trace.txt", b"in x1 up zz\n", "no line of a trace")):
+                                 ("out-journal.txt", b"settled", "out-journal.txt ends within a line: this run didn't end"), ("out-trace.txt", b"in x1 up zz\n", "no line of a trace")):
             folder = self.example("office")
             self.write(f"office/{name}", data)
             self.assertIn(line, self.refused("exbr-why", "x1.1:1", at=folder))
