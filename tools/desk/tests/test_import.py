@@ -113,7 +113,7 @@ class OfLinux(ground.InFolder):
                             (["--link", self.write("b", "{}")], "ip -j -d link"), (["--link", nothing], "there is no bridge in it"),
                             (["--link", good], "--vlan FILE"), (["--link", good, "--bridge", "br9"], "there is no bridge br9; bridges: br0"),
                             (["--link", self.write("c", two)], "name one by --bridge: br0, br1"), (["--link", self.write("d", json.dumps([bridge()]))], "no ports"),
-                            (["--link", good, "--vlan", self.write("e", bad_vlan)], "a VLAN isn't in 1 to 4094"), ([], "name --link FILE"),
+                            (["--link", good, "--vlan", self.write("e", bad_vlan)], "a VLAN isn't in 1 to 4094"), ([], "name --nxos FILE"),
                             (["--captures", self.folder, "--host"], "need --link"), (["--link", good, "--vlan", nothing, "--extenders", "65"], "1 to 64"),
                             (["--link", answer("plain-link"), "-o", self.path("no", "where")], "No such file"),
                             (["--link", self.write("f", b"\xff\xfe")], "it isn't JSON")):

@@ -1,0 +1,49 @@
+"""How many ports extenders have, which no running configuration says: from options, from `show fex detail`, or from the interfaces that are named."""
+import re
+
+from exbr_desk.errors import DeskError
+
+from . import lines
+
+FEX = re.compile(r"FEX:\s*(\d{1,4})\b", re.IGNORECASE)
+HOST = re.compile(r"Eth(?:ernet)?(\d{1,4})/(\d+)/(\d{1,4})\b", re.IGNORECASE)
+
+
+def of_words(words: list[str]) -> dict[int, int]:
+    """The numbers of ports that `--fex 101=48` says, each for some extenders (`101-112=48`)."""
+    found: dict[int, int] = {}
+    for word in words:
+        it = re.fullmatch(r"(\d{1,3})(?:-(\d{1,3}))?=(\d{1,2})", word)
+        if not it or not 1 <= int(it[3]) <= 64:
+            raise DeskError(f"--fex {word[:40]}: it is as 101=48 or 101-112=48, and an extender has 1 to 64 ports")
+        found |= {number: int(it[3]) for number in range(int(it[1]), int(it[2] or it[1]) + 1)}
+    return found
+
+
+def of_detail(path: str) -> dict[int, int]:
+    """The numbers of ports that `show fex detail` lists."""
+    text = lines.text_of(path)
+    known = {int(it) for it in FEX.findall(text)}
+    found: dict[int, int] = {}
+    for box, _, slot in HOST.findall(text):
+        if int(box) in known:
+            found[int(box)] = max(found.get(int(box), 0), int(slot))
+    if not found:
+        raise DeskError(f"{path}: it lists no ports of extenders; make it with: show fex detail")
+    wrong = [it for it, many in found.items() if not 1 <= many <= 64]
+    if wrong:
+        raise DeskError(f"{path}: FEX {wrong[0]} has more than 64 ports, and an extender has 64 at most here")
+    return found
+
+
+def count(number: int, told: dict[int, int], seen: int, notes: list[str], what: str, form: str) -> int:
+    """How many ports an extender has, or 0 where nothing says it."""
+    if number in told:
+        if seen > told[number]:
+            raise DeskError(f"{what} {number} has {told[number]} ports by what was named, and the file has {form.format(number, seen)}")
+        return told[number]
+    if seen > 64:
+        raise DeskError(f"{what} {number} has {seen} ports by its interfaces, and an extender has 64 at most here")
+    if seen:
+        notes.append(f"{what} {number} has {seen} ports here, by the interfaces of the file; --fex {number}=48 says how many it has")
+    return seen
