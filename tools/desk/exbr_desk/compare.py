@@ -10,7 +10,7 @@ import tempfile
 from dataclasses import dataclass
 from typing import Iterator
 
-from . import differ, frames, play, runs
+from . import differ, frames, names, play, runs
 from .differ import Counted, Differences, Pair
 from .errors import DeskError
 from .explain import counted
@@ -237,6 +237,7 @@ def words_of(words: list[str] | None) -> argparse.Namespace:
     parser.add_argument("--limit", type=int, default=200, metavar="N", help="how many lines each part of the detail has (default 200, 0: all)")
     parser.add_argument("--brief", action="store_true", help="the first lines alone, without detail")
     parser.add_argument("--json", action="store_true", help="all of it for programs")
+    names.option(parser)
     return parser.parse_args(words)
 
 
@@ -270,13 +271,14 @@ def compared(before: runs.Run, after: runs.Run) -> Differences:
 
 
 def show(found: Differences, asked: argparse.Namespace) -> int:
+    called = names.of(asked.before, asked.names)
     if asked.json:
-        print(json.dumps(in_json(found), indent=1))
+        print(json.dumps(in_json(found) | called.json(), indent=1))
     else:
         for line in summary(found):
-            print(line)
+            print(called.speak(line))
         for line in () if asked.brief else detail(found, asked.limit):
-            print(line)
+            print(called.speak(line))
     sys.stdout.flush()
     return 1 if found.differs else 0
 

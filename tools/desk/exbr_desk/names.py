@@ -78,8 +78,7 @@ class Names:
         exact = [place for place, it in self.ports.items() if word.lower() in (it.interface.lower(), it.description.lower())]
         if len(exact) == 1:
             return exact[0]
-        found = [place for place, it in self.ports.items() if is_called(word, it.interface)]
-        return found[0] if len(found) == 1 else None
+        return self._captured(word)
 
     def heard(self, word: str) -> str:
         """A word of a user with its port by place: `Ethernet101/1/7:3` and `port=web-01` as `x1.7:3` and `port=x1.7`."""
@@ -103,11 +102,16 @@ class Names:
     def _captured(self, stem: str) -> str | None:
         if stem in self.ports:
             return stem
-        them = {place for place, it in self.ports.items() if any(is_called(stem, one) for one in (it.interface, *it.members))}
-        return them.pop() if len(them) == 1 else None
+        of = [place for place, it in self.ports.items() if any(is_called(stem, one) for one in it.members)]
+        of = of or [place for place, it in self.ports.items() if is_called(stem, it.interface)]
+        return of[0] if len(of) == 1 else None
 
     def json(self) -> dict:
-        """The names, for programs."""
+        """The names, for programs: the key `names` of an answer in JSON, or nothing where there are none."""
+        return {"names": self.table()} if self.ports else {}
+
+    def table(self) -> dict:
+        """The names by port."""
         return {place: {key: value for key, value in vars(it).items() if value} for place, it in self.ports.items()}
 
 

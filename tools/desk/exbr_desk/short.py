@@ -37,3 +37,17 @@ def folded(names: list[str]) -> str:
             rest.append(name)
     found = [f"{head}{ranges(numbers).replace(',', f', {head}')}" for head, numbers in sorted(heads.items(), key=lambda it: natural(it[0]))]
     return ", ".join(found + rest)
+
+
+def compact(names: list[str]) -> str:
+    """The same where several cards have the same numbers: `Ethernet101-112/1/1-32`."""
+    same: dict[tuple[str, str], list[int]] = {}
+    rest: list[str] = []
+    heads: dict[str, list[str]] = {}
+    for part in folded(names).split(", "):
+        it = re.fullmatch(r"(.*?)(\d+)(/\d+/|/)([\d-]+)", part)
+        heads.setdefault(it[1] + it[2] + it[3], []).append(it[4]) if it else rest.append(part)
+    for head, tails in heads.items():
+        it = re.fullmatch(r"(.*?)(\d+)(/\d+/|/)", head)
+        same.setdefault((it[1], it[3] + ",".join(tails)), []).append(int(it[2]))
+    return ", ".join([f"{kind}{ranges(boxes)}{tails}" for (kind, tails), boxes in same.items()] + rest)

@@ -6,7 +6,7 @@ import json
 import sys
 from dataclasses import dataclass, field
 
-from . import choose, explain, frames, plain, runs, trace
+from . import choose, explain, frames, names, plain, runs, trace
 from .errors import DeskError
 from .judge import Fault, Judge, seconds
 from .progress import Progress
@@ -178,6 +178,7 @@ def words_of(words: list[str] | None) -> argparse.Namespace:
     parser.add_argument("--all", action="store_true", help="no frame, but all differences between the files and the rules")
     parser.add_argument("--limit", type=int, default=5, metavar="N", help="how many frames are told where more fit (default 5)")
     parser.add_argument("--json", action="store_true", help="the same for programs")
+    names.option(parser)
     return parser.parse_args(words)
 
 
@@ -188,7 +189,8 @@ def main(words: list[str] | None = None) -> int:
     if asked.limit < 1:
         raise DeskError("--limit is at least 1")
     run = runs.whole(asked.run, asked.folder)
-    choice = None if asked.all else choose.choice(run, asked.frame, asked.filter)
+    called = names.of(asked.run, asked.names)
+    choice = None if asked.all else choose.choice(run, [called.heard(it) for it in asked.frame], asked.filter)
     progress = Progress("frames followed", run.arrivals)
     why = Why(run, choice, asked.limit)
     try:
@@ -197,6 +199,6 @@ def main(words: list[str] | None = None) -> int:
         progress.end()
     if choice is not None and not why.answers:
         raise DeskError(f"no frame fits; {why.count} frames came")
-    print(json.dumps(in_json(why), indent=1) if asked.json else "\n".join(in_words(why)))
+    print(json.dumps(in_json(why) | called.json(), indent=1) if asked.json else called.speak("\n".join(in_words(why))))
     sys.stdout.flush()
     return 0 if why.agrees else 1

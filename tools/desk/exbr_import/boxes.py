@@ -2,8 +2,10 @@
 import re
 
 from exbr_desk.errors import DeskError
+from exbr_desk.short import compact, folded, ranges
 
 from . import lines
+from .switch import Port
 
 FEX = re.compile(r"FEX:\s*(\d{1,4})\b", re.IGNORECASE)
 HOST = re.compile(r"Eth(?:ernet)?(\d{1,4})/(\d+)/(\d{1,4})\b", re.IGNORECASE)
@@ -36,8 +38,8 @@ def of_detail(path: str) -> dict[int, int]:
     return found
 
 
-def count(number: int, told: dict[int, int], seen: int, notes: list[str], what: str, form: str) -> int:
-    """How many ports an extender has, or 0 where nothing says it."""
+def count(number: int, told: dict[int, int], seen: int, guessed: dict[int, list[int]], what: str, form: str) -> int:
+    """How many ports an extender has, or 0 where nothing says it. What is told by its interfaces alone is noted in `guessed`, by how many."""
     if number in told:
         if seen > told[number]:
             raise DeskError(f"{what} {number} has {told[number]} ports by what was named, and the file has {form.format(number, seen)}")
@@ -45,5 +47,31 @@ def count(number: int, told: dict[int, int], seen: int, notes: list[str], what: 
     if seen > 64:
         raise DeskError(f"{what} {number} has {seen} ports by its interfaces, and an extender has 64 at most here")
     if seen:
-        notes.append(f"{what} {number} has {seen} ports here, by the interfaces of the file; --fex {number}=48 says how many it has")
+        guessed.setdefault(seen, []).append(number)
     return seen
+
+
+def notes(what: str, guessed: dict[int, list[int]], links: dict[int, list[str]], link: str) -> list[str]:
+    """What a reader should know of extenders: how many ports they have where that is a guess, and further links."""
+    found = [f"{what} {ranges(them)} {has(them)} {many} ports here, by the interfaces of the file; --fex {min(them)}=48 says how many there are"
+             for many, them in sorted(guessed.items())]
+    more = {number: them for number, them in links.items() if len(them) > 1}
+    if more:
+        first = folded([them[0] for them in more.values()])
+        found.append(f"{what} {ranges(list(more))} {has(list(more))} several {link}s ({compact([it for them in more.values() for it in them])}): here "
+                     f"one each, {first}. The failover of a link can't be tried")
+    return found
+
+
+def has(them: list[int]) -> str:
+    """A verb for one or several."""
+    return "has" if len(them) == 1 else "have"
+
+
+def joined(ports: list[Port]) -> list[str]:
+    """What a reader should know of ports that are made of several interfaces."""
+    them = [it for it in ports if it.members and not it.why]
+    if not them:
+        return []
+    said = ", ".join(f"{it.name} (of {folded(list(it.members))})" for it in them)
+    return [f"{said}: one port {'here' if len(them) == 1 else 'each here'}, with the captures of its members merged; the failover of a member can't be tried"]

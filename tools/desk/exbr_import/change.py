@@ -41,7 +41,7 @@ class Step:
 
     def shown(self) -> str:
         """What the step is for, with its ports."""
-        names = [it.shown for it in self.ports] if len(self.ports) <= 3 else [numbers.folded([it.name for it in self.ports])]
+        names = [it.shown for it in self.ports] if len(self.ports) <= 3 else [numbers.compact([it.name for it in self.ports])]
         return f"{', '.join(names)}: {self.what}" if names else self.what
 
 
@@ -119,14 +119,23 @@ def purpose(one: Port, other: Port, gone: list[int], come: list[int]) -> str:
     elif mode(one) != mode(other):
         parts.append(f"{mode(one)} → {mode(other)}")
     else:
-        parts += [f"no VLAN {numbers.ranges(gone)} any more"] if gone else []
-        parts += [f"VLAN {numbers.ranges(come)} comes"] if come else []
-        if (one.pvid, one.accepts) != (other.pvid, other.accepts) and not is_access(other):
-            parts.append(f"native VLAN {one.pvid or 'none'} → {other.pvid or 'none'}")
+        parts += moved(one, other, gone, come)
     parts += [["isolation ends", "isolated"][other.isolated]] if one.isolated != other.isolated else []
     if one.is_up != other.is_up and not other.why and not one.why:
         parts.append("no shutdown" if other.is_up else "shutdown")
     return ", ".join(parts) or "rules of the port"
+
+
+def moved(one: Port, other: Port, gone: list[int], come: list[int]) -> list[str]:
+    """The VLANs that a port gets and loses, and its native VLAN."""
+    before, natives = kinds(one), {one.pvid, other.pvid}
+    new, turned = [vid for vid in come if vid not in before], [vid for vid in come if vid in before and vid not in natives]
+    parts = [f"no VLAN {numbers.ranges(gone)} any more"] if gone else []
+    parts += [f"VLAN {numbers.ranges(new)} comes"] if new else []
+    parts += [f"VLAN {numbers.ranges(turned)} {kinds(other)[turned[0]]} now"] if turned else []
+    if (one.pvid, one.accepts) != (other.pvid, other.accepts) and not is_access(other):
+        parts.append(f"native VLAN {one.pvid or 'none'} → {other.pvid or 'none'}")
+    return parts
 
 
 def is_access(port: Port) -> bool:
@@ -150,8 +159,8 @@ def of_vlans(wide: dict[int, dict[str, str | None]], mine: dict[str, Port], its:
     for change, vids in same.items():
         come, gone = [its[place] for place, kind in change if kind], [mine[place] for place, kind in change if not kind]
         named = numbers.ranges(vids) + (f" ({after.vlan_names[vids[0]]})" if len(vids) == 1 and vids[0] in after.vlan_names else "")
-        parts = [f"comes to {numbers.folded([it.name or it.place for it in come])}"] if come else []
-        parts += [f"leaves {numbers.folded([it.name or it.place for it in gone])}"] if gone else []
+        parts = [f"comes to {numbers.compact([it.name or it.place for it in come])}"] if come else []
+        parts += [f"leaves {numbers.compact([it.name or it.place for it in gone])}"] if gone else []
         found.append(Unit(f"VLAN {named} {', '.join(parts)}", [], [{"op": "vlan", "vid": vid, "change": dict(change)} for vid in vids]))
     return found
 

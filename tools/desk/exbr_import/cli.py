@@ -98,8 +98,8 @@ def check(asked: argparse.Namespace, its: page.Change, made: str, later: Switch)
         except DeskError:
             if asked.program:
                 raise
-    its.differs = ends.ends(made, text.topology(later), exbr)
-    how = "Played by exbr to the end with probes at each port" if exbr else "By the rules, and not played, since no program was asked"
+    its.differs, was_played = ends.ends(made, text.topology(later), exbr)
+    how = "Played by exbr to the end with probes at each port" if was_played else "By the rules alone (exbr didn't play it)"
     its.checked = (f"{how}, the configuration is that of {later.file or 'the later one'}, and no command is refused." if not its.differs else
                    f"{how}, the end is **not** as {later.file or 'the later configuration'} has it:")
 

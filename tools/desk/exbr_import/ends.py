@@ -17,13 +17,18 @@ from exbr_desk.short import ranges
 
 START, PROBE = 1_000_000_000, b"\x88\xb5exbr probe"
 QUIET = bytes.fromhex("0180c200000e")
-MOST = 400_000
+MOST, MEMORY = 2_000_000, "/dev/shm"
 
 
-def ends(one: str, other: str, exbr: str | None) -> list[str]:
-    """What differs between two topologies at their ends, in lines; none where they mean the same. Without a program by the rules alone."""
-    found = differences(topology.of_text(one), topology.of_text(other))
-    return found or (played(one, other, exbr) if exbr else [])
+def ends(one: str, other: str, exbr: str | None) -> tuple[list[str], bool]:
+    """What differs between two topologies at their ends, in lines, none where they mean the same; and whether the program played them. Without
+    a program, and where it would write too much, the rules alone are asked."""
+    both = [topology.of_text(one), topology.of_text(other)]
+    found = differences(*both)
+    frames = probes(both) if exbr else {}
+    if found or not exbr or copies(both, frames) > MOST:
+        return found, False
+    return played(both, frames, exbr), True
 
 
 def at_end(given: topology.Topology) -> plain.Configuration:
@@ -124,13 +129,18 @@ def probe(port: int, vid: int) -> bytes:
     return (b"\xff" * 6 + struct.pack(">HHH", 0x02EE, port, vid) + tag + PROBE).ljust(60, b"\0")
 
 
-def played(one: str, other: str, exbr: str) -> list[str]:
+def copies(both: list[topology.Topology], frames: dict[int, list[tuple[int, bytes]]]) -> int:
+    """How many copies of probes leave at most."""
+    ends = [at_end(it) for it in both]
+    many = {vid: sum(map(len, kinds.values())) for it in ends for vid, kinds in it.vlans.items()}
+    most = max(many.values(), default=0)
+    return sum(many.get(struct.unpack(">H", frame[10:12])[0], most) for records in frames.values() for _, frame in records)
+
+
+def played(both: list[topology.Topology], frames: dict[int, list[tuple[int, bytes]]], exbr: str) -> list[str]:
     """What differs between what leaves in two runs of the program, and what the first one refused."""
-    both = [topology.of_text(one), topology.of_text(other)]
-    frames = probes(both)
-    if sum(map(len, frames.values())) > MOST:
-        return []
-    with tempfile.TemporaryDirectory(prefix="exbr-import-") as folder:
+    # The program brings all it writes to the disk, which takes long for many ports. So it writes into memory, where there is such a folder.
+    with tempfile.TemporaryDirectory(prefix="exbr-import-", dir=MEMORY if os.access(MEMORY, os.W_OK) else None) as folder:
         for port, records in frames.items():
             with open(os.path.join(folder, f"p-{plain.name_of(port)}.pcap"), "wb") as file:
                 file.write(plain.capture_of(records))

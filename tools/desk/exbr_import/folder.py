@@ -4,7 +4,7 @@ from collections import defaultdict
 
 from exbr_desk import captures, frames, names, plain
 from exbr_desk.errors import DeskError
-from exbr_desk.short import folded, natural, ranges
+from exbr_desk.short import compact, natural, ranges
 
 from .outputs import Outputs
 from .switch import Port, Switch
@@ -70,13 +70,14 @@ def give(switch: Switch, folder: str, to: str, outputs: Outputs) -> None:
     switch.lost += [f"{len(lost) - MOST} more captures of no port that is known"] if len(lost) > MOST else []
     without = [it.name or it.place for it in switch.ports if not it.capture and not it.why]
     if without:
-        switch.notes.append(f"nothing arrives at {few(without)}: there is no capture of it")
+        many = sum(not it.why for it in switch.ports)
+        switch.notes.append(f"nothing arrives at {f'{len(without)} of {many} ports, ' if len(without) > 12 else ''}{few(without)}: there is no capture of it")
     look(switch, {it.name or it.place: [os.path.join(folder, one) for one in captures[it.place]] for it in switch.ports if it.capture})
 
 
 def few(them: list[str]) -> str:
     """Names in short, and of very many the first ones."""
-    parts = folded(them).split(", ")
+    parts = compact(them).split(", ")
     return ", ".join(parts[:12]) + (" and others" if len(parts) > 12 else "")
 
 

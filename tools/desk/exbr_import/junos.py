@@ -31,6 +31,8 @@ class Maker:
         self.private = {vid for it in read.vlans.values() if it.kind for vid in it.vids}
         self.missing: dict[str, list[str]] = {}
         self.members: dict[str, list[str]] = {}
+        self.guessed: dict[int, list[int]] = {}
+        self.links: dict[int, list[str]] = {}
 
     def made(self) -> Switch:
         """The switch."""
@@ -72,15 +74,13 @@ class Maker:
         """One satellite."""
         its = self.read.satellites.get(number)
         told = {number: max(self.ports_of[number], seen)} if number in self.ports_of else {}
-        ports = boxes.count(number, told, seen, self.found.notes, "satellite", "port {1} of {0}")
+        ports = boxes.count(number, told, seen, self.guessed, "satellite", "port {1} of {0}")
         if not ports:
             self.found.notes.append(f"satellite {number} has no interface in the file, so it is left out; --fex {number}=48 says how many it has")
             return
         links = sorted(set(its.on), key=numbers.natural) if its else []
         self.found.boxes[number] = Box(links[0] if links else "", ports, its.alias if its else "", its.line if its else 0, f"satellite {number}")
-        if len(links) > 1:
-            self.found.notes.append(f"satellite {number} has {len(links)} cascade ports ({numbers.folded(links)}): here it has one, {links[0]}. "
-                                    "The failover of a link can't be tried")
+        self.links[number] = links
         if not links:
             self.found.notes.append(f"satellite {number} has no cascade port: its ports are down here")
 
@@ -182,11 +182,7 @@ class Maker:
             found.notes.append(f"line {line}: an ageing time of {told} s is {found.ageing} s here")
         for name, ports in self.missing.items():
             found.notes.append(f"VLAN {name} of {numbers.folded(ports)} isn't defined: nothing passes there")
-        for it in found.ports:
-            if it.members and not it.why:
-                captures = " and the captures of its members are merged" if len(it.members) > 1 else ""
-                found.notes.append(f"{it.name} of {numbers.folded(list(it.members))} is one port here,{captures}"
-                                   f"{';' if captures else ''} the failover of a member can't be tried")
+        found.notes += boxes.notes("satellite", self.guessed, self.links, "cascade port") + boxes.joined(found.ports)
 
 
 def switch_of(path: str, ports_of: dict[int, int]) -> Switch:

@@ -43,7 +43,7 @@ def where(them: list[Left]) -> str:
         head, _, names = it.where.partition(" ")
         if head:
             heads.setdefault(head.rstrip("s") if head in ("interfaces", "VLANs") else head, []).extend(expanded(names))
-    return ", ".join(f"{head}{'s' if len(set(names)) > 1 and head in ('interface', 'VLAN') else ''} {numbers.folded(names)}" for head, names in heads.items())
+    return ", ".join(f"{head}{'s' if len(set(names)) > 1 and head in ('interface', 'VLAN') else ''} {numbers.compact(names)}" for head, names in heads.items())
 
 
 def expanded(names: str) -> list[str]:

@@ -3,9 +3,9 @@ import ipaddress
 import re
 
 from exbr_desk.errors import DeskError
-from exbr_desk.short import folded, natural, ranges, runs
+from exbr_desk.short import compact, folded, natural, ranges, runs
 
-__all__ = ["EVERY", "folded", "group", "mac", "natural", "ranges", "runs", "vlan", "vlans"]
+__all__ = ["EVERY", "compact", "folded", "group", "mac", "natural", "ranges", "runs", "vlan", "vlans"]
 EVERY = frozenset(range(1, 4095))
 
 

@@ -101,6 +101,8 @@ class Maker:
         self.there = {vid for vid, it in read.vlans.items() if not it.is_off}
         self.missing: dict[tuple, list[str]] = {}
         self.members: dict[int, list[str]] = {}
+        self.guessed: dict[int, list[int]] = {}
+        self.links: dict[int, list[str]] = {}
 
     def settings(self, name: str) -> Settings:
         """What is set at an interface. What its profile sets comes first, as the switch has it."""
@@ -147,30 +149,26 @@ class Maker:
 
     def hang(self) -> None:
         """Where extenders hang: on the first of the interfaces that are associated with each."""
-        links: dict[int, list[str]] = {}
         for name, it in self.set.items():
             if it.fex is not None and not name.startswith("port-channel"):
-                links.setdefault(it.fex, []).append(name)
+                self.links.setdefault(it.fex, []).append(name)
         seen: dict[int, int] = {}
         for name in self.set:
             box = box_of(name)
             if box:
                 seen[box[0]] = max(seen.get(box[0], 0), box[1])
-        for number in sorted(self.read.fexes.keys() | links.keys() | seen.keys()):
-            self.hang_one(number, links.get(number, []), seen.get(number, 0))
+        for number in sorted(self.read.fexes.keys() | self.links.keys() | seen.keys()):
+            self.hang_one(number, self.links.get(number, []), seen.get(number, 0))
 
     def hang_one(self, number: int, links: list[str], seen: int) -> None:
         """One extender."""
         fex = self.read.fexes.get(number)
-        ports = boxes.count(number, self.ports_of, seen, self.found.notes, "FEX", "Ethernet{}/1/{}")
+        ports = boxes.count(number, self.ports_of, seen, self.guessed, "FEX", "Ethernet{}/1/{}")
         if not ports:
             self.found.notes.append(f"FEX {number} has no host interface in the file, so it is left out; --fex {number}=48 says how many it has")
             return
         its = Box(links[0] if links else "", ports, fex.description if fex else "", fex.line if fex else 0, f"FEX {number}")
         self.found.boxes[number] = its
-        if len(links) > 1:
-            self.found.notes.append(f"FEX {number} has {len(links)} fabric links ({numbers.folded(links)}): here it has one, on {links[0]}. "
-                                    "The failover of a link can't be tried")
         if not links:
             self.found.notes.append(f"FEX {number} hangs on no interface (no `fex associate {number}`): its ports are down here")
 
@@ -302,11 +300,7 @@ class Maker:
             one = len(vids) == 1
             found.notes.append(f"VLAN{'' if one else 's'} {numbers.ranges(vids)} of {numbers.folded(names)} {'is' if one else 'are'} "
                                f"not defined by `vlan`, or {'is' if one else 'are'} off: nothing passes there")
-        for it in found.ports:
-            if it.members and not it.why:
-                captures = " and the captures of its members are merged" if len(it.members) > 1 else ""
-                found.notes.append(f"{it.name} of {numbers.folded(list(it.members))} is one port here,{captures}"
-                                   f"{';' if captures else ''} the failover of a member can't be tried")
+        found.notes += boxes.notes("FEX", self.guessed, self.links, "fabric link") + boxes.joined(found.ports)
 
 
 def switch_of(path: str, ports_of: dict[int, int]) -> Switch:

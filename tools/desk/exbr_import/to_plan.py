@@ -29,7 +29,7 @@ def plan(given: Topology) -> str:
               for (vid, mac), ports in now.statics.items()]
     parts += [table("[[command]]", it.table) for it in given.commands]
     parts += [table("[captures]", tables["captures"])] if tables.get("captures") else []
-    them = [f"{json.dumps(place)} = {{ {', '.join(f'{key} = {value_of(its)}' for key, its in it.items())} }}" for place, it in called.json().items()
+    them = [f"{json.dumps(place)} = {{ {', '.join(f'{key} = {value_of(its)}' for key, its in it.items())} }}" for place, it in called.table().items()
             if it.get("interface") != place or "description" in it]
     parts += ["\n".join(["[names]", *them])] if them else []
     return "\n\n".join(it.rstrip() for it in parts) + "\n"
