@@ -10,7 +10,7 @@ from .switch import Left
 
 INTERFACE = re.compile(r"([A-Za-z-]*) ?(\d+(?:/\d+)*)(?: ?- ?(?:[A-Za-z-]+ ?)?(?:\d+/)*(\d+))?")
 KINDS = {"ethernet": "Ethernet", "port-channel": "port-channel"}
-TERMINAL = re.compile(r"!|#|[\w.@-]+# ?(?:sh|show|copy|term|terminal)\b|building configuration|current configuration|\.\.\.", re.IGNORECASE)
+TERMINAL = re.compile(r"!|#|[\w.@-]+# ?(?:sh|show|copy|term|terminal)\b|[\w.@-]+[#>]$|building configuration|current configuration|\.\.\.", re.IGNORECASE)
 WRAPPED = re.compile(r"[\d,\- ]+")
 FEWEST, MOST = 100, 199
 
@@ -122,10 +122,22 @@ class Reader:
 
     def read(self) -> None:
         """All lines."""
-        for line in joined(lines.read(self.path)):
+        for line in self.joined(lines.read(self.path)):
             self.take(line)
         if self.banner:
             raise DeskError(f"{self.path}: a banner has no end, so the file may be cut off")
+
+    def joined(self, them: list[Line]) -> list[Line]:
+        """Lines of which a list of VLANs was wrapped by a terminal, as one."""
+        found: list[Line] = []
+        for line in them:
+            before = found[-1] if found else None
+            if before and WRAPPED.fullmatch(line.text) and (before.text.endswith((",", "-")) or line.text[0] in ",-"):
+                found[-1] = Line(before.number, before.text + line.text, before.indent)
+                self.carried.add(line.number)
+            else:
+                found.append(line)
+        return found
 
     def at(self, line: Line) -> str:
         """A line, for a fault."""
@@ -334,15 +346,3 @@ class Reader:
         at = self.at(line)
         mac, ports = numbers.group(found.values["group"], at), interfaces(found.values["ports"], at)
         self.entries += [Entry(vid, mac, ports, line.number) for vid in here]
-
-
-def joined(them: list[Line]) -> list[Line]:
-    """Lines of which a list of VLANs was wrapped by a terminal, as one."""
-    found: list[Line] = []
-    for line in them:
-        before = found[-1] if found else None
-        if before and WRAPPED.fullmatch(line.text) and (before.text.endswith((",", "-")) or line.text[0] in ",-"):
-            found[-1] = Line(before.number, before.text + line.text, before.indent)
-        else:
-            found.append(line)
-    return found

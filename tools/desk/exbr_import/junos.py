@@ -78,7 +78,7 @@ class Maker:
         if not ports:
             self.found.notes.append(f"satellite {number} has no interface in the file, so it is left out; --fex {number}=48 says how many it has")
             return
-        links = sorted(set(its.on), key=numbers.natural) if its else []
+        links = sorted({link for on in its.on for link in self.members.get(on, [on])}, key=numbers.natural) if its else []
         self.found.boxes[number] = Box(links[0] if links else "", ports, its.alias if its else "", its.line if its else 0, f"satellite {number}")
         self.links[number] = links
         if not links:
@@ -91,7 +91,8 @@ class Maker:
         if name.startswith("ae") and not port.members:
             self.found.notes.append(f"{name} has no members, so it is no port here")
             return
-        if it.aggregate and self.members[it.aggregate][0] == name or any(box.on == name for box in self.found.boxes.values()):
+        is_cascade = any(name in its.on for its in self.read.satellites.values()) and name.startswith("ae")
+        if is_cascade or it.aggregate and self.members[it.aggregate][0] == name or any(box.on == name for box in self.found.boxes.values()):
             return
         box = box_of(port.members[0] if port.members else name)
         if box:

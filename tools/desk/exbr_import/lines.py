@@ -14,7 +14,7 @@ PAGER = re.compile(r"-{2,3}\s*\(?more\b", re.IGNORECASE)
 SECRETS = re.compile("passw|secret|^keys?$|keyring|community|^auth|^priv$|passphrase|md5|sha|encrypt|hash|credential|token|cert|psk|^crypto|pki|login|"
                      "^user$|username|message|banner|license|^serial", re.IGNORECASE)
 STRANGE = re.compile(r"[$\\\"']|[\w+/=]{25,}|0x[0-9a-f]{8,}|[0-9a-f]{16,}", re.IGNORECASE)
-SHOWN = 90
+SHOWN = 120
 
 
 @dataclass(frozen=True)

@@ -8,8 +8,8 @@ LINES, FEW = 6, 4
 
 
 def kinds(left: list[Left]) -> list[tuple[str, int]]:
-    """How many statements of each kind aren't carried over, most first."""
-    return Counter(it.kind for it in left).most_common()
+    """How many statements of each kind aren't carried over, most first. One that stands for many interfaces is one."""
+    return Counter(kind for kind, _ in dict.fromkeys((it.kind, it.line) for it in left)).most_common()
 
 
 def folded(left: list[Left]) -> dict[str, list[str]]:
@@ -27,7 +27,7 @@ def statement(text: str, them: list[Left]) -> str:
     """A statement with its lines, and where it stands."""
     at = sorted({it.line for it in them})
     told = f"line {at[0]} `{text}`" if len(at) == 1 else f"lines {numbers_of(at)} `{text}`"
-    return told + (f", {places}" if (places := where(them)) else "")
+    return told + (f", {places}" if (places := where(them).strip()) else "")
 
 
 def numbers_of(at: list[int]) -> str:

@@ -296,9 +296,11 @@ class Maker:
             found.ageing = 1_000_000 if read.ageing[0] == 0 else min(max(read.ageing[0], 10), 1_000_000)
             if found.ageing != read.ageing[0]:
                 found.notes.append(f"line {read.ageing[1]}: an ageing time of {read.ageing[0]} s is {found.ageing} s here")
+        if read.flags.get("default_shutdown"):
+            found.notes.append("system default switchport shutdown is taken for the switch's own ports; those of extenders are up without a statement")
         for vids, names in self.missing.items():
             one = len(vids) == 1
-            found.notes.append(f"VLAN{'' if one else 's'} {numbers.ranges(vids)} of {numbers.folded(names)} {'is' if one else 'are'} "
+            found.notes.append(f"VLAN{'' if one else 's'} {numbers.ranges(vids)} of {numbers.compact(names)} {'is' if one else 'are'} "
                                f"not defined by `vlan`, or {'is' if one else 'are'} off: nothing passes there")
         found.notes += boxes.notes("FEX", self.guessed, self.links, "fabric link") + boxes.joined(found.ports)
 

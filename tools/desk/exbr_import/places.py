@@ -54,11 +54,12 @@ def locals_of(switch: Switch) -> list[str]:
 
 
 def by_number(own: list[str], boxes: dict[int, Box], first_slot: int) -> dict[str, str]:
-    """The place of each interface of the switch itself by its number, where all are of one card and there is room. Else nothing."""
+    """The place of each interface of the switch itself by its number, where all are of one card, few are missing, and there is room. Else
+    nothing."""
     parts = [re.fullmatch(r"(.*?)(\d+)", it) for it in own]
     slots = [int(it[2]) - first_slot + 1 for it in parts if it]
     spare = sum(not box.on for box in boxes.values())
-    if len({it and it[1] for it in parts}) != 1 or min(slots, default=0) < 1 or max(slots) + spare > MOST:
+    if len({it and it[1] for it in parts}) != 1 or min(slots, default=0) < 1 or max(slots) + spare > MOST or max(slots) > 2 * len(slots):
         return {}
     return {name: f"b{slot}" for name, slot in zip(own, slots)}
 
