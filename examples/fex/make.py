@@ -176,7 +176,7 @@ class Captures:
             with open(os.path.join(folder, file), "wb") as out:
                 out.write(HEADER)
                 for at, data in sorted(them, key=lambda it: it[0]):
-                    out.write(struct.pack("<IIII", START + int(at), int((at % 1) * 1_000_000) * 1000, len(data), len(data)) + data)
+                    out.write(struct.pack("<IIII", START + int(at), round((at % 1) * 1_000_000) * 1000, len(data), len(data)) + data)
 
 
 def traffic() -> Captures:

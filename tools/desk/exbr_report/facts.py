@@ -32,7 +32,7 @@ class Counters:
 
 @dataclass
 class Port:
-    """An external port, as it was at the end of the run."""
+    """An external port, as it was at the end of the run. `label` is what it is called on its switch, and `short` the same in few letters."""
     name: str
     members: list[Member] = field(default_factory=list)
     pvid: int = 1
@@ -41,6 +41,13 @@ class Port:
     isolated: bool = False
     present: bool = True
     counters: Counters = field(default_factory=Counters)
+    label: str = ""
+    short: str = ""
+
+    @property
+    def shown(self) -> str:
+        """What a reader sees: what it is called, or its place."""
+        return self.label or self.name
 
 
 @dataclass
@@ -49,6 +56,7 @@ class Device:
     number: int
     ports: int
     on: str | None = None
+    label: str = ""
 
     @property
     def name(self) -> str:
