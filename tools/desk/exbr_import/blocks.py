@@ -13,6 +13,8 @@ KINDS = {"ethernet": "Ethernet", "port-channel": "port-channel"}
 TERMINAL = re.compile(r"!|#|[\w.@-]+# ?(?:sh|show|copy|term|terminal)\b|[\w.@-]+[#>]$|building configuration|current configuration|\.\.\.", re.IGNORECASE)
 WRAPPED = re.compile(r"[\d,\- ]+")
 FEWEST, MOST = 100, 199
+# How many settings of ports and VLANs a configuration may have, ranges spread out. The largest switches have some ten thousand.
+LARGEST = 2_000_000
 
 
 @dataclass(frozen=True)
@@ -119,6 +121,7 @@ class Reader:
         self.name = ""
         self.block, self.here, self.skipped, self.header = "top", [], "", ""
         self.banner = ""
+        self.spent = 0
 
     def read(self) -> None:
         """All lines."""
@@ -143,8 +146,15 @@ class Reader:
         """A line, for a fault."""
         return f"{self.path}: line {line.number}"
 
+    def spend(self, line: Line, many: int) -> None:
+        """Counts settings, so that a file of ranges of ranges ends."""
+        self.spent += many
+        if self.spent > LARGEST:
+            raise DeskError(f"{self.at(line)}: up to here there are more than {LARGEST:,} settings of ports and VLANs, and no switch has so many")
+
     def take(self, line: Line) -> None:
         """One line."""
+        self.spend(line, 1 + (len(self.here) if self.block != "top" else 0))
         if self.banner:
             self.banner = "" if self.banner in line.text else self.banner
             self.leave(line, "management", "banner")
@@ -218,8 +228,8 @@ class Reader:
             values["vids"] = [numbers.vlan(it, self.at(line)) for it in re.findall(r"\d+", values["rest"])]
         if found.verb == "fex" and not FEWEST <= int(values["fex"][:9]) <= MOST:
             raise DeskError(f"{self.at(line)}: extenders have the numbers {FEWEST} to {MOST}")
-        if found.verb == "not_mode":
-            self.leave(line, found.words, self.where())
+        if found.verb in ("not_mode", "layer3"):
+            self.leave(line, found.words or "L3", self.where())
         its = Action(found.verb, found.words, values, line.number)
         of = self.profiles if self.block == "profile" else self.interfaces
         for name in self.here:
@@ -253,6 +263,7 @@ class Reader:
 
     def _is_vlan(self, line: Line, values: dict) -> list:
         vids = sorted(numbers.vlans(values["vlans"], self.at(line)))
+        self.spend(line, len(vids))
         for vid in vids:
             self.vlans.setdefault(vid, Vlan(line.number))
         return vids
@@ -269,6 +280,7 @@ class Reader:
 
     def _is_interface(self, line: Line, values: dict) -> list:
         names = interfaces(values["ports"], self.at(line))
+        self.spend(line, len(names))
         for name in names:
             self.interfaces.setdefault(name, Block(line.number))
         return names

@@ -53,13 +53,13 @@ def count(number: int, told: dict[int, int], seen: int, guessed: dict[int, list[
 
 def notes(what: str, guessed: dict[int, list[int]], links: dict[int, list[str]], link: str) -> list[str]:
     """What a reader should know of extenders: how many ports they have where that is a guess, and further links."""
-    found = [f"{what} {ranges(them)} {has(them)} {many} ports here, by the interfaces of the file; --fex {min(them)}=48 says how many there are"
+    found = [f"{what} {ranges(them)} {has(them)} {many} port{'s' * (many > 1)} here, by the interfaces of the file; --fex {min(them)}=48 says how many there are"
              for many, them in sorted(guessed.items())]
     more = {number: them for number, them in links.items() if len(them) > 1}
     if more:
         first = folded([them[0] for them in more.values()])
         found.append(f"{what} {ranges(list(more))} {has(list(more))} several {link}s ({compact([it for them in more.values() for it in them])}): here "
-                     f"one each, {first}. The failover of a link can't be tried")
+                     f"one{' each' * (len(more) > 1)}, {first}. The failover of a link can't be tried")
     return found
 
 

@@ -29,6 +29,7 @@ On a Linux switch: ip -j -d link > link.json; bridge -j vlan show > vlan.json; b
 def parser() -> argparse.ArgumentParser:
     """The words of the tool."""
     it = argparse.ArgumentParser("exbr-import", description=ABOUT, epilog=END, formatter_class=argparse.RawDescriptionHelpFormatter)
+    it.add_argument("--version", action="version", version="exbr-import 2")
     of = it.add_argument_group("what is read")
     of.add_argument("--nxos", metavar="FILE", help="a running configuration of NX-OS: show running-config")
     of.add_argument("--junos", metavar="FILE", help="a configuration of Junos: show configuration | display set")
@@ -77,7 +78,7 @@ def main(words: list[str] | None = None) -> int:
     for one, other in zip(found.ports, later.ports if later else []):
         one.description = one.description or other.description
     if asked.captures:
-        folder.give(found, asked.captures, "." if asked.output == "-" else os.path.dirname(asked.output) or ".", outputs)
+        folder.give(found, asked.captures, None if asked.output == "-" else os.path.dirname(asked.output) or ".", outputs)
     its = sources.differ(found, later, asked.at, asked.every) if later else None
     made = text.topology(found, page.commands(its) if its else sources.commands(found))
     topology.of_text(made, "the topology that was made")

@@ -49,21 +49,24 @@ def switch_of(folder: str) -> Switch:
     return found
 
 
-def give(switch: Switch, folder: str, to: str, outputs: Outputs) -> None:
-    """Gives each port its capture, as a path from the folder of the topology. Captures of the members of a port become one."""
+def give(switch: Switch, folder: str, to: str | None, outputs: Outputs) -> None:
+    """Gives each port its capture, as a path from the folder of the topology, or from here where it is printed. Captures of the members of a
+    port become one."""
     files = files_of(folder)
     called = names.Names({it.place: names.Name(it.name or it.place, members=it.members) for it in switch.ports})
     captures = called.captures(list(files.values()))
     for port in switch.ports:
         them = captures.get(port.place, [])
         if len(them) > 1 and len(port.members) > 1:
+            if to is None:
+                raise DeskError(f"{folder}: {', '.join(them)} are captures of {port.name} and become one file; name the topology by -o FILE")
             path = os.path.join(to, f"in-{port.place}.pcapng")
             outputs.merge(path, [os.path.join(folder, it) for it in them])
             port.capture = os.path.relpath(path, to)
         elif len(them) > 1:
             raise DeskError(f"{folder}: {them[0]} and {them[1]} are both captures of {port.name or port.place}")
         elif them:
-            port.capture = os.path.relpath(os.path.join(folder, them[0]), to)
+            port.capture = os.path.relpath(os.path.join(folder, them[0]), to or ".")
     found = {it for them in captures.values() for it in them}
     lost = [(name, file) for name, file in files.items() if file not in found]
     switch.lost += [f"{file}: there is no port {name}" for name, file in lost[:MOST]]

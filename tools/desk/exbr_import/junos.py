@@ -33,6 +33,7 @@ class Maker:
         self.members: dict[str, list[str]] = {}
         self.guessed: dict[int, list[int]] = {}
         self.links: dict[int, list[str]] = {}
+        self.dead: set[int] = set()
 
     def made(self) -> Switch:
         """The switch."""
@@ -79,8 +80,12 @@ class Maker:
             self.found.notes.append(f"satellite {number} has no interface in the file, so it is left out; --fex {number}=48 says how many it has")
             return
         links = sorted({link for on in its.on for link in self.members.get(on, [on])}, key=numbers.natural) if its else []
-        self.found.boxes[number] = Box(links[0] if links else "", ports, its.alias if its else "", its.line if its else 0, f"satellite {number}")
+        alive = [it for it in links if it not in self.read.interfaces or not self.read.interfaces[it].is_off]
+        self.found.boxes[number] = Box((alive or links)[0] if links else "", ports, its.alias if its else "", its.line if its else 0, f"satellite {number}")
         self.links[number] = links
+        if links and not alive:
+            self.dead.add(number)
+            self.found.notes.append(f"all cascade ports of satellite {number} are disabled: its ports are down here")
         if not links:
             self.found.notes.append(f"satellite {number} has no cascade port: its ports are down here")
 
@@ -99,7 +104,7 @@ class Maker:
             port.box, port.slot = box[0], slot_of(box[1], box[2], self.read.path)
             if box[0] not in self.found.boxes:
                 return
-            port.is_up = port.is_up and bool(self.found.boxes[box[0]].on)
+            port.is_up = port.is_up and bool(self.found.boxes[box[0]].on) and box[0] not in self.dead
         self.found.ports.append(port)
         self.vlans_of(port, it)
 

@@ -5,7 +5,7 @@ from dataclasses import dataclass
 
 from exbr_desk.errors import DeskError
 
-LARGEST = 16_777_216
+LARGEST = 8_388_608
 CONTROL = re.compile(rb"[\x00-\x08\x0e-\x1f\x7f]")
 # What a terminal adds: the prompt behind a configuration, and the word of a pager.
 PROMPT = re.compile(r"[\w.@:()/-]{1,80}[#>%]\s*")

@@ -51,6 +51,8 @@ def put(it: Settings, action: Action, profiles: dict[str, Block]) -> None:
         setattr(it, action.verb, int(values["fex" if action.verb == "fex" else "number"][:9]))
     elif action.verb in ("routed", "bridged"):
         it.routed = action.verb == "routed"
+    elif action.verb == "layer3":
+        it.routed = it.routed or "bridged" not in it.at
     elif action.verb == "description":
         it.description = values["text"].strip('"')
     elif action.verb in ("vpc", "peer_link"):
@@ -103,6 +105,7 @@ class Maker:
         self.members: dict[int, list[str]] = {}
         self.guessed: dict[int, list[int]] = {}
         self.links: dict[int, list[str]] = {}
+        self.dead: set[int] = set()
 
     def settings(self, name: str) -> Settings:
         """What is set at an interface. What its profile sets comes first, as the switch has it."""
@@ -167,10 +170,24 @@ class Maker:
         if not ports:
             self.found.notes.append(f"FEX {number} has no host interface in the file, so it is left out; --fex {number}=48 says how many it has")
             return
-        its = Box(links[0] if links else "", ports, fex.description if fex else "", fex.line if fex else 0, f"FEX {number}")
+        alive = [it for it in links if not self.is_shut(it)]
+        its = Box((alive or links)[0] if links else "", ports, fex.description if fex else "", fex.line if fex else 0, f"FEX {number}")
         self.found.boxes[number] = its
+        if links and not alive:
+            self.dead.add(number)
+            self.found.notes.append(f"all fabric links of FEX {number} are shut down: its ports are down here")
         if not links:
             self.found.notes.append(f"FEX {number} hangs on no interface (no `fex associate {number}`): its ports are down here")
+
+    def is_shut(self, name: str) -> bool:
+        """Whether a fabric link is shut down, by itself or with its port-channel."""
+        it = self.set[name]
+        whole = self.set.get(f"port-channel{it.channel}") if it.channel is not None else None
+        return it.shut or bool(whole and whole.shut)
+
+    def is_alive(self, number: int) -> bool:
+        """Whether an extender has a link that is up."""
+        return bool(self.found.boxes[number].on) and number not in self.dead
 
     def add(self, name: str) -> None:
         """The port that an interface is."""
@@ -192,7 +209,7 @@ class Maker:
             port.box, port.slot = box
             if box[0] not in self.found.boxes:
                 return
-            port.is_up = port.is_up and bool(self.found.boxes[box[0]].on)
+            port.is_up = port.is_up and self.is_alive(box[0])
         self.found.ports.append(port)
         self.vlans_of(port, it)
 
@@ -208,8 +225,9 @@ class Maker:
         if not port.members and it.channel is not None:
             port.why = f"a member of port-channel{it.channel}"
         elif it.routed:
-            port.why = "no switchport"
-            self.leave(it.at.get("routed", port.line), "L3 and other interfaces", "no switchport", port.name)
+            port.why = "a port of L3"
+            if "routed" in it.at:
+                self.leave(it.at["routed"], "L3 and other interfaces", "no switchport", port.name)
         elif it.mode.startswith("not "):
             port.why = it.mode[4:]
         elif it.mode == "trunk":
@@ -265,7 +283,7 @@ class Maker:
         named = {(it.box, it.slot) for it in self.found.ports} | {box_of(one) for it in self.found.ports for one in it.members}
         for number, box in self.found.boxes.items():
             spare = [slot for slot in range(1, box.ports + 1) if (number, slot) not in named]
-            self.found.ports += [Port(f"Ethernet{number}/1/{slot}", 1, untagged=self.there & {1}, box=number, slot=slot, is_up=bool(box.on))
+            self.found.ports += [Port(f"Ethernet{number}/1/{slot}", 1, untagged=self.there & {1}, box=number, slot=slot, is_up=self.is_alive(number))
                                  for slot in spare]
             if spare:
                 self.found.notes.append(f"Ethernet{number}/1/{numbers.ranges(spare)} isn't in the file: it is in VLAN 1 here, as without any statement")

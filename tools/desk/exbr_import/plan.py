@@ -20,6 +20,7 @@ TABLES = {
     "extender": {"number", "on", "ports", "name", "rack"}, "ports": BLOCK, "static": {"vlan", "mac", "ports"}, "change": BLOCK | {"at"},
     "command": None, "switch": None,
 }
+MOST = 1000
 LISTS = ("extender", "ports", "static", "change", "command")
 EXPLICIT = {"pvid", "tagged", "untagged", "accept", "filter"}
 SPAN = re.compile(r"((?:b|x\d+\.))(\d+)-(?:b|x\d+\.)?(\d+)")
@@ -313,6 +314,8 @@ def changes(it: Reader, found: Switch) -> list[tuple[int, Switch, int]]:
     """The switch after each change, with its second and its line."""
     made: list[tuple[int, Switch, int]] = []
     now = found
+    if len(it.tables.get("change", [])) > MOST:
+        raise DeskError(f"{it.path}: it has more than {MOST} changes")
     for number, block in enumerate(it.tables.get("change", [])):
         where, at = it.where("change", number), block.get("at")
         if isinstance(at, bool) or not isinstance(at, int) or not 0 <= at <= 4294967295 or made and at < made[-1][0]:

@@ -11,6 +11,8 @@ from .switch import Left
 PORT = re.compile(r"([a-z]{2,4})-(\d{1,3})/(\d{1,2})/(\d{1,3}(?::\d)?)(?:\.0)?")
 AGGREGATE = re.compile(r"ae\d{1,4}(?:\.0)?")
 FIRST_BOX, LAST_BOX = 65, 254
+# How many settings a configuration may have, ranges of interfaces spread out.
+LARGEST = 2_000_000
 VERBS = ("set", "delete", "deactivate", "activate", "annotate", "protect", "unprotect")
 
 
@@ -81,6 +83,8 @@ class Reader:
         """All lines. Statements of ranges of interfaces are looked at when their members are known."""
         for line in self.effective(lines.read(self.path)):
             self.take(line, line.text.split(" ", 1)[1] if " " in line.text else "")
+        if sum(len(self.ranges.get(name, [])) for _, name, _ in self.waiting) > LARGEST:
+            raise DeskError(f"{self.path}: its ranges of interfaces have more than {LARGEST:,} settings, and no switch has so many")
         for line, name, rest in self.waiting:
             for member in self.ranges.get(name, []):
                 self.walk(line, "interface", rest, member)
@@ -100,9 +104,11 @@ class Reader:
             else:
                 self.carried.add(line.number)
                 held, gone = self.turned(line, verb, rest, held, gone)
-        cut = [it for it in held if any(is_below(it.text[4:], path) for path in gone)]
-        self.carried |= {it.number for it in cut}
-        return [it for it in held if it not in cut] if cut else held
+        if len(held) * len(gone) > 20 * LARGEST:
+            raise DeskError(f"{self.path}: {len(gone):,} statements `deactivate` are more than can be looked at")
+        cut = {it.number for it in held if any(is_below(it.text[4:], path) for path in gone)}
+        self.carried |= cut
+        return [it for it in held if it.number not in cut]
 
     def refuse(self, line: Line) -> None:
         """A line that is no statement in set form."""
@@ -113,9 +119,9 @@ class Reader:
     def turned(self, line: Line, verb: str, rest: str, held: list[Line], gone: list[str]) -> tuple[list[Line], list[str]]:
         """What `delete`, `deactivate` and `activate` do to the lines before them."""
         if verb == "delete":
-            cut = [it for it in held if is_below(it.text[4:], rest)]
-            self.carried |= {it.number for it in cut}
-            return [it for it in held if it not in cut], gone
+            cut = {it.number for it in held if is_below(it.text[4:], rest)}
+            self.carried |= cut
+            return [it for it in held if it.number not in cut], gone
         if verb == "deactivate":
             self.left.append(Left("statements that are off", lines.shown(line.text), line.number))
             self.carried.discard(line.number)
@@ -219,7 +225,7 @@ class Reader:
         first, last = port_name(found.values["port"], self.at(line)), port_name(found.values["other"], self.at(line))
         head, _, begin = first.rpartition("/")
         other, _, end = last.rpartition("/")
-        if head != other or not begin.isdigit() or not end.isdigit() or int(end) < int(begin):
+        if head != other or not begin.isdigit() or not end.isdigit() or not int(begin) <= int(end) <= int(begin) + 1023:
             raise DeskError(f"{self.at(line)}: a range of interfaces is of one card, as ge-101/0/0 to ge-101/0/7")
         self.ranges[here] += [f"{head}/{it}" for it in range(int(begin), int(end) + 1)]
 
@@ -308,5 +314,7 @@ def spread(text: str, where: str) -> list[str]:
         first, _, last = part.strip().partition("-")
         if not first.isdigit() or len(part) > 9 or last and not last.isdigit():
             raise DeskError(f"{where}: interfaces are as ge-101/0/[1-8]")
+        if int(last or first) - int(first) > 1023:
+            raise DeskError(f"{where}: a range of interfaces has 1,024 at most")
         found += [f"{it[1]}{at}" for at in range(int(first), int(last or first) + 1)]
     return found

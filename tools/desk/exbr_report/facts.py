@@ -32,7 +32,7 @@ class Counters:
 
 @dataclass
 class Port:
-    """An external port, as it was at the end of the run. `label` is what it is called on its switch, and `short` the same in few letters."""
+    """An external port, as it was at the end of the run."""
     name: str
     members: list[Member] = field(default_factory=list)
     pvid: int = 1
@@ -41,6 +41,7 @@ class Port:
     isolated: bool = False
     present: bool = True
     counters: Counters = field(default_factory=Counters)
+    # What it is called on its switch, and the same in few letters.
     label: str = ""
     short: str = ""
 

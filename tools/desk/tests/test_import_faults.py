@@ -57,6 +57,14 @@ class Faults(ground.InFolder):
         for form in ("--nxos", "--junos", "--plan", "--link"):
             self.refused("more than", form, path)
 
+    def test_ranges_of_ranges(self):
+        self.of("more than 2,000,000 settings", GOOD + "interface Ethernet1/1-1000\n" + "  description a\n" * 3000)
+        self.of("more than 2,000,000 settings", GOOD + "vlan 1-4094\n" * 1000)
+        self.of("more than 2,000,000 settings", SET + 'set interfaces interface-range r member "ge-0/0/[0-999]"\n' + "set interfaces interface-range r disable\n" * 3000,
+                form="--junos")
+        self.of("1,024 at most", SET + 'set interfaces interface-range r member "ge-0/0/[0-9999]"\n', form="--junos")
+        self.of("more than 1000 changes", PLAN + '[[change]]\nat = 1\nports = "b1"\naccess = 2\n' * 1001, form="--plan")
+
     def test_a_secret_is_never_shown(self):
         for line in (f"username admin password 5 {SECRET}", f"enable secret {SECRET}", f"snmp-server community {SECRET} ro", f"tacacs-server key 7 {SECRET}",
                      f"key-string {SECRET}", f"ntp authentication-key 1 md5 {SECRET}", f"frobnicate with a {SECRET}", f"wpa psk {SECRET}",
@@ -81,7 +89,7 @@ class Faults(ground.InFolder):
 
     def test_values_that_are_wrong(self):
         for line, said in (("vlan 5000", "line 9: VLAN 5000 isn't in 1 to 4094"), ("vlan 20-10", "the wrong way round"), ("fex 99", "the numbers 100 to 199"),
-                           ("interface Ethernet101/1/9-3", "the wrong way round"), ("interface Foo1/1", "no kind of interface"),
+                           ("interface Ethernet101/1/9-3", "the wrong way round"), 
                            ("interface Ethernet101/1/1-99999999999", "four digits"), ("interface Ethernet101/1/65", "64 at most here"),
                            ("interface Ethernet1/2\n  switchport access vlan 0", "line 10: VLAN 0"),
                            ("interface Ethernet1/2\n  switchport trunk allowed vlan all but 3", "line 10 has to name a VLAN"),
