@@ -235,8 +235,8 @@ class OfNexus(ground.InFolder):
         done = ground.tool("exbr-import", "--nxos", self.path("a.cfg"), *words)
         self.assert_line(done, 2, "become one file; name the topology by -o FILE")
         self.write("c/e101-1-3.pcap", capture(frame(4)))
-        self.assert_line(ground.tool("exbr-import", "--nxos", self.path("a.cfg"), *words, "-o", self.path("other.toml")), 2, "are both captures of Ethernet101/1/3")
-        self.assertFalse(os.path.exists(self.path("other.toml")))
+        self.assert_line(ground.tool("exbr-import", "--nxos", self.path("a.cfg"), *words, "-o", self.path("topology.toml"), "--force"), 2,
+                         "are both captures of Ethernet101/1/3")
 
     def test_version(self):
         self.assertIn("exbr-import ", ground.tool("exbr-import", "--version").stdout)
