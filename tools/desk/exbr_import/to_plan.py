@@ -1,6 +1,7 @@
 """A topology as a plan by hand: ports of which the same is said stand together."""
 from __future__ import annotations
 
+import itertools
 import json
 import os
 
@@ -21,18 +22,31 @@ def plan(given: Topology) -> str:
     parts += [table("[links]", tables["links"])] if "links" in tables else []
     parts += [table("[[extender]]", it | called_so(called, it["number"])) for it in tables.get("extender", [])]
     same: dict[tuple, list[str]] = {}
-    inside = vlans_by_port(now)
+    inside, closed = vlans_by_port(now), shut(given)
     for port in given.external:
-        same.setdefault(block(now, port, inside), []).append(plain.name_of(port))
+        its = block(now, port, inside)
+        closed -= {port} if not its else set()
+        same.setdefault((*its, ("shutdown", "true")) if port in closed else its, []).append(plain.name_of(port))
     parts += ["\n".join(["[[ports]]", f"ports = {words(ports)}", *(f"{key} = {value}" for key, value in its)]) for its, ports in same.items() if its]
     parts += [table("[[static]]", {"vlan": vid, "mac": mac.hex(":"), "ports": sorted_words({plain.name_of(it) for it in ports})})
               for (vid, mac), ports in now.statics.items()]
-    parts += [table("[[command]]", it.table) for it in given.commands]
+    parts += [table("[[command]]", it.table) for it in given.commands if not is_shut(it.table, closed)]
     parts += [table("[captures]", tables["captures"])] if tables.get("captures") else []
     them = [f"{json.dumps(place)} = {{ {', '.join(f'{key} = {value_of(its)}' for key, its in it.items())} }}" for place, it in called.table().items()
             if it.get("interface") != place or "description" in it]
     parts += ["\n".join(["[names]", *them])] if them else []
     return "\n\n".join(it.rstrip() for it in parts) + "\n"
+
+
+def shut(given: Topology) -> set[int]:
+    """The ports that the first commands, at second 0, take down: a plan says `shutdown` of them."""
+    first = itertools.takewhile(lambda it: it.at == 0 and it.table["op"] == "down" and "fate" not in it.table, given.commands)
+    return {plain.number_of(it.table["port"]) for it in first}
+
+
+def is_shut(table: dict, closed: set[int]) -> bool:
+    """Whether a command is said by `shutdown`."""
+    return table["at"] == 0 and table["op"] == "down" and plain.number_of(table["port"]) in closed
 
 
 def called_so(called: names_of.Names, number: int) -> dict:
