@@ -147,6 +147,8 @@ def mode(port: Port) -> str:
     """What a port is, in short."""
     if port.why:
         return f"in no VLAN ({port.why})"
+    if not port.tagged and not port.untagged:
+        return "in no VLAN"
     return f"access VLAN {port.pvid}" if is_access(port) else "trunk"
 
 

@@ -174,6 +174,19 @@ class Linux(ground.InFolder):
         self.assertIn("1 step, 6 commands", done.stderr)
         self.assertEqual(names.of(self.folder).shown("b2"), "swp2")
 
+    def test_real_answers(self):
+        """Those of a bridge that filters VLANs in a Linux 6.1.0-57, before a change and after it."""
+        at = lambda *path: os.path.join(ground.TESTS, "linux", "change", *path)
+        words = [word for it in ("link", "vlan", "fdb", "mdb") for word in (f"--{it}", at("before", f"{it}.json"))]
+        done = ground.tool("exbr-import", *words, "--after", at("after"), "--at", "30", "--no-play", "-o", self.path("topology.toml"))
+        self.assertEqual(done.returncode, 0, done.stderr)
+        with open(self.path("change.md"), encoding="utf-8") as file:
+            steps = [line.split(" | ")[3] for line in file if line.startswith("| ") and "|---" not in line][1:]
+        self.assertEqual(steps, ["the static entry 02:00:00:00:00:09 of VLAN 100 goes", "the static entry 01:00:5e:01:01:32 of VLAN 100 goes",
+                                 "swp1, swp2: access VLAN 100 → 200", "swp6: isolation ends", "swp7: shutdown",
+                                 "swp8: in no VLAN → access VLAN 200, no shutdown", "VLAN 300 comes to swp9-10"])
+        self.assertIn("not carried: swp3-4: it doesn't learn addresses", done.stderr)
+
 
 class Plans(ground.InFolder):
     """A change within a plan."""
