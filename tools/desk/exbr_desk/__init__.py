@@ -16,5 +16,7 @@
 | `explain` | why a frame went where it went, in sentences |
 | `choose` | which frames are meant |
 | `align` | two sequences side by side: what is there, what is missing, what is too many |
+| `names` | what ports are called on their switch: `names.toml` beside a topology |
+| `short` | numbers and names in short |
 | `progress` | a line on the terminal while work is long |
 """

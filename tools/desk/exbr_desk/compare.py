@@ -9,7 +9,7 @@ import sys
 import tempfile
 from dataclasses import dataclass
 
-from . import differ, index, play, runs
+from . import differ, index, names, play, runs
 from .beside import Beside
 from .differ import Differences
 from .errors import DeskError
@@ -44,6 +44,7 @@ def words_of(words: list[str] | None) -> argparse.Namespace:
     parser.add_argument("--html", metavar="FILE", help="makes the page of differences as well: one HTML file, for a change ticket")
     parser.add_argument("--brief", action="store_true", help="the first lines alone, without detail")
     parser.add_argument("--json", action="store_true", help="all of it for programs")
+    names.option(parser)
     return parser.parse_args(words)
 
 
@@ -126,12 +127,14 @@ def show(found: Differences, asked: argparse.Namespace) -> int:
     """Prints what was found, and makes the page of it where one is asked for."""
     if asked.html:
         put(asked.html, page_of(found, asked))
+    called = names.of(asked.before, asked.names)
     if asked.json:
-        print(json.dumps(in_json(found), indent=1))
+        print(json.dumps(in_json(found) | called.json(), indent=1))
     else:
-        print("\n".join(summary(found)))
+        for line in summary(found):
+            print(called.speak(line))
         for line in () if asked.brief else detail(found, asked.limit):
-            print(line)
+            print(called.speak(line))
     sys.stdout.flush()
     return 1 if found.differs else 0
 

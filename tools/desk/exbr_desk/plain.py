@@ -37,6 +37,7 @@ refusal = _bridge.refusal
 address_of = _bridge.address_of
 number_of = _bridge.number_of
 name_of = _bridge.name_of
+capture_of = _bridge.capture_of
 
 NUMBER = "([1-9]|[1-5][0-9]|6[0-4])"
 PORT = re.compile(f"b{NUMBER}|x{NUMBER}[.]{NUMBER}")

@@ -6,7 +6,7 @@ import json
 import sys
 from dataclasses import dataclass, field
 
-from . import choose, earlier, explain, frames, index, plain, runs, trace, trace_index
+from . import choose, earlier, explain, frames, index, names, plain, runs, trace, trace_index
 from .captures import SECOND
 from .course import Course
 from .errors import DeskError
@@ -197,6 +197,7 @@ def words_of(words: list[str] | None) -> argparse.Namespace:
     parser.add_argument("--limit", type=int, default=5, metavar="N", help="how many frames are told where more fit (default 5, 0: all)")
     parser.add_argument("--no-index", action="store_true", help="keeps nothing beside the run for the next question")
     parser.add_argument("--json", action="store_true", help="the same for programs")
+    names.option(parser)
     return parser.parse_args(words)
 
 
@@ -207,11 +208,12 @@ def main(words: list[str] | None = None) -> int:
     if asked.limit < 0:
         raise DeskError("--limit is 0 or more")
     run = runs.whole(asked.run, asked.folder)
-    choice = None if asked.all else choose.choice(run, asked.frame, asked.filter)
+    called = names.of(asked.run, asked.names)
+    choice = None if asked.all else choose.choice(run, [called.heard(it) for it in asked.frame], asked.filter)
     why = Why(run, choice, asked.limit, not asked.no_index)
     why.go()
     if choice is not None and not why.answers:
         raise DeskError(f"no frame fits; {why.count} frames came")
-    print(json.dumps(in_json(why), indent=1) if asked.json else "\n".join(in_words(why)))
+    print(json.dumps(in_json(why) | called.json(), indent=1) if asked.json else called.speak("\n".join(in_words(why))))
     sys.stdout.flush()
     return 0 if why.agrees else 1

@@ -4,7 +4,9 @@ import json
 import re
 
 from exbr_desk.errors import DeskError
+from exbr_desk.short import folded
 
+from . import lines
 from .switch import Port, Static, Switch
 
 # What a port of a Linux bridge may do that the rules here have no word for: its key, its usual value, and what it means.
@@ -14,16 +16,14 @@ FLAGS = (("learning", True, "it doesn't learn addresses"), ("flood", True, "fram
          ("proxy_arp", False, "it answers ARP itself"), ("vlan_tunnel", False, "it maps VLANs to tunnels"),
          ("locked", False, "it lets in known addresses alone"), ("mcast_to_unicast", False, "it copies group frames to single stations"))
 PASSING = ("forwarding",)
+LARGEST = 67_108_864
 MAC = re.compile("[0-9a-f]{2}(:[0-9a-f]{2}){5}", re.IGNORECASE)
 
 
 def read(path: str, what: str) -> list:
     """The answer of a command, which is a list."""
     try:
-        with open(path, encoding="utf-8") as file:
-            answer = json.load(file)
-    except OSError as fault:
-        raise DeskError(f"{path}: {fault.strerror}") from None
+        answer = json.loads(lines.data_of(path, LARGEST))
     except (ValueError, RecursionError) as fault:
         raise DeskError(f"{path}: it isn't JSON ({fault}); make it with: {what}") from None
     if not isinstance(answer, list) or not all(isinstance(it, dict) for it in answer):
@@ -93,6 +93,7 @@ def switch_of(links: str, vlans: str | None, name: str | None, host: bool) -> Sw
     found = Switch(f"the Linux bridge {name}", [])
     members = [it for it in every if it.get("master") == name and name_in(it, "ifname")]
     found.ports = [port_of(it, found) for it in members]
+    found.lost += [f"{folded(names)}: {meaning}" for meaning, names in found.extra.items()]
     if host:
         found.ports.append(Port(name))
     if not found.ports:
@@ -121,7 +122,7 @@ def port_of(link: dict, found: Switch) -> Port:
     for key, usual, meaning in FLAGS:
         if key in data and data[key] is not usual and meaning not in told:
             told.add(meaning)
-            found.lost.append(f"{name}: {meaning} ({key} {'on' if data[key] else 'off'})")
+            found.extra.setdefault(f"{meaning} ({key} {'on' if data[key] else 'off'})", []).append(name)
     return port
 
 
@@ -181,7 +182,7 @@ def tell_bridge(data: dict, found: Switch, name: str, host: bool) -> None:
 
 def add_entries(found: Switch, path: str) -> None:
     """The static entries of the forwarding table."""
-    known, own, bare = {it.name for it in found.ports}, 0, 0
+    known, own, bare = {it.name for it in found.ports}, 0, []
     for it in read(path, "bridge -j fdb show"):
         if name_in(it, "ifname") not in known or "self" in flags_in(it):
             continue
@@ -189,13 +190,13 @@ def add_entries(found: Switch, path: str) -> None:
         if it.get("state") != "static":
             continue
         if "vlan" not in it:
-            bare += 1
+            bare.append(f"{name_in(it, 'mac')} at {name_in(it, 'ifname')}")
         else:
             found.statics.append(Static(vid_in(it, "vlan", path), mac_in(name_in(it, "mac"), path), [name_in(it, "ifname")]))
     if own:
         found.lost.append(f"{own} entries for the host's own addresses (state permanent)")
     if bare:
-        found.lost.append(f"{bare} static entries without a VLAN")
+        found.lost.append(f"{len(bare)} static entr{'y' if len(bare) == 1 else 'ies'} without a VLAN: {', '.join(bare[:6])}{' and others' if len(bare) > 6 else ''}")
 
 
 def add_groups(found: Switch, path: str) -> None:

@@ -1,13 +1,22 @@
-"""A switch as it is found, whatever it was read from."""
+"""A switch as it is found, whatever it was read from: the intent of a configuration."""
 import re
+from collections.abc import Callable
 from dataclasses import dataclass, field
 
+
+from exbr_desk.short import natural
+
 PLACE = re.compile(r"b([1-9]\d?)|x([1-9]\d?)\.([1-9]\d?)")
+__all__ = ["Box", "Left", "Port", "Static", "Switch", "natural", "place", "place_by_names"]
 
 
 @dataclass
 class Port:
-    """A port under the name that it has on its switch. `place` is its name in the topology."""
+    """A port under the name that it has on its switch. `place` is its name in the topology.
+
+    `box` is the number that its extender has on the switch, and `slot` its number there, or at the switch itself, from 1. `members` are
+    the interfaces of which a port-channel is made, and `why` says why a port is in no VLAN. `line` is where it begins in its file.
+    """
 
     name: str
     pvid: int | None = None
@@ -18,6 +27,36 @@ class Port:
     is_up: bool = True
     place: str = ""
     capture: str | None = None
+    accept: str = ""
+    description: str = ""
+    line: int = 0
+    box: int | None = None
+    slot: int = 0
+    members: tuple[str, ...] = ()
+    why: str = ""
+
+    @property
+    def accepts(self) -> str:
+        """Which frames it takes. Without a PVID these are tagged ones alone."""
+        return self.accept or ("tagged" if self.pvid is None else "all")
+
+    @property
+    def shown(self) -> str:
+        """Its name, with its description."""
+        return f"{self.name} ({self.description})" if self.description else self.name
+
+
+@dataclass
+class Box:
+    """An extender under the number that it has on its switch: on which interface of the switch it hangs, or on which place, and with how
+    many ports."""
+
+    on: str
+    ports: int
+    rack: str = ""
+    line: int = 0
+    name: str = ""
+    number: int = 0
 
 
 @dataclass
@@ -27,11 +66,24 @@ class Static:
     vid: int
     mac: str
     ports: list[str]
+    line: int = 0
+
+
+@dataclass(frozen=True)
+class Left:
+    """A statement that isn't carried over: its kind, its text as it may be shown, its line, and the port, VLAN or extender in whose block it
+    stands."""
+
+    kind: str
+    text: str
+    line: int
+    where: str = ""
 
 
 @dataclass
 class Switch:
-    """A switch. `lost` says what can't be carried over, and `notes` what a reader should know."""
+    """A switch. `left` has the statements that aren't carried over, `lost` what else can't be, and `notes` what a reader should know.
+    `carried` has the lines that are. `extenders` and `local` are the tree of the topology, by its own numbers."""
 
     source: str
     ports: list[Port]
@@ -41,11 +93,19 @@ class Switch:
     notes: list[str] = field(default_factory=list)
     extenders: dict[int, tuple[str, int]] = field(default_factory=dict)
     local: int = 0
+    boxes: dict[int, Box] = field(default_factory=dict)
+    left: list[Left] = field(default_factory=list)
+    carried: set[int] = field(default_factory=set)
+    vlan_names: dict[int, str] = field(default_factory=dict)
+    name: str = ""
+    file: str = ""
+    limits: dict[str, int] = field(default_factory=dict)
+    captures: dict[str, str] = field(default_factory=dict)
+    extra: dict = field(default_factory=dict)
 
-
-def natural(name: str) -> list:
-    """A key by which `swp2` stands before `swp10`."""
-    return [(0, int(it), "") if it.isdigit() else (1, 0, it) for it in re.findall(r"\d+|\D+", name)]
+    def by(self, key: Callable[[Port], str] = lambda it: it.name) -> dict[str, Port]:
+        """The ports by their names, or by another key."""
+        return {key(it): it for it in self.ports}
 
 
 def place(switch: Switch, per_extender: int | None) -> None:

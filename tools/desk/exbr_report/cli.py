@@ -3,10 +3,10 @@ import argparse
 import os
 import sys
 
-from exbr_desk import place, runs, safe_files
+from exbr_desk import names, place, runs, safe_files
 from exbr_desk.errors import DeskError
 
-from . import gather, page
+from . import gather, naming, page
 
 ABOUT = """Makes one HTML page of a run: its tree, ports, time line, commands and frames, and why each frame went where it went.
 The page holds all it needs, and asks for nothing from outside."""
@@ -21,6 +21,7 @@ def parser() -> argparse.ArgumentParser:
     it.add_argument("-o", "--output", metavar="FILE", default="report.html", help="the page (report.html)")
     it.add_argument("--folder", metavar="FOLDER", help="the folder in which the program was run, if it isn't that of the topology file")
     it.add_argument("--frames", metavar="N", type=int, default=100_000, help="how many frames the page holds at most (100000)")
+    names.option(it)
     it.add_argument("--quiet", action="store_true", help="show no progress")
     return it
 
@@ -34,7 +35,9 @@ def main(words: list[str] | None = None) -> int:
     run = runs.read(asked.run, asked.folder)
     if not os.path.exists(run.journal):
         raise DeskError(f"{run.journal} isn't there: this topology wasn't run in {run.folder}")
+    called = names.of(asked.run, asked.names)
     report = gather.report_of(run, asked.frames, asked.quiet)
+    naming.put(report, called)
     write(asked.output, page.build(report))
     return 1 if any(it.level == "bad" and it.is_fault for it in report.notices) else 0
 

@@ -42,6 +42,14 @@ class Port:
     isolated: bool = False
     present: bool = True
     counters: Counters = field(default_factory=Counters)
+    # What it is called on its switch, and the same in few letters.
+    label: str = ""
+    short: str = ""
+
+    @property
+    def shown(self) -> str:
+        """What a reader sees: what it is called, or its place."""
+        return self.label or self.name
 
 
 @dataclass
@@ -50,6 +58,7 @@ class Device:
     number: int
     ports: int
     on: str | None = None
+    label: str = ""
 
     @property
     def name(self) -> str:

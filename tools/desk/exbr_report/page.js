@@ -3,6 +3,9 @@
   const byId = (id) => document.getElementById(id);
   const data = JSON.parse(byId("data").textContent);
   const { ports, addresses, infos, reasons, sets, words, columns: col } = data;
+  // What ports are called on their switch, where that is known.
+  const called = data.names || ports;
+  const interfaces = data.interfaces || ports;
   const total = col.port.length;
   const filters = { port: byId("f-port"), vlan: byId("f-vlan"), what: byId("f-what"), from: byId("f-from"), to: byId("f-to"), word: byId("f-word") };
   const whats = ["left", "nowhere", "ignored"];
@@ -37,10 +40,10 @@
   const grouped = (them) => {
     const out = [];
     for (const [port, tagged] of them) {
-      const [, head, at] = /^(b|x\d+\.)(\d+)$/.exec(ports[port]);
+      const [, head, at] = /^(.*?)(\d+)$/.exec(interfaces[port]) || [null, interfaces[port], ""];
       const last = out[out.length - 1];
-      if (last && last.head === head && last.tagged === tagged && last.end + 1 === +at) last.end = +at;
-      else out.push({ head, tagged, begin: +at, end: +at });
+      if (at && last && last.head === head && last.tagged === tagged && last.end + 1 === +at) last.end = +at;
+      else out.push({ head, tagged, begin: at && +at, end: at && +at });
     }
     return out.map((it) => it.head + it.begin + (it.end > it.begin ? `-${it.end}` : "") + (it.tagged ? " (tag)" : ""));
   };
@@ -51,7 +54,7 @@
     return parts.length > 6 ? `${parts.slice(0, 5).join(", ")} .. ${number(them.length)} ports` : parts.join(", ");
   };
   const why = (row) => {
-    const values = { port: ports[col.port[row]], vid: col.vid[row], destination: addresses[col.destination[row]], at: ports[col.at[row]],
+    const values = { port: called[col.port[row]], vid: col.vid[row], destination: addresses[col.destination[row]], at: called[col.at[row]],
       of: col.of[row], age: col.age[row] };
     // The first is the cause by which the filter finds it; the others are sentences.
     const told = reasons[col.reason[row]].slice(1).map((it) => fill(words[it], values));
@@ -71,7 +74,7 @@
     tr.classList.add("open");
     button.setAttribute("aria-expanded", "true");
     const list = element("ol", null, ...why(row).map((it) => element("li", null, it)));
-    const head = `Frame ${col.number[row]} of ${ports[col.port[row]]}, line ${col.line[row]} of the journal`;
+    const head = `Frame ${col.number[row]} of ${called[col.port[row]]}, line ${col.line[row]} of the journal`;
     const wrong = data.disagree[row];
     tr.after(element("tr", { class: "why" }, element("td", { colspan: 10 }, element("strong", null, head), list,
       wrong ? element("p", { class: "disagree" }, wrong) : "")));
@@ -79,11 +82,11 @@
   const rowOf = (row) => {
     const what = col.what[row];
     const button = element("button", { type: "button", "aria-expanded": "false",
-      "aria-label": `Why: frame ${col.number[row]} of ${ports[col.port[row]]}` }, "why");
+      "aria-label": `Why: frame ${col.number[row]} of ${called[col.port[row]]}` }, "why");
     const cell = (kind, of, ...content) => element("td", { class: kind, "data-of": of }, ...content);
     const tr = element("tr", null,
       cell("n", "second", second(row)),
-      cell(null, "at", `${ports[col.port[row]]} #${col.number[row]}`),
+      cell(null, "at", `${called[col.port[row]]} #${col.number[row]}`),
       cell("n", "VLAN", col.vid[row] ? String(col.vid[row]) : "–"),
       cell(null, "from", element("code", null, addresses[col.source[row]] || "–")),
       cell(null, "to", element("code", null, addresses[col.destination[row]] || "–")),

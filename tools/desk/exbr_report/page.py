@@ -117,7 +117,7 @@ def port_row(port: Port, at: int, palette: Palette) -> Markup:
     rules += ["filter"] if port.filter else []
     rules += ["isolated"] if port.isolated else []
     rules += [] if port.present else ["absent"]
-    link = tag("a", port.name, href="#frames", data_frames=json.dumps({"port": str(at)}), title=f"The frames of {port.name}")
+    link = tag("a", port.shown, href="#frames", data_frames=json.dumps({"port": str(at)}), title=f"The frames of {port.name}")
     return tag("tr", tag("th", link, scope="row"), tag("td", port.pvid, class_="n"), tag("td", lists.chips(port.members, port.vlans, palette)),
                tag("td", ", ".join(rules) or "–"), count(it.arrived), count(it.relayed), count(it.refused), count(it.nobody), count(it.ignored), count(it.left),
                tag("td", octets(it.octets), class_="n" if it.octets else "n zero"),
@@ -195,7 +195,7 @@ def filter_form(report: Report) -> Markup:
     seen = sorted(set(data["columns"]["vid"]) - {0})
     reasons = [(f"nowhere:{code}", f"- {words}") for code, words in data.get("causes", {}).items()]
     whats = [("", "all"), ("left", "left somewhere"), ("nowhere", "went nowhere"), *reasons, ("ignored", "ignored")]
-    ports = [("", "all"), *((str(at), it.name) for at, it in enumerate(report.ports))]
+    ports = [("", "all"), *((str(at), it.shown) for at, it in enumerate(report.ports))]
     return tag("form", choice("f-port", "Arrived at", ports), choice("f-vlan", "VLAN", [("", "all"), *((str(it), str(it)) for it in seen)]),
                choice("f-what", "What became of it", whats),
                tag("label", "From second", tag("input", id="f-from", type="number", min="0", step="any")),

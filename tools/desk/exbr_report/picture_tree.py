@@ -139,7 +139,7 @@ def spoken(port: Port) -> str:
     vlans = ", ".join(f"VLAN {it.vid} {'tagged' if it.tagged else 'untagged'}" for it in port.members[:8]) or "in no VLAN"
     more = f" and {port.vlans - 8} more" if port.vlans > 8 else ""
     state = ("" if port.present else ", absent") + (", isolated" if port.isolated else "")
-    return f"Port {port.name}, {vlans}{more}{state}: {port.counters.arrived} frames arrived, {port.counters.left} left"
+    return f"Port {port.shown}, {vlans}{more}{state}: {port.counters.arrived} frames arrived, {port.counters.left} left"
 
 
 def stripe(port: Port, x: int, y: int, palette: Palette) -> list[Markup]:
@@ -163,7 +163,7 @@ def tile(port: Port, x: int, y: int, palette: Palette, most: int) -> Markup:
         tag("title", spoken(port)),
         tag("rect", x=x, y=y, width=TILE_WIDE, height=TILE_HIGH, rx=4, class_="plate"),
         stripe(port, x, y, palette),
-        tag("text", port.name, x=x + 6, y=y + 14, class_="name"),
+        tag("text", port.short or port.name, x=x + 6, y=y + 14, class_="name"),
         tag("text", "⊘" if port.isolated else "", x=x + TILE_WIDE - 6, y=y + 14, class_="mark"),
         tag("text", vlan_words(port) if port.present else "absent", x=x + 6, y=y + 27, class_="vlans"),
         tag("text", f"↓{short(port.counters.arrived)} ↑{short(port.counters.left)}", x=x + 6, y=y + 40, class_="count"),
@@ -204,7 +204,7 @@ def drawn(plate: Plate, ports: dict[str, Port], palette: Palette, most: int) -> 
         x, y = plate.tile(number)
         below = hanging.get(number)
         parts.append(cascade(device, number, below, x, y) if below else tile(ports[device.port(number)], x, y, palette, most))
-    name = "bridge" if not device.number else f"x{device.number}"
+    name = "bridge" if not device.number else f"x{device.number} {device.label}".strip()
     on = f" on {device.on}" if device.on else ""
     return tag("g",
                tag("rect", x=plate.x, y=plate.y, width=plate.wide, height=plate.high, rx=8, class_="device"),

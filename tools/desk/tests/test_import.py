@@ -1,12 +1,13 @@
 """exbr-import: answers of a Linux bridge that filters VLANs (a kernel 6.1 in user mode) and of one that doesn't, and folders of captures."""
 import json
 import os
+import shutil
 import struct
 import tomllib
 import unittest
 
 import ground
-from exbr_desk import topology
+from exbr_desk import captures, topology
 from exbr_import import linux, switch, text
 
 LINUX = os.path.join(ground.TESTS, "linux")
@@ -113,7 +114,7 @@ class OfLinux(ground.InFolder):
                             (["--link", self.write("b", "{}")], "ip -j -d link"), (["--link", nothing], "there is no bridge in it"),
                             (["--link", good], "--vlan FILE"), (["--link", good, "--bridge", "br9"], "there is no bridge br9; bridges: br0"),
                             (["--link", self.write("c", two)], "name one by --bridge: br0, br1"), (["--link", self.write("d", json.dumps([bridge()]))], "no ports"),
-                            (["--link", good, "--vlan", self.write("e", bad_vlan)], "a VLAN isn't in 1 to 4094"), ([], "name --link FILE"),
+                            (["--link", good, "--vlan", self.write("e", bad_vlan)], "a VLAN isn't in 1 to 4094"), ([], "name --nxos FILE"),
                             (["--captures", self.folder, "--host"], "need --link"), (["--link", good, "--vlan", nothing, "--extenders", "65"], "1 to 64"),
                             (["--link", answer("plain-link"), "-o", self.path("no", "where")], "No such file"),
                             (["--link", self.write("f", b"\xff\xfe")], "it isn't JSON")):
@@ -169,6 +170,76 @@ class OfFolders(ground.InFolder):
         self.write("in-swp1.pcap", capture())
         self.assert_line(said(), 2, "are both captures of swp1")
         self.assert_line(ground.tool("exbr-import", "--captures", self.path("nope")), 2, "No such file")
+
+
+DETAIL = """FEX: 101 Description: rack-7-left   state: Online
+  FEX version: 7.1(4)N1(1) [Switch version: 7.1(4)N1(1)]
+  Extender Model: N2K-C2232PP-10GE,  Part No: 73-12533-05
+  Pinning-mode: static    Max-links: 1
+  Fabric port for control traffic: Eth1/1
+  Fabric interface state:
+    Po101 - Interface Up. State: Active
+    Eth1/1 - Interface Up. State: Active
+  Fex Port        State  Fabric Port
+       Eth101/1/1    Up       Po101
+       Eth101/1/2  Down        None
+       Eth101/1/3  Down        None
+Logs:
+12/01/2026 20:11:02.112233: Module register received
+"""
+NEXUS = """hostname a
+vlan 10
+fex 101
+interface port-channel5
+  switchport access vlan 10
+interface Ethernet1/1
+  switchport mode fex-fabric
+  fex associate 101
+interface Ethernet101/1/1
+  channel-group 5
+interface Ethernet101/1/2
+  channel-group 5
+interface Ethernet101/1/3
+  description web-03
+  switchport access vlan 10
+"""
+
+
+class OfNexus(ground.InFolder):
+    """Captures that are named after interfaces, and the answer of `show fex detail`."""
+
+    def made(self, *words: str, status: int = 0) -> tuple[dict, str]:
+        """The topology that is written, and what is said of it."""
+        done = ground.tool("exbr-import", "--nxos", self.write("a.cfg", NEXUS), "-o", self.path("topology.toml"), "--force", *words)
+        self.assertEqual(done.returncode, status, done.stderr)
+        with open(self.path("topology.toml"), "rb") as file:
+            return tomllib.load(file), done.stderr
+
+    def test_detail(self):
+        made, said = self.made("--fex-detail", self.write("detail", DETAIL))
+        self.assertEqual(made["extender"][0]["ports"], 3)
+        self.assertNotIn("by the interfaces of the file", said)
+        made, _ = self.made("--fex", "101=32")
+        self.assertEqual((made["extender"][0]["ports"], made["vlan"][0]), (32, {"vid": 1, "untagged": ["x1.4-32"]}))
+
+    def test_captures(self):
+        for name, source in (("Ethernet101_1_1.pcap", 1), ("eth101-1-2.pcap", 2), ("in-Eth101.1.3.pcap", 3)):
+            self.write(f"c/{name}", capture(frame(source)))
+        words = ["--captures", self.path("c"), "--fex", "101=3"]
+        if not shutil.which("mergecap"):
+            self.skipTest("mergecap isn't here (Debian: wireshark-common)")
+        made, said = self.made(*words)
+        self.assertEqual(made["captures"], {"x1.1": "in-x1.1.pcapng", "x1.3": "c/in-Eth101.1.3.pcap"})
+        self.assertEqual(sorted(it.frame[11] for it in captures.records(self.path("in-x1.1.pcapng"))), [1, 2])
+        self.assertNotIn("nothing arrives", said)
+        done = ground.tool("exbr-import", "--nxos", self.path("a.cfg"), *words)
+        self.assert_line(done, 2, "become one file; name the topology by -o FILE")
+        self.write("c/e101-1-3.pcap", capture(frame(4)))
+        self.assert_line(ground.tool("exbr-import", "--nxos", self.path("a.cfg"), *words, "-o", self.path("topology.toml"), "--force"), 2,
+                         "are both captures of Ethernet101/1/3")
+
+    def test_version(self):
+        self.assertIn("exbr-import ", ground.tool("exbr-import", "--version").stdout)
 
 
 class Texts(unittest.TestCase):
