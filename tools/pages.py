@@ -90,7 +90,11 @@ def promises(crates):
         for path in (it for it in files(f'crates/{crate}/src', '.rt') if re.search(r'/laws(?:\.rt|/)', it)):
             yield from (f'docs/PROMISES.md: law {law} of {crate} is missing' for law in LAW.findall(text(path)) if law not in named)
     run = text('crates/exb_run/src/top.rt').split('\npub fn run<')[1]
-    yield from (f'docs/PROMISES.md: clause {it} of run is missing' for it in re.findall(r'^    ensures (\w+) \{', run, re.M) if it not in named)
+    clauses = re.findall(r'^    ensures (\w+) \{', run, re.M)
+    for record in re.split(r'\npub record ', text('crates/exb_run/specs/Endings.antt'))[1:]:
+        if record.split()[0].lower() in clauses:
+            clauses += re.findall(r'^  pub (\w+) :', record, re.M)
+    yield from (f'docs/PROMISES.md: clause {it} of run is missing' for it in clauses if it not in named)
 
 
 def definitions(crates):
