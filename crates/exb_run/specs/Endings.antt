@@ -51,36 +51,36 @@ IsEarly own = (own ≢ 0) × (own ≢ 1) × (own ≢ 6) × (own ≢ 7) × (own �
 -- What ended the call has a status of its own and one line, which the sink was told once: all of it, at that status; or as far as a sink went
 -- that wanted memory, at 1, or that failed, at 7. By its own status each fault of the shelf was counted, once; and where that is a refusal
 -- nothing but reading was done, whatever the shelf tells and also at a 1 or 7 in its place.
-pub record EndedOnce (printing : Type 0) (a : Option Ask) (status : ℕ) (old new : Files) (counted counts : Faults) (given ids : ℕ → Id) (failed fails : ℕ) (before after : List ℕ) : Type 0 where
+pub record EndedOnce (printing : Type 0) (a : Option Ask) (status : ℕ) (old new : Files) (counted now : Faults) (given ids : ℕ → Id) (failed fails : ℕ) (before after : List ℕ) : Type 0 where
   pub own : ℕ
   pub line : List ℕ
-  pub is : IsLineOf a counted counts own line
+  pub is : IsLineOf a counted now own line
   pub prints : PrintsLine printing own status failed fails before after line
-  pub counts : CountedAt own counted counts
+  pub counts : CountedAt own counted now
   pub reads : IsEarly own → Opens IsReading given ids
   pub same : IsEarly own → SameFiles old new
 
 -- With 5, 6 and 7 the shelf or the sink counted a fault, with 1 memory ran out, and with 10, which never comes where files are told, a capture
 -- turned out to be another one. Each fault is counted once, at its own status, and nothing is done behind it. Without any, and where what is
 -- asked for can be done, it is done, or memory ran out.
-pub record Broken (tells printing : Type 0) (a : Option Ask) (status : ℕ) (old new : Files) (counted counts : Faults) (given ids : ℕ → Id) (failed fails : ℕ) (before after : List ℕ) : Type 0 where
-  pub rose : RoseBy a status counted counts failed fails
-  pub counts : CountedBy status counted counts failed fails
+pub record Broken (tells printing : Type 0) (a : Option Ask) (status : ℕ) (old new : Files) (counted now : Faults) (given ids : ℕ → Id) (failed fails : ℕ) (before after : List ℕ) : Type 0 where
+  pub rose : RoseBy a status counted now failed fails
+  pub counts : CountedBy status counted now failed fails
   pub sink : status ≢ 7 → fails ≡ failed
-  pub ended : EndedOnce printing a status old new counted counts given ids failed fails before after
+  pub ended : EndedOnce printing a status old new counted now given ids failed fails before after
   pub out_of_memory : printing → after ≡ before ++ fault_line Memory → status ≡ 1
   pub ten_never : tells → status ≢ 10
-  pub complete : tells → CanBeDone a old → ¬ Rose counted.reads counts.reads → ¬ Rose counted.writes counts.writes → ¬ Rose failed fails
+  pub complete : tells → CanBeDone a old → ¬ Rose counted.reads now.reads → ¬ Rose counted.writes now.writes → ¬ Rose failed fails
       → status ≢ 1 → status ≡ 0
   pub complete_made : (number : ℕ) → a ≡ Some (Make number) → ¬ Rose failed fails → status ≢ 1 → status ≡ 0
 
 -- However it ended, it leaves this. Printed is the line or the lines of the status, and at 1 and 7 a front of one text. Only outputs of what is
 -- asked for have changed; where a run or a net ended early, each of them is as it was or holds a front of its text. Only what is asked for is
 -- opened, and it is opened in order: the topology, its captures, and behind all of these the outputs, each once; whatever the shelf tells.
-pub record Leaves (tells printing : Type 0) (a : Option Ask) (status : ℕ) (old new : Files) (counted counts : Faults) (given ids : ℕ → Id) (failed fails : ℕ) (before after : List ℕ) : Type 0 where
+pub record Leaves (tells printing : Type 0) (a : Option Ask) (status : ℕ) (old new : Files) (counted now : Faults) (given ids : ℕ → Id) (failed fails : ℕ) (before after : List ℕ) : Type 0 where
   pub says : printing → SaysBy status failed fails before after
-  pub front : tells → printing → (text : List ℕ) × IsText a old new counted counts text × AppendsFront before after text
-  pub prints : printing → Prints a counted counts status before after
+  pub front : tells → printing → (text : List ℕ) × IsText a old new counted now text × AppendsFront before after text
+  pub prints : printing → Prints a counted now status before after
   pub read_only : ¬ IsRun a → SameFiles old new
   pub others : tells → OnlyAsked a old new
   pub fronts : tells → AreFronts a old new
@@ -92,9 +92,9 @@ pub record Leaves (tells printing : Type 0) (a : Option Ask) (status : ℕ) (old
       → NetOpenedInOrder tells printing name counters status old given ids before after
 
 -- All of that, and which statuses can come.
-pub record Ends (tells printing : Type 0) (a : Option Ask) (status : ℕ) (old new : Files) (counted counts : Faults) (given ids : ℕ → Id) (failed fails : ℕ) (before after : List ℕ) : Type 0 where
+pub record Ends (tells printing : Type 0) (a : Option Ask) (status : ℕ) (old new : Files) (counted now : Faults) (given ids : ℕ → Id) (failed fails : ℕ) (before after : List ℕ) : Type 0 where
   pub done : Done tells printing a status old new before after
   pub refused : Refused tells printing a status old new failed fails before after
-  pub broken : Broken tells printing a status old new counted counts given ids failed fails before after
-  pub leaves : Leaves tells printing a status old new counted counts given ids failed fails before after
+  pub broken : Broken tells printing a status old new counted now given ids failed fails before after
+  pub leaves : Leaves tells printing a status old new counted now given ids failed fails before after
   pub status_is : IsStatus a status

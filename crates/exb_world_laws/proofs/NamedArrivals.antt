@@ -344,8 +344,8 @@ module _ (t : Shape) where
             subst (Each (IsWordOf t g m)) (sym (ups m))
             (each_more (change (upward w) n (items.without_data (upward w n))) (device (on t n)) (datum x) (IsWordOf t g m) m (each_less (upward w) n (IsWordOf t g m) m (as_up m there))
             (λ e.
-                let its : IsWordOf t g n (datum x) = each_first (IsWordOf t g n) (upward w n) (datum x) rest first (as_up n link) in
-                record { outer = its.outer; below = over_child t m n (device (datum x).port) high (sym e) over; record_of = its.record_of }));
+            let its : IsWordOf t g n (datum x) = each_first (IsWordOf t g n) (upward w n) (datum x) rest first (as_up n link) in
+            record { outer = its.outer; below = over_child t m n (device (datum x).port) high (sym e) over; record_of = its.record_of }));
       }
 
   -- ---- words that come to the bridge

@@ -16,7 +16,6 @@ use Rattle.exb_inputs.proofs.Outcomes.{Outcome}
 use Rattle.exb_run.proofs.UniqueFault.{can_not, failure_is}
 use Rattle.exb_run.proofs.top.run.Goals as goal
 
-
 -- ---- what is done
 pub returns-clause-done : goal.returns-clause-done
 returns-clause-done g c = record {
@@ -108,14 +107,14 @@ returns-clause-broken g c = record {
       counted-by c.work-outcome.result c.report-status.result (g.S.Shelf.faults c.args.shelf.now) (g.S.Shelf.faults c.work-outcome.new.shelf) _ _ c.report-status.ensures.status c.report-status.ensures.seven c.work-outcome.ensures.faults.once;
   sink = c.report-status.ensures.counts;
   ended = record {
-        own = status_of c.work-outcome.result;
-        line = line_of c.work-outcome.result;
-        is = line_is c.work-outcome.result (asked c.args.words.now) (g.S.Shelf.faults c.args.shelf.now) (g.S.Shelf.faults c.work-outcome.new.shelf) c.work-outcome.ensures.came.can_come c.work-outcome.ensures.came.says c.work-outcome.ensures.faults;
-        prints = c.report-status.ensures.once;
-        counts = counted-at c.work-outcome.result (g.S.Shelf.faults c.args.shelf.now) (g.S.Shelf.faults c.work-outcome.new.shelf) c.work-outcome.ensures.faults.once;
-        reads = λ early. c.work-outcome.ensures.opens.reads early.0 early.1 early.2 early.3 early.4;
-        same = λ early. making_end c.work-outcome.result _ c.work-outcome.ensures.came.early early.0 early.1 early.2 early.3 early.4;
-      };
+    own = status_of c.work-outcome.result;
+    line = line_of c.work-outcome.result;
+    is = line_is c.work-outcome.result (asked c.args.words.now) (g.S.Shelf.faults c.args.shelf.now) (g.S.Shelf.faults c.work-outcome.new.shelf) c.work-outcome.ensures.came.can_come c.work-outcome.ensures.came.says c.work-outcome.ensures.faults;
+    prints = c.report-status.ensures.once;
+    counts = counted-at c.work-outcome.result (g.S.Shelf.faults c.args.shelf.now) (g.S.Shelf.faults c.work-outcome.new.shelf) c.work-outcome.ensures.faults.once;
+    reads = λ early. c.work-outcome.ensures.opens.reads early.0 early.1 early.2 early.3 early.4;
+    same = λ early. making_end c.work-outcome.result _ c.work-outcome.ensures.came.early early.0 early.1 early.2 early.3 early.4;
+  };
   out_of_memory = λ o.
       memory_is_one c.work-outcome.result (asked c.args.words.now) c.report-status.result (g.O.Sink.text c.args.out.now) (g.O.Sink.text c.report-status.new.out) c.work-outcome.ensures.came.says (c.report-status.ensures.front o) (c.report-status.ensures.short o);
   ten_never = λ t e.
