@@ -1,5 +1,5 @@
 -- A net that is asked for: what was read and checked, what was opened, and how it ends.
-use Rattle.std.proofs.Common.{◌≡◌, ◌⊎◌, ℕ, zero, suc, ◌<◌, Bool, true, false, List, [], ◌∷◌, length, map, take, Some, None, Result, Ok, Err, refl, ap, sym, ◌∙◌, subst, arith, inl, inr}
+use Rattle.std.proofs.Common.{◌≡◌, ◌≢◌, ◌⊎◌, ℕ, zero, suc, ◌<◌, Bool, true, false, List, [], ◌∷◌, length, map, take, Some, None, Result, Ok, Err, refl, ap, sym, ◌∙◌, subst, arith, inl, inr}
 use Rattle.std.specs.Prelude.{IfErr, IsErrOf, String, option_map, slice_get}
 use Rattle.std.specs.declared.alloc.Global.{Global}
 use Rattle.std.proofs.lemmas.Bool.{false≢true}
@@ -9,6 +9,7 @@ use Rattle.exb_toml_keys.specs.declared.faults.TopoFault.TheVariants as topology
 use Rattle.exb_inputs.specs.declared.fault.Fault.{Fault}
 use Rattle.exb_inputs.specs.declared.fault.Fault.TheVariants.{Usage, Missing, Topology, Capture, Changed, Net, Member, MemberCapture, MemberChanged, Output, TooLarge, BadLine, Illegal, Read, Write, Memory}
 use Rattle.exb_inputs.specs.declared.fault.InputFlaw.{InputFlaw}
+use Rattle.exb_inputs.specs.Answers.{fault_status}
 use Rattle.exb_inputs.specs.Inputs.{is_named}
 use Rattle.exb_inputs.specs.ShelfEffects.{ReadsCapture}
 use Rattle.exb_inputs.proofs.Outcomes.{files_same}
@@ -156,6 +157,50 @@ checking_early X Read is late = late
 checking_early X Write is late = late
 checking_early X Memory is late = late
 
+-- the net was taken
+pub checking_taken : (x : Fault) → IsOfMemberCapture x → fault_status x ≢ 3
+checking_taken Usage is = absurd is
+checking_taken (Missing name) is = λ e. omega arith
+checking_taken (Topology fault) is = absurd is
+checking_taken (Capture p flaw) is = absurd is
+checking_taken (Changed p at) is = absurd is
+checking_taken (Net fault) is = absurd is
+checking_taken (Member name fault) is = absurd is
+checking_taken (MemberCapture name p flaw) is = λ e. omega arith
+checking_taken (MemberChanged name p at) is = absurd is
+checking_taken (Output p broke) is = absurd is
+checking_taken (TooLarge what) is = absurd is
+checking_taken (BadLine what n) is = absurd is
+checking_taken (Illegal r) is = absurd is
+checking_taken Read is = λ e. omega arith
+checking_taken Write is = absurd is
+checking_taken Memory is = λ e. omega arith
+
+play_taken : (x : Fault) → IsOfNetPlay x → fault_status x ≢ 3
+play_taken Usage is = absurd is
+play_taken (Missing name) is = absurd is
+play_taken (Topology fault) is = absurd is
+play_taken (Capture p flaw) is = absurd is
+play_taken (Changed p at) is = absurd is
+play_taken (Net fault) is = absurd is
+play_taken (Member name fault) is = absurd is
+play_taken (MemberCapture name p flaw) is = absurd is
+play_taken (MemberChanged name p at) is = λ e. omega arith
+play_taken (Output p broke) is = absurd is
+play_taken (TooLarge what) is = absurd is
+play_taken (BadLine what n) is = absurd is
+play_taken (Illegal r) is = absurd is
+play_taken Read is = λ e. omega arith
+play_taken Write is = λ e. omega arith
+play_taken Memory is = λ e. omega arith
+
+pub played_taken : (o : Result (String Global) Fault) → IfErr o IsOfNetPlay → IfErr o (λ x. fault_status x ≢ 3)
+played_taken (Ok line) is = tt
+played_taken (Err x) is = play_taken x is
+
+pub memory_taken : fault_status Memory ≢ 3
+memory_taken = λ e. omega arith
+
 pub memory_early : (X : Type 0) → IsNetLate {X = X} (Err Memory) → ⊥
 memory_early X late = late
 
@@ -298,8 +343,8 @@ module _ (tells : Type 0) (name : List ℕ) (counters : Bool) (file : Files) (ms
 
   -- it ended before files were made
   pub unmade : (x : Fault) → ((IsNetLate {X = String Global} (Err x)) → ⊥) → ((bridge : List ℕ) (p : ℕ) (flaw : InputFlaw) → x ≡ MemberCapture bridge p flaw → HasCaptureAt ms bridge p) →
-      ((bridge : List ℕ) (p at : ℕ) → x ≡ MemberChanged bridge p at → HasCaptureAt ms bridge p) → NetOpens tells name counters (Err x) file a c
-  unmade x late own changed = record {
+      ((bridge : List ℕ) (p at : ℕ) → x ≡ MemberChanged bridge p at → HasCaptureAt ms bridge p) → fault_status x ≢ 3 → NetOpens tells name counters (Err x) file a c
+  unmade x late own changed taken = record {
     bridges = net.bridges;
     members = ms;
     wires = ws;
@@ -308,6 +353,7 @@ module _ (tells : Type 0) (name : List ℕ) (counters : Bool) (file : Files) (ms
     made = none_made x late;
     behind = λ i free given writes. absurd (nothing_made i free given writes);
     first = λ t fault faulty. all_reading;
+    taken = taken;
     own = λ bridge p flaw is. own bridge p flaw (err_same is);
     changed = λ bridge p at is. changed bridge p at (err_same is);
   }
@@ -350,8 +396,8 @@ module _ (tells : Type 0) (name : List ℕ) (counters : Bool) (file : Files) (ms
             absurd (false≢true (sym writes ∙ (ap (λ (z : Id). z.reads) (opens.kept i e) ∙ (all_reading.fresh i free e).reads)))
 
     pub played : ((bridge : List ℕ) (p : ℕ) (flaw : InputFlaw) → IsErrOf o (MemberCapture bridge p flaw) → HasCaptureAt ms bridge p) → ((bridge : List ℕ) (p at : ℕ) → IsErrOf o (MemberChanged bridge p at) → HasCaptureAt ms bridge p) →
-        NetOpens tells name counters o file a d
-    played own changed = record {
+        IfErr o IsOfNetPlay → NetOpens tells name counters o file a d
+    played own changed causes = record {
       bridges = net.bridges;
       members = ms;
       wires = ws;
@@ -365,6 +411,7 @@ module _ (tells : Type 0) (name : List ℕ) (counters : Bool) (file : Files) (ms
       };
       behind = played_behind;
       first = λ t fault faulty. absurd (law.good name file ms ws fault (holds t) (good t) faulty);
+      taken = played_taken o causes;
       own = own;
       changed = changed;
     }

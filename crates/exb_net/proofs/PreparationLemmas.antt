@@ -14,6 +14,8 @@ use Rattle.exb_model.specs.Setup.{IsValid}
 use Rattle.exb_model.specs.Tree.{IsTree, external_ports}
 use Rattle.exb_model.specs.declared.setup.Setup.{Setup}
 use Rattle.exb_net_spec.specs.declared.wires.Wire.{Wire}
+use Rattle.exb_net_spec.specs.BridgeHistories.{HistoriesHoldAll, HoldsAll}
+use Rattle.exb_net_spec.specs.NetHistory.{Histories, NetEager}
 use Rattle.exb_net_spec.specs.Nets.{Net, IsNet}
 use Rattle.exb_net_laws.specs.NetRuns.{tree_in}
 use Rattle.exb_net.specs.NetStates.{IsSetupOf, no_dones}
@@ -21,10 +23,11 @@ use Rattle.exb_net_file.specs.declared.net_parts.NetParts.{NetParts}
 use Rattle.exb_net_file.specs.declared.members.NetMember.{NetMember}
 use Rattle.exb_net_file.specs.SetupParts.{IsTakenApart, setup_in}
 use Rattle.exb_net_file.specs.Members.{ports_together}
-use Rattle.exb_net_file.specs.Soundness.{BridgesWriteApart, IsInputOf, IsMadeOf}
+use Rattle.exb_net_file.specs.Soundness.{BridgesWriteApart, IsInputOf, IsMadeOf, NetsAreTimely}
 use Rattle.exb_net_file.proofs.Nets.{past}
 use Rattle.exb_inputs.specs.MemberChecks.{AreMembersChecked}
 use Rattle.exb_inputs.specs.NetContents.{AreRead}
+use Rattle.exb_inputs.specs.NetLaws.{AreInputsOf}
 use Rattle.exb_outputs.specs.Manifests.{Listed}
 use Rattle.exb_outputs.specs.WrittenTexts.{first_text, pieces_of}
 use Rattle.exb_outputs.proofs.WrittenTexts.{kinds_same}
@@ -64,6 +67,10 @@ module _ (ms : List NetMember) (ws : List Wire) (file : Files) where
 
   pub net_is : ((m : NetMember) (f : Files) → IsInputOf m (input_in f (Some m))) → AreRead ms ws → IsNet (net_of ms ws file)
   net_is law read = read.nets.valid (net_of ms ws file) (made_of law)
+
+  -- the history of each bridge holds what comes to it
+  pub net_holds : AreInputsOf → NetsAreTimely → HistoriesHoldAll → AreRead ms ws → (hs : Histories) → NetEager (net_of ms ws file) hs → (b : ℕ) → b < length ms → HoldsAll (net_of ms ws file) hs b
+  net_holds inputs timely holds read hs eager b low = holds (net_of ms ws file) hs b (net_is inputs read) (timely ms ws (net_of ms ws file) read.sound (made_of inputs)) eager low
 
   pub setup_of : (parts : NetParts) → IsTakenApart ms ws parts → IsSetupOf (net_of ms ws file) parts.setup
   setup_of parts taken =

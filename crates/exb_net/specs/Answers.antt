@@ -1,6 +1,7 @@
 -- How a net that is asked for ends: what is done, what stops it, and what has become of the files.
-use Rattle.std.specs.Prelude.{⊤, ◌≡◌, ◌<◌, ◌⊎◌, ◌==◌, ◌||◌, IsTrue, ℕ, Bool, List}
+use Rattle.std.specs.Prelude.{⊤, ◌≡◌, ◌<◌, ◌⊎◌, ◌==◌, ◌||◌, IsTrue, ℕ, Bool, List, length}
 use Rattle.exb_net_spec.specs.declared.wires.Wire.{Wire}
+use Rattle.exb_net_spec.specs.BridgeHistories.{HoldsAll}
 use Rattle.exb_net_file.specs.declared.members.NetMember.{NetMember}
 use Rattle.exb_inputs.specs.MemberChecks.{AreAllMembersGood}
 use Rattle.exb_inputs.specs.NetContents.{HoldsNet}
@@ -25,12 +26,13 @@ pub record CanNetBeDone (name : List ℕ) (file : Files) : Type 0 where
   pub wires : List Wire
   pub ready : IsNetReady name file members wires
 
--- all was played and written; this line sums it up
+-- all was played and written; this line sums it up; and the history of each bridge holds all that comes to it
 pub record NetPlayed (name : List ℕ) (counters : Bool) (old new : Files) (line : List ℕ) : Type 0 where
   pub members : List NetMember
   pub wires : List Wire
   pub ready : IsNetReady name old members wires
   pub played : IsNetPlayed counters members (net_of members wires old) old new line
+  pub holds : (b : ℕ) → b < length members → HoldsAll (net_of members wires old) played.histories b
 
 -- ---- what has become of the files
 -- whatever net the file of this name makes, no file but its outputs has changed

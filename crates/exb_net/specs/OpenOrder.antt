@@ -1,5 +1,5 @@
 -- Which files a net opens, and in which order: its file, the topologies, the captures, the files that it makes, and the captures again.
-use Rattle.std.specs.Prelude.{⊤, ◌≡◌, ◌<◌, ◌≤◌, ◌⊎◌, ℕ, Bool, true, false, List, Some, Result, Ok, Err, IsErrOf, String, flat_map, length, map, slice_get}
+use Rattle.std.specs.Prelude.{⊤, ◌≡◌, ◌≢◌, ◌<◌, ◌≤◌, ◌⊎◌, ℕ, Bool, true, false, List, Some, Result, Ok, Err, IfErr, IsErrOf, String, flat_map, length, map, slice_get}
 use Rattle.std.specs.declared.alloc.Global.{Global}
 use Rattle.exb_model.specs.Ports.{below}
 use Rattle.exb_net_spec.specs.declared.wires.Wire.{Wire}
@@ -14,6 +14,7 @@ use Rattle.exb_inputs.specs.declared.fault.InputFlaw.{InputFlaw}
 use Rattle.exb_net.specs.Answers.{IsNetReady}
 use Rattle.exb_inputs.specs.declared.fault.Fault.{Fault}
 use Rattle.exb_inputs.specs.declared.fault.Fault.TheVariants.{MemberCapture, MemberChanged, Read}
+use Rattle.exb_inputs.specs.Answers.{fault_status}
 use Rattle.exb_inputs.specs.Inputs.{is_named, name_of}
 use Rattle.exb_outputs.specs.Manifests.{Listed, output_count, output_name}
 use Rattle.exb_shelf.specs.Files.{Files}
@@ -109,7 +110,8 @@ pub record HasCaptureAt (ms : List NetMember) (name : List ℕ) (p : ℕ) : Type
 -- ---- the whole
 -- What a net opened whose file, topologies and wires were read, whatever the shelf tells: these, its captures, and its outputs, which were
 -- made in order, each once and behind all captures, and all of them where all went well or a capture turned out to be another one. A capture
--- with a fault, or one that is another, is that of a port that is named; where a capture has a fault no file was made.
+-- with a fault, or one that is another, is that of a port that is named; where a capture has a fault no file was made. The net was taken, so
+-- its end is none of those of a refused one.
 pub record NetOpens (tells : Type 0) (name : List ℕ) (counters : Bool) (o : Result (String Global) Fault) (file : Files) (given ids : ℕ → Id) : Type 0 where
   pub bridges : List NetBridge
   pub members : List NetMember
@@ -119,6 +121,7 @@ pub record NetOpens (tells : Type 0) (name : List ℕ) (counters : Bool) (o : Re
   pub made : MakesNet counters members o given ids
   pub behind : NetMadeBehind members given ids
   pub first : tells → (fault : Fault) → NetCaptureFaulty name file fault → Opens IsReading given ids
+  pub taken : IfErr o (λ x. fault_status x ≢ 3)
   pub own : (bridge : List ℕ) (p : ℕ) (flaw : InputFlaw) → IsErrOf o (MemberCapture bridge p flaw) → HasCaptureAt members bridge p
   pub changed : (bridge : List ℕ) (p at : ℕ) → IsErrOf o (MemberChanged bridge p at) → HasCaptureAt members bridge p
 

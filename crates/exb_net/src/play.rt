@@ -33,7 +33,7 @@ use exb_journal::JournalScratch;
 use exb_net_file::laws::{bridges_write_apart, nets_are_timely};
 use exb_net_file::{BridgeInputs, NetParts, take_apart};
 use exb_net_laws::laws::nets_are_played;
-use exb_net_spec::laws::{histories_go_on, nets_have_histories};
+use exb_net_spec::laws::{histories_go_on, histories_hold_all, nets_have_histories};
 use exb_shelf::Shelf;
 use exb_timeline::NetTimeline;
 use std::alloc::Global;
@@ -174,6 +174,9 @@ pub fn play_net<S: Shelf>(
     ensures order { NetOpensInOrder S.tells name.now counters result (S.file shelf.old) (S.ids shelf.old) (S.ids shelf.new) }
     ensures faults { CountsFaults result (S.faults shelf.old) (S.faults shelf.new) }
 {
+    histories_hold_all();
+    inputs_are_of_members();
+    nets_are_timely();
     nets_have_one_cause();
     let NetInputs { members, wires } = read_net(alloc, shelf, name)?;
     let checked = check_members(alloc, shelf, members.as_slice())?;

@@ -54,6 +54,7 @@ net_played_tells name counters old new line before after p prints =
       readable = p.ready.good;
       histories = p.played.histories;
       eager = p.played.eager;
+      holds = p.holds;
       captures = λ b m is q external. (p.played.written b m is).captures q (ap (λ (o : Option NetMember). is_external (tree_of (input_in old o)) q) is ∙ external);
       journals = λ b m is. (p.played.written b m is).journal;
       counts = λ counted b m is.

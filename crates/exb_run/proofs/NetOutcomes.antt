@@ -140,6 +140,10 @@ net_changed (Err Read) come e = absurd (omega arith)
 net_changed (Err Write) come e = absurd (omega arith)
 net_changed (Err Memory) come e = absurd (omega arith)
 
+not_three : (o : Outcome) → IfErr o (λ x. fault_status x ≢ 3) → status_of o ≢ 3
+not_three (Ok line) taken = λ e. omega arith
+not_three (Err x) taken = taken
+
 module _ (tells printing : Type 0) (name : List ℕ) (counters : Bool) (o : Outcome) (status : ℕ) (file : Files) (given ids : ℕ → Id) (before after : List ℕ) (is : status ≢ 1 → status ≢ 7 → status ≡ status_of o)
     (says : printing → status ≢ 1 → status ≢ 7 → after ≡ before ++ line_of o) (come : IfErr o IsOfNet) (can : (x : Fault) → o ≡ Err x → CanBe x) where
   own_status : (n : ℕ) → n ≢ 1 → n ≢ 7 → status ≡ n → status_of o ≡ n
@@ -162,6 +166,7 @@ module _ (tells printing : Type 0) (name : List ℕ) (counters : Bool) (o : Outc
       | inl e ↦ inl (own_status 0 (λ h. omega arith) (λ h. omega arith) e)
       | inr e ↦ inr (own_status 10 (λ h. omega arith) (λ h. omega arith) e)
     ]));
+    taken = λ e. not_three o r.taken (own_status 3 (λ h. omega arith) (λ h. omega arith) e);
     six = λ e. r.made.unread (is_read o (own_status 6 (λ h. omega arith) (λ h. omega arith) e));
     four = λ e.
         let found = net_capture o come (own_status 4 (λ h. omega arith) (λ h. omega arith) e) in

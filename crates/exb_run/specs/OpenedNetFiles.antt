@@ -16,7 +16,8 @@ use Rattle.exb_shelf.specs.Shelf.{Id, IsReading, Opens}
 
 -- What a net opened whose file, topologies and wires were read, with the line that was printed: these, its captures, and its outputs, which
 -- were made in order, each once and behind all captures, all of them at 0 and 10, and none or all at 6. At 4 and at 10 the line is that of a port of a bridge
--- whose capture is named. Where files are told and a capture has a fault, no file was made, whatever the status is.
+-- whose capture is named. Where files are told and a capture has a fault, no file was made, whatever the status is. At 3 the net was not taken,
+-- so this is not how it ended.
 pub record NetOpened (tells printing : Type 0) (name : List ℕ) (counters : Bool) (status : ℕ) (file : Files) (given ids : ℕ → Id) (before after : List ℕ) : Type 0 where
   pub bridges : List NetBridge
   pub members : List NetMember
@@ -27,6 +28,7 @@ pub record NetOpened (tells printing : Type 0) (name : List ℕ) (counters : Boo
   pub made : MadeInTurn (net_names counters members) count given ids
   pub behind : NetMadeBehind members given ids
   pub all : (status ≡ 0) ⊎ (status ≡ 10) → count ≡ length (net_names counters members)
+  pub taken : status ≢ 3
   pub six : status ≡ 6 → (count ≡ 0) ⊎ (count ≡ length (net_names counters members))
   pub four : status ≡ 4 → (bridge : List ℕ) × (p : ℕ) × (flaw : InputFlaw) × HasCaptureAt members bridge p × (printing → after ≡ before ++ fault_line (MemberCapture bridge p flaw))
   pub ten : status ≡ 10 → (bridge : List ℕ) × (p : ℕ) × (byte : ℕ) × (p < 4160) × HasCaptureAt members bridge p × (printing → after ≡ before ++ fault_line (MemberChanged bridge p byte))

@@ -21,8 +21,9 @@ use Rattle.exb_net.specs.Nets.{OnlyNetOutputs, net_of}
 use Rattle.exb_net.specs.OpenOrder.{IsNetWanted}
 use Rattle.exb_net.specs.Outputs.{AreNetFronts, IsNetPlayed}
 use Rattle.exb_net.proofs.ArmedFates.{rests_few}
-use Rattle.exb_net.proofs.NetOutcomes.{all_reading, all_wanted, capture_net, capture_of_member, checked_unchanged, checking_cause, checking_early, flaw_at, if_err_both, in_order, memory_early, memory_own, memory_unchanged, net_reading, net_wanted, nothing_stops, only_asked, play_failure, play_net_fault, play_own, played, played_only, reading_cause, reading_net, stops_checking, stops_reading, unmade}
+use Rattle.exb_net.proofs.NetOutcomes.{all_reading, all_wanted, capture_net, capture_of_member, checked_unchanged, checking_cause, checking_early, checking_taken, flaw_at, if_err_both, in_order, memory_early, memory_own, memory_taken, memory_unchanged, net_reading, net_wanted, nothing_stops, only_asked, play_failure, play_net_fault, play_own, played, played_only, reading_cause, reading_net, stops_checking, stops_reading, unmade}
 use Rattle.exb_net.proofs.BridgeFiles.{only_outputs}
+use Rattle.exb_net.proofs.PreparationLemmas.{net_holds}
 use Rattle.exb_net.proofs.play.play_net.Goals as goal
 
 pub returns-in_err-members : goal.returns-in_err-members
@@ -76,7 +77,7 @@ returns-in_err-checked g c =
       wanted = λ t. inr (all_wanted S.tells name c.args.counters f ms ws (S.ids c.args.shelf.now) (S.ids c.read_net.new.shelf) (S.ids c.check_members.new.shelf) c.in_ok-members.ensures.sound c.in_ok-members.ensures.read c.in_ok-members.ensures.opened (subst (λ (xs : List NetMember). OpensCaptures xs (S.ids c.read_net.new.shelf) (S.ids c.check_members.new.shelf)) c.as_slice.ensures c.check_members.ensures.opened) t);
       only = λ t. opens_weaker (IsNetWanted name f) _ _ _ (λ i w. inl w) (all_wanted S.tells name c.args.counters f ms ws (S.ids c.args.shelf.now) (S.ids c.read_net.new.shelf) (S.ids c.check_members.new.shelf) c.in_ok-members.ensures.sound c.in_ok-members.ensures.read c.in_ok-members.ensures.opened (subst (λ (xs : List NetMember). OpensCaptures xs (S.ids c.read_net.new.shelf) (S.ids c.check_members.new.shelf)) c.as_slice.ensures c.check_members.ensures.opened) t);
       order = inr (unmade S.tells name c.args.counters f ms ws (S.ids c.args.shelf.now) (S.ids c.read_net.new.shelf) (S.ids c.check_members.new.shelf) c.in_ok-members.ensures.sound c.in_ok-members.ensures.read c.in_ok-members.ensures.opened (subst (λ (xs : List NetMember). OpensCaptures xs (S.ids c.read_net.new.shelf) (S.ids c.check_members.new.shelf)) c.as_slice.ensures c.check_members.ensures.opened) x (checking_early (String Global) x c.in_err-checked.ensures.causes) (capture_of_member S.tells ms f1 (S.ids c.read_net.new.shelf) (S.ids c.check_members.new.shelf) x (subst (λ (xs : List NetMember). EndsAtMember S.tells xs f1 (S.ids c.read_net.new.shelf) (S.ids c.check_members.new.shelf) x) c.as_slice.ensures c.in_err-checked.ensures.ends))
-          (checked_unchanged ms x c.in_err-checked.ensures.causes));
+          (checked_unchanged ms x c.in_err-checked.ensures.causes) (checking_taken x c.in_err-checked.ensures.causes));
       faults = counts_from _ _ _ _ c.in_ok-members.ensures.faults.once (counts_as x _ _ c.in_err-checked.ensures.faults);
     })
 
@@ -103,7 +104,7 @@ returns-in_err-parts g c =
       reads = inl tt;
       wanted = λ t. inl tt;
       only = λ t. opens_weaker (IsNetWanted name f) _ _ _ (λ i w. inl w) (all_wanted S.tells name c.args.counters f ms ws (S.ids c.args.shelf.now) (S.ids c.read_net.new.shelf) (S.ids c.check_members.new.shelf) c.in_ok-members.ensures.sound c.in_ok-members.ensures.read c.in_ok-members.ensures.opened (subst (λ (xs : List NetMember). OpensCaptures xs (S.ids c.read_net.new.shelf) (S.ids c.check_members.new.shelf)) c.as_slice.ensures c.check_members.ensures.opened) t);
-      order = inr (unmade S.tells name c.args.counters f ms ws (S.ids c.args.shelf.now) (S.ids c.read_net.new.shelf) (S.ids c.check_members.new.shelf) c.in_ok-members.ensures.sound c.in_ok-members.ensures.read c.in_ok-members.ensures.opened (subst (λ (xs : List NetMember). OpensCaptures xs (S.ids c.read_net.new.shelf) (S.ids c.check_members.new.shelf)) c.as_slice.ensures c.check_members.ensures.opened) Memory (memory_early (String Global)) (memory_own ms) (memory_unchanged ms));
+      order = inr (unmade S.tells name c.args.counters f ms ws (S.ids c.args.shelf.now) (S.ids c.read_net.new.shelf) (S.ids c.check_members.new.shelf) c.in_ok-members.ensures.sound c.in_ok-members.ensures.read c.in_ok-members.ensures.opened (subst (λ (xs : List NetMember). OpensCaptures xs (S.ids c.read_net.new.shelf) (S.ids c.check_members.new.shelf)) c.as_slice.ensures c.check_members.ensures.opened) Memory (memory_early (String Global)) (memory_own ms) (memory_unchanged ms) memory_taken);
       faults = counts_memory _ _ (c.in_ok-checked.ensures.faults.once ∙ c.in_ok-members.ensures.faults.once);
     })
 
@@ -128,7 +129,7 @@ returns-in_default g c =
       reads = inl tt;
       wanted = λ t. inl tt;
       only = λ t. opens_weaker (IsNetWanted name f) _ _ _ (λ i w. inl w) (all_wanted S.tells name c.args.counters f ms ws (S.ids c.args.shelf.now) (S.ids c.read_net.new.shelf) (S.ids c.check_members.new.shelf) c.in_ok-members.ensures.sound c.in_ok-members.ensures.read c.in_ok-members.ensures.opened (subst (λ (xs : List NetMember). OpensCaptures xs (S.ids c.read_net.new.shelf) (S.ids c.check_members.new.shelf)) c.as_slice.ensures c.check_members.ensures.opened) t);
-      order = inr (unmade S.tells name c.args.counters f ms ws (S.ids c.args.shelf.now) (S.ids c.read_net.new.shelf) (S.ids c.check_members.new.shelf) c.in_ok-members.ensures.sound c.in_ok-members.ensures.read c.in_ok-members.ensures.opened (subst (λ (xs : List NetMember). OpensCaptures xs (S.ids c.read_net.new.shelf) (S.ids c.check_members.new.shelf)) c.as_slice.ensures c.check_members.ensures.opened) Memory (memory_early (String Global)) (memory_own ms) (memory_unchanged ms));
+      order = inr (unmade S.tells name c.args.counters f ms ws (S.ids c.args.shelf.now) (S.ids c.read_net.new.shelf) (S.ids c.check_members.new.shelf) c.in_ok-members.ensures.sound c.in_ok-members.ensures.read c.in_ok-members.ensures.opened (subst (λ (xs : List NetMember). OpensCaptures xs (S.ids c.read_net.new.shelf) (S.ids c.check_members.new.shelf)) c.as_slice.ensures c.check_members.ensures.opened) Memory (memory_early (String Global)) (memory_own ms) (memory_unchanged ms) memory_taken);
       faults = counts_memory _ _ (c.in_ok-checked.ensures.faults.once ∙ c.in_ok-members.ensures.faults.once);
     }
 
@@ -190,6 +191,9 @@ returns g c =
             wires = ws;
             ready = record { holds = c.in_ok-members.ensures.read t; good = (subst (λ (file : Files). AreAllMembersGood ms file) same_f1 (subst (λ (xs : List NetMember). AreAllMembersGood xs f1) c.as_slice.ensures (c.in_ok-checked.ensures.good t))) };
             played = subst (λ (file : Files). IsNetPlayed c.args.counters ms (net_of ms ws file) file new (string_bytes line)) same_f2 (played ms ws c.in_ok-parts.ensures c.in_ok-members.ensures.sound all);
+            holds =
+                let own = subst (λ (file : Files). IsNetPlayed c.args.counters ms (net_of ms ws file) file new (string_bytes line)) same_f2 (played ms ws c.in_ok-parts.ensures c.in_ok-members.ensures.sound all) in
+                net_holds ms ws f c.inputs_are_of_members.ensures c.nets_are_timely.ensures c.histories_hold_all.ensures c.in_ok-members.ensures.sound own.histories own.eager;
           })
           (c.play_checked.ensures.done t);
       says = c.play_checked.ensures.says;
@@ -212,6 +216,6 @@ returns g c =
           (S.ids c.play_checked.new.shelf) c.play_checked.result (subst (λ (xs : List NetMember). OpensEachOf xs (S.ids c.read_net.new.shelf) (S.ids c.check_members.new.shelf)) c.as_slice.ensures c.in_ok-checked.ensures.each) (λ t. (subst (λ (file : Files). AreAllMembersGood ms file) same_f1 (subst (λ (xs : List NetMember). AreAllMembersGood xs f1) c.as_slice.ensures (c.in_ok-checked.ensures.good t)))) c.nets_have_one_cause.ensures (c.play_checked.ensures.opens ms ws c.in_ok-parts.ensures c.in_ok-members.ensures.sound) (c.play_checked.ensures.made ms ws c.in_ok-parts.ensures c.in_ok-members.ensures.sound) t;
       order = in_order S.tells name c.args.counters c.play_checked.result f (S.ids c.args.shelf.now) (S.ids c.play_checked.new.shelf)
           (played S.tells name c.args.counters f ms ws (S.ids c.args.shelf.now) (S.ids c.read_net.new.shelf) (S.ids c.check_members.new.shelf) c.in_ok-members.ensures.sound c.in_ok-members.ensures.read c.in_ok-members.ensures.opened (subst (λ (xs : List NetMember). OpensCaptures xs (S.ids c.read_net.new.shelf) (S.ids c.check_members.new.shelf)) c.as_slice.ensures c.check_members.ensures.opened)
-          (S.ids c.play_checked.new.shelf) c.play_checked.result (subst (λ (xs : List NetMember). OpensEachOf xs (S.ids c.read_net.new.shelf) (S.ids c.check_members.new.shelf)) c.as_slice.ensures c.in_ok-checked.ensures.each) (λ t. (subst (λ (file : Files). AreAllMembersGood ms file) same_f1 (subst (λ (xs : List NetMember). AreAllMembersGood xs f1) c.as_slice.ensures (c.in_ok-checked.ensures.good t)))) c.nets_have_one_cause.ensures (c.play_checked.ensures.opens ms ws c.in_ok-parts.ensures c.in_ok-members.ensures.sound) (c.play_checked.ensures.made ms ws c.in_ok-parts.ensures c.in_ok-members.ensures.sound) (play_own ms c.play_checked.result c.play_checked.ensures.causes) (λ bridge p at is. c.play_checked.ensures.changed ms ws c.in_ok-parts.ensures bridge p at is));
+          (S.ids c.play_checked.new.shelf) c.play_checked.result (subst (λ (xs : List NetMember). OpensEachOf xs (S.ids c.read_net.new.shelf) (S.ids c.check_members.new.shelf)) c.as_slice.ensures c.in_ok-checked.ensures.each) (λ t. (subst (λ (file : Files). AreAllMembersGood ms file) same_f1 (subst (λ (xs : List NetMember). AreAllMembersGood xs f1) c.as_slice.ensures (c.in_ok-checked.ensures.good t)))) c.nets_have_one_cause.ensures (c.play_checked.ensures.opens ms ws c.in_ok-parts.ensures c.in_ok-members.ensures.sound) (c.play_checked.ensures.made ms ws c.in_ok-parts.ensures c.in_ok-members.ensures.sound) (play_own ms c.play_checked.result c.play_checked.ensures.causes) (λ bridge p at is. c.play_checked.ensures.changed ms ws c.in_ok-parts.ensures bridge p at is) c.play_checked.ensures.causes);
       faults = counts_from c.play_checked.result _ _ _ (c.in_ok-checked.ensures.faults.once ∙ c.in_ok-members.ensures.faults.once) c.play_checked.ensures.faults;
     }
