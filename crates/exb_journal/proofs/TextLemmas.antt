@@ -1,5 +1,6 @@
 -- Texts in pieces.
-use Rattle.std.proofs.Common.{◌≡◌, ◌<◌, ℕ, zero, suc, List, [], ◌∷◌, ◌++◌, length, drop, get_or, flat_map, refl, ap, ◌∙◌, arith, append_assoc, sym}
+use Rattle.std.proofs.Common.{◌≡◌, ◌<◌, ◌+◌, ◌/◌, ◌%◌, ℕ, zero, suc, List, [], ◌∷◌, ◌++◌, length, take, take-add, drop, get_or, flat_map, refl, ap, ◌∙◌, arith, append_assoc, sym}
+use Rattle.exb_model.specs.Traces.{hex_digit, hexadecimal}
 use Rattle.exb_model.specs.declared.event.Event.{Event}
 use Rattle.exb_model.specs.Texts.{line_of}
 
@@ -10,6 +11,16 @@ summary_pieces a b c d e f g h i j k l m = simp append_assoc
 
 pub four_pieces : (a b c d e : List ℕ) → a ++ (b ++ (c ++ (d ++ e))) ≡ (a ++ b ++ c ++ d) ++ e
 four_pieces a b c d e = simp append_assoc
+
+-- ---- digits of bytes
+-- those of some bytes and of others
+digits_both : (xs ys : List ℕ) → hexadecimal (xs ++ ys) ≡ hexadecimal xs ++ hexadecimal ys
+digits_both [] ys = refl
+digits_both (x ∷ xs) ys = ap (λ (l : List ℕ). hex_digit (x / 16) ∷ hex_digit (x % 16) ∷ l) (digits_both xs ys)
+
+-- those of a front, and of some bytes behind it
+pub digits_more : (bytes : List ℕ) (at n : ℕ) → hexadecimal (take (at + n) bytes) ≡ hexadecimal (take at bytes) ++ hexadecimal (take n (drop at bytes))
+digits_more bytes at n = ap hexadecimal (take-add at n bytes) ∙ digits_both (take at bytes) (take n (drop at bytes))
 
 -- ---- lines one before another
 -- behind an array nothing is left

@@ -1,5 +1,5 @@
 //! Lines of a trace.
-ghost use Rattle.std.specs.Prelude.{◌≡◌, ◌++◌, ◌∷◌, ◌<◌, [], Some, IfOk, OnOk};
+ghost use Rattle.std.specs.Prelude.{◌≡◌, ◌++◌, ◌∷◌, ◌<◌, [], IfOk, OnOk, decimal, length};
 ghost use Rattle.exb_model.specs.Texts.{line_of};
 ghost use Rattle.exb_model.specs.Traces.{device_text, hex_digit, hexadecimal, side_text, trace_line};
 ghost use Rattle.exb_journal.specs.TraceLineHeads.{head_text};
@@ -9,38 +9,8 @@ use exb_model::bytes::Bytes;
 use exb_model::event::Event;
 use exb_model::memory::NoMemory;
 use exb_model::trace::{TraceLine, TraceWay};
+use itoa::Buffer;
 use std::alloc::Global;
-use std::fmt;
-
-/// The bridge, or an extender's number.
-#[derive(Clone, Copy)]
-struct DeviceName(u8);
-
-impl fmt::Display for DeviceName {
-    ghost output = { λ name. Some (device_text name.0) };
-
-    fn fmt<W: fmt::Write>(&self, f: &mut fmt::Formatter<W>) -> fmt::Result {
-        match self.0 {
-            0 => f.write_str("b"),
-            number => write!(f, "x{number}"),
-        }
-    }
-}
-
-/// Upstream, or a port's number.
-#[derive(Clone, Copy)]
-struct SideName(u8);
-
-impl fmt::Display for SideName {
-    ghost output = { λ name. Some (side_text name.0) };
-
-    fn fmt<W: fmt::Write>(&self, f: &mut fmt::Formatter<W>) -> fmt::Result {
-        match self.0 {
-            0 => f.write_str("up"),
-            number => write!(f, "{number}"),
-        }
-    }
-}
 
 /// The line of an event in the journal, without its newline.
 pub fn event_bytes(alloc: Global, event: &Event) -> Result<Bytes, NoMemory>
@@ -69,22 +39,80 @@ fn push(text: &mut Vec<u8>, bytes: &[u8]) -> Result<(), NoMemory>
     Ok(text.extend_from_slice(bytes)?)
 }
 
+/// Puts two digits for each of four bytes behind a text.
+#[inline(always)]
+fn push_four(text: &mut Vec<u8>, bytes: &[u8]) -> Result<(), NoMemory>
+    requires { length bytes.now ≡ 4 }
+    ensures { OnOk result (text.new.items ≡ text.old.items ++ hexadecimal bytes.now) }
+{
+    let (first, second, third, fourth) = (bytes[0], bytes[1], bytes[2], bytes[3]);
+    Ok(text.extend_from_slice(&[
+        hex_digit(first / 16),
+        hex_digit(first % 16),
+        hex_digit(second / 16),
+        hex_digit(second % 16),
+        hex_digit(third / 16),
+        hex_digit(third % 16),
+        hex_digit(fourth / 16),
+        hex_digit(fourth % 16),
+    ])?)
+}
+
 /// Puts two digits for each byte behind a text.
 fn push_hexadecimal(text: &mut Vec<u8>, bytes: &[u8]) -> Result<(), NoMemory>
     ensures { OnOk result (text.new.items ≡ text.old.items ++ hexadecimal bytes.now) }
 {
-    for byte in bytes {
-        text.extend_from_slice(&[hex_digit(*byte / 16), hex_digit(*byte % 16)])?;
+    let mut at = 0;
+    'fours: while bytes.len() - at >= 4 {
+        push_four(text, &bytes[at..at + 4])?;
+        at += 4;
+    }
+    'bytes: while at < bytes.len() {
+        text.extend_from_slice(&[hex_digit(bytes[at] / 16), hex_digit(bytes[at] % 16)])?;
+        at += 1;
     }
     Ok(())
+}
+
+/// Puts a number behind a text.
+fn push_number(text: &mut Vec<u8>, number: u8) -> Result<(), NoMemory>
+    ensures { OnOk result (text.new.items ≡ text.old.items ++ decimal number) }
+{
+    let mut digits = Buffer::new();
+    push(text, digits.format(number).as_bytes())
+}
+
+/// Puts the name of a device behind a text: the bridge, or an extender's number.
+fn push_device(text: &mut Vec<u8>, who: u8) -> Result<(), NoMemory>
+    ensures { OnOk result (text.new.items ≡ text.old.items ++ device_text who) }
+{
+    if who == 0 {
+        return push(text, b"b");
+    }
+    push(text, b"x")?;
+    push_number(text, who)
+}
+
+/// Puts the name of a side behind a text: upstream, or a port's number.
+fn push_side(text: &mut Vec<u8>, side: u8) -> Result<(), NoMemory>
+    ensures { OnOk result (text.new.items ≡ text.old.items ++ side_text side) }
+{
+    if side == 0 {
+        return push(text, b"up");
+    }
+    push_number(text, side)
 }
 
 /// Puts what a frame came in by, or went out by, behind a text: the way, the device, the side and a space.
 fn push_head(text: &mut Vec<u8>, way: &str, who: u8, side: u8) -> Result<(), NoMemory>
     ensures { OnOk result (text.new.items ≡ text.old.items ++ head_text way.now who side) }
 {
-    let head = format!(in *text.allocator(); "{way} {} {} ", DeviceName(who), SideName(side))?;
-    push(text, head.as_bytes())
+    push(text, way.as_bytes())?;
+    push(text, b" ")?;
+    push_device(text, who)?;
+    push(text, b" ")?;
+    push_side(text, side)?;
+    push(text, b" ")
 }
 
 /// Puts the line of a frame that passed behind a text, without its newline.
