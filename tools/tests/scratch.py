@@ -102,13 +102,13 @@ class Scratch:
     def calls(self):
         return len(self.read("kit/calls").splitlines()) if os.path.exists(self.at("kit/calls")) else 0
 
-    def run(self, *words, has_rt=True, cwd=None):
-        """Status, standard output and standard error of a command of the scratch repository."""
+    def run(self, *words, has_rt=True, cwd=None, seconds=None):
+        """Status, standard output and standard error of a command of the scratch repository. It fails if it takes more seconds."""
         path = f"{self.at('bin')}:/usr/bin:/bin"
         path = f"{self.at('kit')}:{path}" if has_rt else path
         env = {"PATH": path, "HOME": self.top, "LC_ALL": "C.UTF-8", "PYTHONDONTWRITEBYTECODE": "1"}
         how = {"stdin": subprocess.DEVNULL, "capture_output": True, "text": True, "errors": "replace", "env": env}
-        ran = subprocess.run([self.at(words[0]), *words[1:]], cwd=cwd or self.top, **how)
+        ran = subprocess.run([self.at(words[0]), *words[1:]], cwd=cwd or self.top, timeout=seconds, **how)
         return ran.returncode, ran.stdout, ran.stderr
 
     def close(self):
