@@ -10,8 +10,8 @@ class DeskError(Exception):
     """Input that can't be used. Its text is the line that a tool prints before it ends with status 2."""
 
 
-def ended(name: str, main: Callable[[], int]) -> int:
-    """The status of a tool: that of `main`, or 2 with a line on standard error where input is broken."""
+def ended(name: str, main: Callable[[], int], broken: int = 2) -> int:
+    """The status of a tool: that of `main`, or `broken` with a line on standard error where input is broken."""
     try:
         return main()
     except DeskError as fault:
@@ -26,4 +26,4 @@ def ended(name: str, main: Callable[[], int]) -> int:
         print(f"{name}: out of memory", file=sys.stderr)
     except OSError as fault:
         print(f"{name}: {fault.filename or 'a file'}: {fault.strerror or fault}", file=sys.stderr)
-    return 2
+    return broken
