@@ -28,11 +28,12 @@ class Use:
 
 @dataclass
 class Segment:
-    """The opening (command 0), or a command: beats, the journal's lines of it, and by port of the bridge the use of both kinds of number,
-    where it isn't that of the segment before."""
+    """The opening (command 0), or a command: beats, control frames that came in somewhere, the journal's lines of it, and by port of the
+    bridge the use of both kinds of number, where it isn't that of the segment before."""
 
     command: int
     beats: int = 0
+    control: int = 0
     lines: list[str] = field(default_factory=list)
     channels: dict[int, Use] = field(default_factory=dict)
     groups: dict[int, Use] = field(default_factory=dict)
@@ -93,6 +94,8 @@ class Segments:
                 self.numbers.request(trunk, data)
                 for uses, last, taken in zip((self.now.channels, self.now.groups), self._last, (self.numbers.channels, self.numbers.groups)):
                     _note(uses, last, trunk, len(taken.get(trunk, ())))
+        elif text.startswith("in "):
+            self.now.control += text.split(" ", 3)[3].startswith(CONTROL)
         elif text == "= settled":
             self.done.append(self.now)
             self.now = Segment(len(self.done))

@@ -5,8 +5,11 @@ import sys
 from typing import Iterator
 
 from exbr_desk import journal, plain
+from exbr_desk.folding import folded
 from exbr_desk.places import Place
 
+from .lint import Warning
+from .settling import Settling
 from .tables import CHANNELS, GROUPS, KINDS, Refused, Tables
 from .verdict import Verdict
 from .wording import Message, hint_of, message_of
@@ -106,7 +109,6 @@ def _refusals(it: Tables) -> Iterator[str]:
 
 
 def _names(them: list[Refused]) -> str:
-    from exbr_desk.folding import folded
     return folded([it.port for it in them])
 
 
@@ -133,6 +135,38 @@ def _short_of(it: Tables, short: list[str]) -> str:
             worst = max(it.needs[kind].values(), key=lambda need: need.commands)
             told.append(f"command {worst.worst} needs {worst.commands:,} {kind} and there are {it.limits[kind]:,}")
     return ", ".join(told)
+
+
+def in_time(beats: int, length: float | None) -> str:
+    """Beats, and how long they are where that is known."""
+    if length is None:
+        return f"{beats:,} beat{'s' * (beats != 1)}"
+    seconds = beats * length / 1000
+    return f"{beats:,} beat{'s' * (beats != 1)} ({f'{seconds:,.1f} s' if seconds >= 1 else f'{seconds * 1000:,.0f} ms'})"
+
+
+def settling(it: Settling, length: float | None, commands: bool) -> Iterator[str]:
+    """How long the opening and the commands take."""
+    opening, rest = it.plain[0], it.plain[1:]
+    told = f"settling: the opening takes {in_time(opening, length)}"
+    if rest:
+        most = max(range(len(rest)), key=rest.__getitem__)
+        told += f"; a command at most {in_time(rest[most], length)} (command {most + 1}), all {len(rest):,} together {in_time(sum(rest), length)}"
+    yield told
+    if it.fates:
+        told = f"  the worst of {it.fates} drawn disturbances ({it.percent} of 100 control frames lost, repeated or late): the opening {in_time(it.worst[0], length)}"
+        if rest:
+            most = max(range(1, len(it.worst)), key=it.worst.__getitem__)
+            told += f"; a command at most {in_time(it.worst[most], length)} (command {most})"
+        yield told
+    if commands:
+        for at, (one, worst) in enumerate(zip(it.plain[1:], it.worst[1:]), 1):
+            yield f"  command {at}: {in_time(one, length)}" + (f", at the worst {in_time(worst, length)}" if it.fates else "")
+
+
+def warnings(path: str, them: list[Warning]) -> Iterator[str]:
+    for it in them:
+        yield from pointed(path, it.place, f"warning ({it.name})", it.words(), None)
 
 
 def say(lines: Iterator[str]) -> None:
