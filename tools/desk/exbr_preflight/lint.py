@@ -30,6 +30,10 @@ LINTS = {
     "same-file": "one file is the capture of two ports",
 }
 NAMES = plain.name_of
+# What a text says of one port, and of many.
+VERBS = {"{} is ": "{} are ", "{} gets ": "{} get ", "{} has ": "{} have ", "and isn't": "and aren't", "which isn't": "which aren't",
+         "what it sends": "what they send", "it filters": "they filter", "its own": "their own", " and accepts ": " and accept ",
+         "in a VLAN of it": "in a VLAN of theirs"}
 
 
 @dataclass
@@ -48,7 +52,10 @@ class Warning:
     def words(self) -> str:
         when = f"after command {self.since}: " if self.since else ""
         end = f" (until command {self.until})" if self.until else ""
-        return when + self.text.replace("{}", folded(self.ports, 12)) + end
+        text = self.text
+        for one, many in VERBS.items() if len(self.ports) > 1 else ():
+            text = text.replace(one, many)
+        return when + text.replace("{}", folded(self.ports, 12)) + end
 
 
 class Subject(NamedTuple):
@@ -179,16 +186,16 @@ class Watch:
         if len(untagged) > 1:
             yield Warning("two-untagged", f"{{}} is untagged in VLANs {' and '.join(map(str, untagged))}, and what it sends without a tag goes to "
                           f"VLAN {rules.pvid} alone", [port], where)
-        elif untagged and untagged[0] != rules.pvid and rules.accept != "tagged":
+        elif untagged and untagged[0] != rules.pvid and rules.pvid in kinds and rules.accept != "tagged":
             yield Warning("asymmetric", f"{{}} gets VLAN {untagged[0]} without a tag, and what it sends without one goes to VLAN {rules.pvid}", [port], where)
         if rules.pvid not in kinds and rules.accept != "tagged" and (kinds or port in self.named):
-            yield Warning("pvid-member", f"{{}} has PVID {rules.pvid} and isn't in that VLAN: {self._fate(port, rules.pvid)}", [port], where)
+            yield Warning("pvid-member", f"{{}} has PVID {rules.pvid} and isn't in VLAN {rules.pvid}: {self._fate(port, rules.pvid)}", [port], where)
         yield from self._kept_out(port, kinds, where)
 
     def _fate(self, port: int, vid: int) -> str:
         if vid not in self.now.vlans:
-            return "that VLAN has no member, so what it sends without a tag goes nowhere"
-        return "it filters, so what it sends without a tag is refused" if self.now.rules[port].filter else "what it sends without a tag reaches it, and nothing comes back"
+            return "it has no member, so what it sends without a tag goes nowhere"
+        return "it filters, so what it sends without a tag is refused" if self.now.rules[port].filter else "what it sends without a tag reaches that VLAN, and nothing comes back"
 
     def _kept_out(self, port: int, kinds: dict[int, str], where: Path) -> Iterator[Warning]:
         rules = self.now.rules[port]

@@ -2,14 +2,16 @@
 from __future__ import annotations
 
 import argparse
+import json
 import re
 import sys
+from dataclasses import dataclass
 from typing import Iterator
 
 from exbr_desk import play, runs
 from exbr_desk.errors import DeskError
 
-from . import differences, show
+from . import differences, during, for_programs, policies, question, show
 from .answers import Answers, of_topology
 from .probes import Asked
 
@@ -29,6 +31,12 @@ def words_of(words: list[str] | None) -> argparse.Namespace:
     parser.add_argument("after", metavar="AFTER", nargs="?", help="another topology")
     parser.add_argument("--leaks", action="store_true", help="each port uses all tags, and not only those of VLANs in which it is at some moment")
     parser.add_argument("--vlan", metavar="N,N-N..", help="asks in these VLANs alone")
+    parser.add_argument("--from", dest="sender", metavar="PORT", help="one question: does a frame of this port come to the one of --to, and why")
+    parser.add_argument("--to", metavar="PORT", help="the port that is asked for")
+    parser.add_argument("--expect", metavar="FILE", help="policies: what must never, always or only be (docs/reach.md)")
+    parser.add_argument("--orders", type=int, default=2, metavar="N", help="in how many drawn orders frames meet commands on their way (default 2)")
+    parser.add_argument("--json", action="store_true", help="all of it for programs")
+    parser.add_argument("--brief", action="store_true", help="counts and policies alone")
     parser.add_argument("--unfolded", action="store_true", help="plays a frame for each port, and takes no ports as alike")
     parser.add_argument("--limit", type=int, default=40, metavar="N", help="how many lines each part has (default 40, 0: all)")
     parser.add_argument("--keep", metavar="FOLDER", help="keeps what was played in an empty folder")
@@ -55,43 +63,107 @@ def asked_of(words: argparse.Namespace) -> Asked:
     return Asked(words.leaks, words.unfolded, vids_of(words.vlan))
 
 
-def one(answers: Answers, words: argparse.Namespace) -> Iterator[str]:
+@dataclass
+class Found:
+    """All that was asked for, and what was found."""
+
+    before: Answers
+    after: Answers | None = None
+    difference: differences.Difference | None = None
+    seconds: during.Seconds | None = None
+    held: list[policies.Held] | None = None
+
+    @property
+    def last(self) -> Answers:
+        return self.after or self.before
+
+    @property
+    def status(self) -> int:
+        if self.last.astray or self.seconds is not None and self.seconds.odd:
+            return 1
+        if self.held is not None:
+            return 1 if any(it.broken for it in self.held) else 0
+        return 1 if self.difference else 0
+
+
+def lines(found: Found, words: argparse.Namespace) -> Iterator[str]:
+    """The answer in lines."""
+    yield from (one(found, words) if found.after is None else two(found, words))
+    if found.held is not None:
+        yield from show.held(found.held, found.last, words.limit)
+
+
+def one(found: Found, words: argparse.Namespace) -> Iterator[str]:
     """The answer for one topology."""
+    answers = found.before
     yield show.played(answers)
     yield from show.absent(answers)
-    if answers.given.commands:
+    if answers.given.commands and not words.brief:
         yield from show.commands(answers, words.limit)
-        found = differences.between(answers, 0, answers, answers.end)
-        yield f"at the end against the beginning: {show.summed(found)}"
-        yield from show.cut((f"  {line}" for line in show.difference(found)), words.limit)
-    yield "at the end:" if answers.given.commands else "at rest:"
-    yield from show.cut((f"  {line}" for line in show.state(answers, answers.end)), words.limit)
+    if answers.given.commands:
+        yield f"at the end against the beginning: {show.summed(found.difference)}"
+        yield from show.cut((f"  {line}" for line in show.difference(found.difference)), words.limit)
+    if not words.brief:
+        yield "at the end:" if answers.given.commands else "at rest:"
+        yield from show.cut((f"  {line}" for line in show.state(answers, answers.end)), words.limit)
+    yield from during.lines(found.seconds)
     yield from show.stations(answers)
 
 
-def two(before: Answers, after: Answers, words: argparse.Namespace) -> Iterator[str]:
+def two(found: Found, words: argparse.Namespace) -> Iterator[str]:
     """The answer for two topologies: both at their end."""
-    yield f"BEFORE: {show.played(before)}"
-    yield from show.absent(before)
-    yield f"AFTER: {show.played(after)}"
-    yield from show.absent(after)
-    found = differences.between(before, before.end, after, after.end)
-    yield f"AFTER against BEFORE, at the end of both: {show.summed(found)}"
-    yield from show.cut((f"  {line}" for line in show.difference(found)), words.limit)
+    for name, answers in (("BEFORE", found.before), ("AFTER", found.after)):
+        yield f"{name}: {show.played(answers)}"
+        yield from show.absent(answers)
+        yield from show.stations(answers)
+    yield f"AFTER against BEFORE, at the end of both: {show.summed(found.difference)}"
+    yield from show.cut((f"  {line}" for line in show.difference(found.difference)), words.limit)
+
+
+def asked_for(words: argparse.Namespace, exbr: str) -> Found:
+    """Plays all that is asked for."""
+    given = runs.read(words.before).topology
+    others = runs.read(words.after).topology if words.after else None
+    wanted = policies.read(words.expect, others or given) if words.expect else None
+    found = Found(of_topology(given, exbr, asked_of(words), words.keep))
+    if others is None:
+        found.difference = differences.between(found.before, 0, found.before, found.before.end)
+        found.seconds = during.watched(found.before, exbr, words.orders if words.vlan is None else 0)
+    else:
+        found.after = of_topology(others, exbr, asked_of(words))
+        found.difference = differences.between(found.before, found.before.end, found.after, found.after.end)
+    if wanted is not None:
+        found.held = policies.held(wanted, found.last)
+    return found
+
+
+def asked_of_one(words: argparse.Namespace, exbr: str) -> int:
+    """One question."""
+    if words.after or words.expect or words.keep or not (words.sender and words.to):
+        raise DeskError("one question names --from and --to, of one topology, and perhaps --vlan")
+    given = runs.read(words.before).topology
+    sender, target = question.port_of(given, "--from", words.sender), question.port_of(given, "--to", words.to)
+    vids = vids_of(words.vlan)
+    found = question.ways(given, exbr, sender, target, vids)
+    if words.json:
+        print(json.dumps(question.in_json(found, sender, target), indent=1))
+    else:
+        print("\n".join(question.lines(found, sender, target, vids)))
+    return 0 if question.comes_at_end(found) else 1
 
 
 def main(words: list[str] | None = None) -> int:
     asked = words_of(words)
+    if not 0 <= asked.orders <= 1000:
+        raise DeskError(f"--orders {asked.orders}: it is 0 to 1,000")
     exbr = play.program(asked.program)
-    before = of_topology(runs.read(asked.before).topology, exbr, asked_of(asked), asked.keep)
-    if asked.after is None:
-        lines = one(before, asked)
-        differs = bool(differences.between(before, 0, before, before.end))
+    if asked.sender or asked.to:
+        return asked_of_one(asked, exbr)
+    found = asked_for(asked, exbr)
+    if asked.json:
+        print(json.dumps(for_programs.of(found), indent=1))
     else:
-        after = of_topology(runs.read(asked.after).topology, exbr, asked_of(asked))
-        lines = two(before, after, asked)
-        differs = bool(differences.between(before, before.end, after, after.end))
-    for line in lines:
-        print(line)
+        for line in lines(found, asked):
+            print(line)
     sys.stdout.flush()
-    return 1 if differs else 0
+    return found.status

@@ -5,7 +5,7 @@ from typing import Iterable, Iterator
 
 from exbr_desk import frames, journal, plain
 
-from . import differences, masks, relation, wording
+from . import differences, masks, policies, relation, wording
 from .answers import Answers
 from .differences import Difference
 from .moments import Moment
@@ -123,3 +123,29 @@ def stations(answers: Answers) -> Iterator[str]:
         return
     flooded = f"; {answers.flooded:,} are flooded, since their station is learned nowhere" if answers.flooded else ""
     yield f"frames to single stations: {answers.to_stations:,}, each comes to its station exactly where a frame to all does{flooded}"
+
+
+def held(them: list[policies.Held], answers: Answers, limit: int) -> Iterator[str]:
+    """Each policy, and where it is broken."""
+    for it in them:
+        policy = it.policy
+        if not it.broken:
+            yield f"holds: {policy.name} (line {policy.line}, {policy.when})"
+            continue
+        yield f"BROKEN: {policy.name} (line {policy.line}, {policy.when})"
+        for broken in it.broken:
+            what = "these have to reach each other and do not" if policy.kind == policies.ALWAYS else "these reach each other"
+            yield f"  {_stretch(broken)}: {what}"
+            wrong = broken.wrong
+            told = by_vlan(wrong) if 0 not in wrong else (f"in no VLAN: {line}" for line in wording.lines(wrong[0]))
+            yield from cut((f"    {line}" for line in told), limit)
+    broken = sum(bool(it.broken) for it in them)
+    yield f"policies: {len(them) - broken} hold, {broken} {'is' if broken == 1 else 'are'} broken"
+
+
+def _stretch(it: policies.Broken) -> str:
+    """From when on a policy is broken, and until when."""
+    when = moment_words(it.moment)
+    if it.policy.when == policies.END:
+        return f"at the end, {'as from the beginning on' if it.moment.command is None else f'since {when}'}"
+    return when + (f", until {moment_words(it.until)}" if it.until else "")
