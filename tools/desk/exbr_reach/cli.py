@@ -3,6 +3,7 @@ from __future__ import annotations
 
 import argparse
 import json
+import os
 import re
 import sys
 from dataclasses import dataclass
@@ -11,7 +12,7 @@ from typing import Iterator
 from exbr_desk import play, runs
 from exbr_desk.errors import DeskError
 
-from . import differences, during, for_programs, policies, question, show
+from . import differences, during, failures, for_programs, policies, question, show
 from .answers import Answers, of_topology
 from .probes import Asked
 
@@ -34,6 +35,9 @@ def words_of(words: list[str] | None) -> argparse.Namespace:
     parser.add_argument("--from", dest="sender", metavar="PORT", help="one question: does a frame of this port come to the one of --to, and why")
     parser.add_argument("--to", metavar="PORT", help="the port that is asked for")
     parser.add_argument("--expect", metavar="FILE", help="policies: what must never, always or only be (docs/reach.md)")
+    parser.add_argument("--fail", metavar="WHAT", help="what is lost with each of these: each-extender, each-port, or a list as x3,b4,x1.1-8+x2")
+    parser.add_argument("--jobs", type=int, default=os.cpu_count() or 1, metavar="N", help="how many runs of --fail are made side by side (default: one for each processor)")
+    parser.add_argument("--dask", metavar="ADDRESS", help="makes the runs of --fail on the workers of this scheduler of dask.distributed")
     parser.add_argument("--orders", type=int, default=2, metavar="N", help="in how many drawn orders frames meet commands on their way (default 2)")
     parser.add_argument("--json", action="store_true", help="all of it for programs")
     parser.add_argument("--brief", action="store_true", help="counts and policies alone")
@@ -72,6 +76,7 @@ class Found:
     difference: differences.Difference | None = None
     seconds: during.Seconds | None = None
     held: list[policies.Held] | None = None
+    losses: list[failures.Lost] | None = None
 
     @property
     def last(self) -> Answers:
@@ -82,7 +87,7 @@ class Found:
         if self.last.astray or self.seconds is not None and self.seconds.odd:
             return 1
         if self.held is not None:
-            return 1 if any(it.broken for it in self.held) else 0
+            return 1 if any(it.broken for it in (*self.held, *(self.losses or ()))) else 0
         return 1 if self.difference else 0
 
 
@@ -91,6 +96,8 @@ def lines(found: Found, words: argparse.Namespace) -> Iterator[str]:
     yield from (one(found, words) if found.after is None else two(found, words))
     if found.held is not None:
         yield from show.held(found.held, found.last, words.limit)
+    if found.losses is not None:
+        yield from failures.lines(found.losses, words.limit)
 
 
 def one(found: Found, words: argparse.Namespace) -> Iterator[str]:
@@ -125,6 +132,7 @@ def asked_for(words: argparse.Namespace, exbr: str) -> Found:
     given = runs.read(words.before).topology
     others = runs.read(words.after).topology if words.after else None
     wanted = policies.read(words.expect, others or given) if words.expect else None
+    losses = failures.losses_of(others or given, words.fail) if words.fail else None
     found = Found(of_topology(given, exbr, asked_of(words), words.keep))
     if others is None:
         found.difference = differences.between(found.before, 0, found.before, found.before.end)
@@ -134,6 +142,8 @@ def asked_for(words: argparse.Namespace, exbr: str) -> Found:
         found.difference = differences.between(found.before, found.before.end, found.after, found.after.end)
     if wanted is not None:
         found.held = policies.held(wanted, found.last)
+    if losses is not None:
+        found.losses = failures.played(found.last, losses, exbr, asked_of(words), wanted or [], words.jobs, words.dask)
     return found
 
 
@@ -156,6 +166,8 @@ def main(words: list[str] | None = None) -> int:
     asked = words_of(words)
     if not 0 <= asked.orders <= 1000:
         raise DeskError(f"--orders {asked.orders}: it is 0 to 1,000")
+    if not 1 <= asked.jobs <= 256:
+        raise DeskError(f"--jobs {asked.jobs}: it is 1 to 256")
     exbr = play.program(asked.program)
     if asked.sender or asked.to:
         return asked_of_one(asked, exbr)

@@ -56,4 +56,8 @@ def of(found) -> dict:
     if found.held is not None:
         told["policies"] = [{"name": it.policy.name, "kind": it.policy.kind, "line": it.policy.line, "when": it.policy.when, "holds": not it.broken,
                              "broken": [broken(each) for each in it.broken]} for it in found.held]
+    if found.losses is not None:
+        told["losses"] = [{"name": it.name, "ports": names(it.ports), "pairs": it.pairs, "between_others": it.others,
+                           "vlans": {str(vid): blocks(lost) for vid, lost in it.vlans.items()}, "alone": {str(vid): names(ports) for vid, ports in it.alone.items()},
+                           "breaks": it.broken} for it in found.losses]
     return told

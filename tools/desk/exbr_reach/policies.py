@@ -7,7 +7,7 @@
     vlan = "20-29"                 # a number, a range, or a list of these; left out: any VLAN
     when = "every moment"          # or "beginning", "end", "rest"
 
-    [[always]]                     # each port of `from` reaches each port of `to`
+    [[always]]                     # each port of `from` reaches each port of `to`, or with `one = true` one of them at least
     [[only]]                       # a port of `from` reaches no other port than those of `to`
 """
 from __future__ import annotations
@@ -30,13 +30,14 @@ NEVER, ALWAYS, ONLY = "never", "always", "only"
 KINDS = (NEVER, ALWAYS, ONLY)
 BEGINNING, END, REST, EVERY = "beginning", "end", "rest", "every moment"
 TIMES = (BEGINNING, END, REST, EVERY)
-KEYS = ("name", "from", "to", "vlan", "when")
+KEYS = ("name", "from", "to", "vlan", "when", "one")
 EVERY_VLAN = frozenset(range(1, 4095))
 
 
 @dataclass(frozen=True)
 class Policy:
-    """What has to hold: its kind, its name, its ports as sets, its VLANs (None: any), when, and its line in the file."""
+    """What has to hold: its kind, its name, its ports as sets, its VLANs (None: any), when, its line in the file, and whether one port of
+    those that are to be reached suffices."""
 
     kind: str
     name: str
@@ -45,6 +46,7 @@ class Policy:
     vids: frozenset[int] | None
     when: str
     line: int
+    one: bool = False
 
 
 @dataclass
@@ -120,8 +122,12 @@ class Reader:
         name = table.get("name") or f"{kind} {_shown(table['from'])} -> {_shown(table['to'])}" + (f" in VLAN {_shown(table['vlan'])}" if vids else "")
         if not isinstance(name, str):
             raise self.fault((*here, "name"), "a name is a text")
+        one = table.get("one", False)
+        if not isinstance(one, bool) or one and kind != ALWAYS:
+            raise self.fault((*here, "one"), "one is true or false, and a key of [[always]]")
         place = self.placed.value(here)
-        return Policy(kind, name, self.ports((*here, "from"), table["from"]), self.ports((*here, "to"), table["to"]), vids, when, place.line if place else 0)
+        return Policy(kind, name, self.ports((*here, "from"), table["from"]), self.ports((*here, "to"), table["to"]), vids, when, place.line if place else 0,
+                      one)
 
     def ports(self, where: Path, value) -> int:
         """The external ports that words name."""
@@ -131,7 +137,7 @@ class Reader:
         found: set[int] = set()
         for at, word in enumerate(words):
             place = (*where, at) if isinstance(value, list) else where
-            if not isinstance(word, str) or not (plain.is_port(word) or WORD.fullmatch(word)):
+            if not isinstance(word, str) or not is_word(word):
                 raise self.fault(place, f"{word} is no word of a list of ports, as b1, x1.1-8, x1.* or *")
             its = self.given.tree.ports(word)
             if not its or not its <= set(self.given.external):
@@ -148,6 +154,11 @@ class Reader:
                 raise self.fault((*where, at) if isinstance(value, list) else where, f'{word} is no VLAN; write 10, "10-19", or a list of these')
             found.update(range(first, last + 1))
         return frozenset(found)
+
+
+def is_word(text: str) -> bool:
+    """Whether a text is a word of a list of ports."""
+    return plain.is_port(text) or WORD.fullmatch(text) is not None
 
 
 def _shown(value) -> str:
@@ -227,4 +238,10 @@ def _wrong(policy: Policy, given: Relation, external: int) -> Relation:
 
 def _missing(policy: Policy, given: Relation) -> Relation:
     """The pairs that have to be there and aren't."""
-    return relation.minus(relation.tidy([(policy.senders, policy.hearers)]), given)
+    wanted = policy.senders
+    if policy.one:
+        for senders, heard_at in given:
+            found = heard_at & policy.hearers
+            wanted &= ~(senders if masks.second(found) is not None else senders & ~found if found else 0)
+        return relation.tidy([(wanted, policy.hearers)])
+    return relation.minus(relation.tidy([(wanted, policy.hearers)]), given)

@@ -42,13 +42,15 @@ class Plan:
 
 @dataclass(frozen=True)
 class Asked:
-    """What is to be asked: all tags at all ports, each port by itself, in these VLANs, by these ports, and to single stations."""
+    """What is to be asked: all tags at all ports, each port by itself, in these VLANs, by these ports, to single stations, and at these
+    moments alone, by their places."""
 
     leaks: bool = False
     unfolded: bool = False
     vids: frozenset[int] | None = None
     senders: int | None = None
     unicast: bool = True
+    places: frozenset[int] | None = None
 
 
 def might_use(course: Course) -> dict[int, int]:
@@ -69,16 +71,26 @@ class Planner:
         self.plan = Plan([], [], [], [])
 
     def go(self) -> Plan:
+        waiting: set[int] = set()
         for moment, state, touched in states(self.course):
             if self.asked.leaks and moment.command and moment.command.table["op"] in ("accept", "filter", "isolate", "up", "down"):
                 touched = touched | state.members.keys()
-            vids = frozenset(touched if self.asked.vids is None else touched & self.asked.vids)
+            waiting |= touched
+            vids = self._now(moment, waiting)
             self.plan.moments.append(moment)
             self.plan.touched.append(vids)
             self.plan.statics.append(frozenset(key for key in state.now.statics if key[0] in vids))
             for vid in sorted(vids):
                 self._of_vlan(moment, state, vid)
         return self.plan
+
+    def _now(self, moment: Moment, waiting: set[int]) -> frozenset[int]:
+        """The VLANs that are asked now, of those that wait for it."""
+        if self.asked.places is not None and moment.place not in self.asked.places:
+            return frozenset()
+        vids = frozenset(waiting if self.asked.vids is None else waiting & self.asked.vids)
+        waiting.clear()
+        return vids
 
     def _of_vlan(self, moment: Moment, state: State, vid: int) -> None:
         members = state.members.get(vid, (0, 0))

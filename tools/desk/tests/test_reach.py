@@ -12,8 +12,8 @@ from collections import Counter
 import desk_help
 import plainly
 import sweep
-from exbr_desk import errors, topology
-from exbr_reach import answers, cli, during, masks, moments, policies, probes, relation, wording
+from exbr_desk import errors, plain, topology
+from exbr_reach import answers, cli, during, failures, masks, moments, policies, probes, relation, wording
 
 NIGHT = os.path.join(desk_help.TOP, "examples", "night", "topology.toml")
 HEAD = """[bridge]
@@ -242,6 +242,50 @@ class Asked(desk_help.FolderTest):
         self.assertEqual((done.returncode, done.stderr), (0, ""))
         for word in ("--help", "--version"):
             self.assertEqual(self.script("exbr-reach", word).returncode, 0)
+
+
+class Losses(unittest.TestCase):
+    """The loss of extenders and ports, held against a topology in which they are down."""
+
+    def setUp(self) -> None:
+        self.base = found_in(open_text(NIGHT))
+
+    def test_what_is_lost(self):
+        given = self.base.given
+        self.assertEqual([masks.words(it.ports) for it in failures.losses_of(given, "each-extender")], ["x1.1-2, x2.1-3, x3.1-3", "x2.1-3", "x3.1-3", "x4.1-3"])
+        self.assertEqual(len(failures.losses_of(given, "each-port")), 13)
+        self.assertEqual([(it.name, masks.words(it.ports)) for it in failures.losses_of(given, "x3+b4,x1.1-2")], [("x3+b4", "b4, x3.1-3"), ("x1.1-2", "x1.1-2")])
+        for words in ("x9", "b1", "nobody", "", "x1.*,", "x1-2"):
+            with self.assertRaises(errors.DeskError):
+                failures.losses_of(given, words)
+
+    def test_each_is_a_topology_in_which_the_ports_are_down(self):
+        exbr = desk_help.needs_program()
+        losses = failures.losses_of(self.base.given, "x2,x4.1-2+b4,x1")
+        for lost, loss in zip(failures.played(self.base, losses, exbr, probes.Asked(), [], 1, None), losses, strict=True):
+            down = "".join(f"[[command]]\nat = 70\nop = 'down'\nport = '{name}'\n" for name in map(plain.name_of, masks.ports(loss.ports)))
+            other = found_in(open_text(NIGHT) + down)
+            wanted = {vid: set(relation.each(self.base.at(vid, self.base.end))) - set(relation.each(other.at(vid, other.end))) for vid in other.vlans}
+            self.assertEqual({vid: set(relation.each(its)) for vid, its in lost.vlans.items()}, {vid: pairs for vid, pairs in wanted.items() if pairs})
+            self.assertEqual(lost.others, 0)
+
+    def test_side_by_side_is_one_after_the_other(self):
+        losses = failures.losses_of(self.base.given, "each-port")
+        one, other = (failures.played(self.base, losses, desk_help.needs_program(), probes.Asked(), [], jobs, None) for jobs in (1, 3))
+        self.assertEqual(one, other)
+        self.assertEqual({vid: masks.words(ports) for vid, ports in one[1].alone.items()}, {20: "x3.1-3, x4.1-3"})
+
+    def test_a_policy_that_one_port_suffices_for(self):
+        policy = policies.Policy("always", "out", masks.of([64, 128]), masks.of([2, 3]), None, "end", 1, True)
+        losses = failures.losses_of(self.base.given, "b3,b4,b3-4,x1.1+b3")
+        found = failures.played(self.base, losses, desk_help.needs_program(), probes.Asked(), [policy], 1, None)
+        self.assertEqual([(it.name, it.broken) for it in found], [("b3", []), ("b4", []), ("b3-4", ["out"]), ("x1.1+b3", [])])
+
+
+def open_text(path: str) -> str:
+    """The text of a topology without its captures."""
+    with open(path, encoding="utf-8") as file:
+        return file.read().partition("[captures]")[0]
 
 
 class Names(unittest.TestCase):
