@@ -12,7 +12,7 @@ from typing import Iterator
 from exbr_desk import play, runs
 from exbr_desk.errors import DeskError
 
-from . import differences, during, failures, for_programs, policies, question, show
+from . import differences, during, failures, for_programs, page, policies, question, show
 from .answers import Answers, of_topology
 from .probes import Asked
 
@@ -39,6 +39,7 @@ def words_of(words: list[str] | None) -> argparse.Namespace:
     parser.add_argument("--jobs", type=int, default=os.cpu_count() or 1, metavar="N", help="how many runs of --fail are made side by side (default: one for each processor)")
     parser.add_argument("--dask", metavar="ADDRESS", help="makes the runs of --fail on the workers of this scheduler of dask.distributed")
     parser.add_argument("--orders", type=int, default=2, metavar="N", help="in how many drawn orders frames meet commands on their way (default 2)")
+    parser.add_argument("--html", metavar="FILE", help="makes a page of it")
     parser.add_argument("--json", action="store_true", help="all of it for programs")
     parser.add_argument("--brief", action="store_true", help="counts and policies alone")
     parser.add_argument("--unfolded", action="store_true", help="plays a frame for each port, and takes no ports as alike")
@@ -149,7 +150,7 @@ def asked_for(words: argparse.Namespace, exbr: str) -> Found:
 
 def asked_of_one(words: argparse.Namespace, exbr: str) -> int:
     """One question."""
-    if words.after or words.expect or words.keep or not (words.sender and words.to):
+    if words.after or words.expect or words.keep or words.html or words.fail or not (words.sender and words.to):
         raise DeskError("one question names --from and --to, of one topology, and perhaps --vlan")
     given = runs.read(words.before).topology
     sender, target = question.port_of(given, "--from", words.sender), question.port_of(given, "--to", words.to)
@@ -162,6 +163,19 @@ def asked_of_one(words: argparse.Namespace, exbr: str) -> int:
     return 0 if question.comes_at_end(found) else 1
 
 
+def written(text: str, path: str) -> None:
+    """Writes a page whole or not at all."""
+    part = f"{path}.part"
+    try:
+        with open(part, "w", encoding="utf-8") as out:
+            out.write(text)
+        os.replace(part, path)
+    except BaseException:
+        if os.path.exists(part):
+            os.remove(part)
+        raise
+
+
 def main(words: list[str] | None = None) -> int:
     asked = words_of(words)
     if not 0 <= asked.orders <= 1000:
@@ -172,6 +186,8 @@ def main(words: list[str] | None = None) -> int:
     if asked.sender or asked.to:
         return asked_of_one(asked, exbr)
     found = asked_for(asked, exbr)
+    if asked.html:
+        written(page.of(found), asked.html)
     if asked.json:
         print(json.dumps(for_programs.of(found), indent=1))
     else:

@@ -135,7 +135,7 @@ def held(them: list[policies.Held], answers: Answers, limit: int) -> Iterator[st
         yield f"BROKEN: {policy.name} (line {policy.line}, {policy.when})"
         for broken in it.broken:
             what = "these have to reach each other and do not" if policy.kind == policies.ALWAYS else "these reach each other"
-            yield f"  {_stretch(broken)}: {what}"
+            yield f"  {stretch(broken)}: {what}"
             wrong = broken.wrong
             told = by_vlan(wrong) if 0 not in wrong else (f"in no VLAN: {line}" for line in wording.lines(wrong[0]))
             yield from cut((f"    {line}" for line in told), limit)
@@ -143,7 +143,7 @@ def held(them: list[policies.Held], answers: Answers, limit: int) -> Iterator[st
     yield f"policies: {len(them) - broken} hold, {broken} {'is' if broken == 1 else 'are'} broken"
 
 
-def _stretch(it: policies.Broken) -> str:
+def stretch(it: policies.Broken) -> str:
     """From when on a policy is broken, and until when."""
     when = moment_words(it.moment)
     if it.policy.when == policies.END:

@@ -44,7 +44,7 @@ def _mesh_words(whole: int) -> str:
     if masks.count(whole) == 2:
         first, second = masks.ports(whole)
         return f"{masks.words(1 << first)} {BOTH} {masks.words(1 << second)}"
-    return f"{masks.words(whole)} all hear each other"
+    return f"{masks.words(whole)} <-> each other"
 
 
 def _pairs(atoms: list[Atom], reaches: list[list[bool]], done: set, both: bool) -> Iterator[str]:

@@ -69,7 +69,7 @@ class Relations(unittest.TestCase):
 
     def test_lines_are_few(self):
         mesh = relation.made([(0b1111, 0b1111)])
-        self.assertEqual(wording.lines(mesh), ["b1-4 all hear each other"])
+        self.assertEqual(wording.lines(mesh), ["b1-4 <-> each other"])
         self.assertEqual(wording.lines(relation.made([(0b11, 0b1100), (0b1100, 0b11)])), ["b1-2 <-> b3-4"])
         self.assertEqual(wording.lines(relation.made([(0b1, 0b1110)])), ["b1 -> b2-4"])
         # As many blocks of one port each they are the same.
@@ -85,8 +85,8 @@ def said(lines: list[str]) -> set[tuple[int, int]]:
     """The pairs that lines say."""
     found = set()
     for line in lines:
-        if line.endswith(" all hear each other"):
-            them = ports_in(line.removesuffix(" all hear each other"))
+        if line.endswith(" <-> each other"):
+            them = ports_in(line.removesuffix(" <-> each other"))
             found |= {(one, other) for one in them for other in them if one != other}
             continue
         one_way = " <-> " not in line
@@ -125,14 +125,14 @@ class Answers(unittest.TestCase):
     def test_a_vlan(self):
         its = found_in(PLAIN)
         heard = its.heard(10, 0)
-        self.assertEqual(wording.lines(heard.every), ["b1, x1.1-2 all hear each other"])
+        self.assertEqual(wording.lines(heard.every), ["b1, x1.1-2 <-> each other"])
         self.assertEqual(masks.words(heard.tagged), "b1")
         self.assertEqual((its.astray, its.flooded), ([], 0))
 
     def test_leaks(self):
-        self.assertEqual(wording.lines(found_in(PLAIN, leaks=True).at(10, 0)), ["b1, x1.1-2 all hear each other", "b2, x1.3-4 -> b1, x1.1-2"])
+        self.assertEqual(wording.lines(found_in(PLAIN, leaks=True).at(10, 0)), ["b1, x1.1-2 <-> each other", "b2, x1.3-4 -> b1, x1.1-2"])
         filtering = PLAIN + "".join(f"[[port]]\nname = '{port}'\nfilter = true\n" for port in ("b2", "x1.3", "x1.4"))
-        self.assertEqual(wording.lines(found_in(filtering, leaks=True).at(10, 0)), ["b1, x1.1-2 all hear each other"])
+        self.assertEqual(wording.lines(found_in(filtering, leaks=True).at(10, 0)), ["b1, x1.1-2 <-> each other"])
 
     def test_a_static_entry(self):
         its = found_in(PLAIN + "[[static]]\nvid = 10\nmac = '01:00:5e:00:00:01'\nports = ['x1.1', 'x1.3']\n")
@@ -144,7 +144,7 @@ class Answers(unittest.TestCase):
         its = found_in(text)
         self.assertEqual([moment.at_rest for moment in its.moments], [True, False, False, True])
         self.assertEqual(wording.lines(its.at(10, 2)), ["b1 <-> x1.1-2"])
-        self.assertEqual(wording.lines(its.at(10, 3)), ["b1, x1.1-2 all hear each other"])
+        self.assertEqual(wording.lines(its.at(10, 3)), ["b1, x1.1-2 <-> each other"])
 
     def test_ports_that_stay_absent_and_commands_that_are_refused(self):
         text = HEAD.replace("ports = 3", "ports = 3\ngroups = 2") + "[[vlan]]\nvid = 10\nuntagged = ['x1.1-3']\n[[vlan]]\nvid = 20\nuntagged = ['x1.2-4']\n"
@@ -155,7 +155,7 @@ class Answers(unittest.TestCase):
         text = HEAD + "[[vlan]]\nvid = 1\nlast = 200\ntagged = ['*']\n[[command]]\nat = 1\nop = 'unmember'\nvid = 7\nport = 'b1'\n"
         its = found_in(text)
         self.assertEqual([len(vids) for vids in its.plan.touched], [200, 1])
-        self.assertEqual(wording.lines(its.at(7, 1)), ["b1 -> b2, x1.1-4", "b2, x1.1-4 all hear each other"][::-1])
+        self.assertEqual(wording.lines(its.at(7, 1)), ["b1 -> b2, x1.1-4", "b2, x1.1-4 <-> each other"][::-1])
 
 
 class Asked(desk_help.FolderTest):
@@ -174,7 +174,7 @@ class Asked(desk_help.FolderTest):
         status, out, _ = self.ask(NIGHT)
         self.assertEqual(status, 1)
         self.assertIn("command 6 (isolate port x4.3 isolated true) at 60 s: 10 pairs lost, 0 gained\n  - VLAN 20: x3.1-3, x4.1-2 <-> x4.3\n", out)
-        self.assertIn("at the end against the beginning: 30 pairs lost, 0 gained\n  - VLAN 20: x3.1-3, x4.1-3 all hear each other\n", out)
+        self.assertIn("at the end against the beginning: 30 pairs lost, 0 gained\n  - VLAN 20: x3.1-3, x4.1-3 <-> each other\n", out)
 
     def test_two_topologies(self):
         fixed = os.path.join(os.path.dirname(NIGHT), "fixed.toml")
