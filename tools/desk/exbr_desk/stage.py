@@ -26,7 +26,7 @@ class Said(NamedTuple):
 
     @property
     def line(self) -> str:
-        return self.text.strip().removeprefix(BROKEN)
+        return self.text.removesuffix("\n").removeprefix(BROKEN)
 
 
 def place(needed: int = 0) -> str | None:

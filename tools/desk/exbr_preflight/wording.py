@@ -9,7 +9,7 @@ from typing import NamedTuple
 from exbr_desk import plain
 from exbr_desk.places import Path, Place, Placed
 
-from .faults import ALONE, FATE, KEYS, MAC, MOST_COMMANDS, MOST_LETTERS, OPERATIONS, PORT, PORTS, SWITCH, TABLES, TEXT, Fault
+from .faults import ALONE, FATE, KEYS, MAC, MOST_COMMANDS, MOST_LETTERS, PORT, PORTS, SWITCH, TABLES, TEXT, Fault
 from .trees import Ports
 
 FORMS = {TEXT: "a text in quotes", SWITCH: "true or false", PORT: "a port, as b1 or x1.2", PORTS: 'a list of ports, as ["b1", "x1.1-8"]',
@@ -213,7 +213,8 @@ def _why_not(word: str, there: Ports) -> str:
     """Why a word names a port that isn't external."""
     if word.endswith(".*"):
         return _ports_of(int(word[1:-2]), None, there.extenders)
-    port = next(it for it in sorted(there.tree.ports(word)) if it not in there.external)
+    ports = [it for it in sorted(there.tree.ports(word)) if it not in there.external]
+    port = next((it for it in ports if it not in there.below), ports[0])
     device, count = port // 64, there.local if port < 64 else there.extenders.get(port // 64)
     if count is None or port % 64 >= count:
         return _ports_of(device, count, there.extenders)
@@ -230,9 +231,9 @@ def _shared(fault: Fault, _placed: Placed) -> tuple[str, str | None]:
 
 def _loop(fault: Fault, _placed: Placed) -> tuple[str, str | None]:
     way = fault.about["way"]
-    again = way.index(way[-1]) if way[-1] in way[:-1] else 0
-    return f"x{way[0]} never reaches the bridge: " + ", which hangs on ".join(f"x{it}" for it in way[:max(2, again + way.count(way[-1]) + 1)][:6]), \
-        "some extender has to hang on a port of the bridge, as b1"
+    end = next(at for at in range(1, len(way)) if way[at] in way[:at])
+    hangs = ", which hangs on ".join(f"x{it}" for it in way[1:end + 1])
+    return f"x{way[0]} hangs on {hangs}, and so never reaches the bridge", "some extender has to hang on a port of the bridge, as b1"
 
 
 def _few_channels(fault: Fault, _placed: Placed) -> tuple[str, str | None]:
@@ -267,10 +268,10 @@ def hint_of(words: str, place: Place | None) -> str | None:
         return 'these are quotes of a text processor: write " on both sides'
     if re.search(r"=\s*(True|False)\b", line):
         return "true and false are written small"
+    if re.search(r"=\s*[+-]?0[0-9]", line):
+        return "a number has no leading zero"
+    if words.startswith("Cannot overwrite a value") and line.lstrip().startswith("["):
+        return "this is a table above and a list of tables here, or the other way round: write [[..]], with two brackets, above each of several"
     if words.startswith("Invalid value") and re.search(r"=\s*[A-Za-z]", line):
         return "a text stands in quotes"
     return next((hint for begin, hint in HINTS if words.startswith(begin)), None)
-
-
-def operations() -> tuple[str, ...]:
-    return tuple(OPERATIONS)

@@ -12,6 +12,7 @@ import unittest
 import zlib
 
 import desk_help
+import mistakes
 import plainly
 import verdicts
 from exbr_desk import captures, errors, places, topology
@@ -182,7 +183,7 @@ class Faults(Told):
                 (X1.replace("b1", "b01"), ['did you mean "b1"?']), (X1 + "[[vlan]]\nvid = 5\nlast = 4\n", ["last = 4 is below vid = 5"]),
                 (X1 + "[[port]]\nname = 'x1.1-2'\n", ["one port"]), (X1 + "[[vlan]]\nvid = 1\ntagged = 'x1.1'\n", ['write tagged = ["x1.1"]']),
                 (X1 + "[[vlan]]\nvid = 1\ntagged = ['x4.3O']\n", ['did you mean "x4.30"?']), (X1 + "[[vlan]]\nvid = 1\ntagged = ['b1']\n", ["x1 hangs on b1"]),
-                (X1 + X1[len(TWO):], ["extender 1 is there already", "given first here"]), (X1.replace("b1", "x1.2"), ["x1 never reaches the bridge"]),
+                (X1 + X1[len(TWO):], ["extender 1 is there already", "given first here"]), (X1.replace("b1", "x1.2"), ["x1 hangs on x1, and so never reaches the bridge"]),
                 (X1 + "[[vlan]]\nvid = 1\n[[vlan]]\nvid = 1\n", ["VLAN 1 is given before"]), (X1 + "[captures]\nx1.1 = 'a'\n", ["needs quotes"]),
                 (X1 + "[captures]\nb2 = 'out-b2.pcap'\n", ["a file that a run writes"]), (X1 + "[[port]]\nname = 'x1.1'\nfilter = 'true'\n", ["filter = true, without"]),
                 ("[bridge]\nports = 2\nout = \"a\nageing = 0\n", ["no TOML", "a quote is missing"]), ("[bridge]\nports = “2”\n", ["text processor"]),
@@ -345,6 +346,13 @@ class Command(desk_help.FolderTest):
         for word in ("--help", "--version"):
             self.assertEqual(self.script("exbr-preflight", word).returncode, 0)
         self.assertEqual(sorted(os.listdir(self.folder)), ["topology.toml"])
+
+
+class Page(unittest.TestCase):
+    def test_the_page_of_mistakes_is_as_the_tool_speaks(self):
+        self.assertEqual(len(mistakes.MISTAKES), 64)
+        with open(mistakes.PAGE, encoding="utf-8") as file:
+            self.assertEqual(file.read(), mistakes.page(desk_help.needs_program()))
 
 
 class Names(unittest.TestCase):
