@@ -31,8 +31,8 @@ LINTS = {
 }
 NAMES = plain.name_of
 # What a text says of one port, and of many.
-VERBS = {"{} is ": "{} are ", "{} gets ": "{} get ", "{} has ": "{} have ", "and isn't": "and aren't", "which isn't": "which aren't",
-         "what it sends": "what they send", "it filters": "they filter", "its own": "their own", " and accepts ": " and accept ",
+VERBS = {"{} is ": "{} are ", "{} gets ": "{} get ", "{} has ": "{} have ", "its filter": "their filter", "its PVID": "their PVID", "it sends": "they send", "and isn't": "and aren't", "which isn't": "which aren't",
+         "it filters": "they filter", "its own": "their own", " and accepts ": " and accept ",
          "in a VLAN of it": "in a VLAN of theirs"}
 
 
@@ -188,7 +188,10 @@ class Watch:
                           f"VLAN {rules.pvid} alone", [port], where)
         elif untagged and untagged[0] != rules.pvid and rules.pvid in kinds and rules.accept != "tagged":
             yield Warning("asymmetric", f"{{}} gets VLAN {untagged[0]} without a tag, and what it sends without one goes to VLAN {rules.pvid}", [port], where)
-        if rules.pvid not in kinds and rules.accept != "tagged" and (kinds or port in self.named):
+        if untagged and rules.pvid not in kinds and rules.accept != "tagged" and rules.filter:
+            yield Warning("kept-out", f"{{}} gets VLAN {_some(untagged)} without a tag, and its filter refuses what it sends without one: its PVID is {rules.pvid}",
+                          [port], where)
+        elif rules.pvid not in kinds and rules.accept != "tagged" and (kinds or port in self.named):
             yield Warning("pvid-member", f"{{}} has PVID {rules.pvid} and isn't in VLAN {rules.pvid}: {self._fate(port, rules.pvid)}", [port], where)
         yield from self._kept_out(port, kinds, where)
 

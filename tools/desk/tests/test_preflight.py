@@ -293,6 +293,7 @@ class Warnings(Told):
                 (self.BASE.replace("pvid = 10\n[[vlan]]", "pvid = 30\n[[vlan]]"), "pvid-member"),
                 (self.BASE + "[[vlan]]\nvid = 20\nuntagged = ['x1.3']\ntagged = ['b2']\n[[vlan]]\nvid = 1\ntagged = ['x1.3', 'x1.4']\n[[port]]\nname = 'x1.4'\naccept = 'tagged'\n", "asymmetric"),
                 (self.BASE + "[[vlan]]\nvid = 20\ntagged = ['x1.3', 'b2']\n[[port]]\nname = 'b2'\naccept = 'untagged'\n", "kept-out"),
+                (self.BASE + "[[vlan]]\nvid = 20\nuntagged = ['x1.3']\ntagged = ['b2']\n[[port]]\nname = 'x1.3'\nfilter = true\n", "kept-out"),
                 (self.BASE + "[[vlan]]\nvid = 20\ntagged = ['b2']\n", "one-member"),
                 (self.BASE + "[[static]]\nvid = 10\nmac = '01:00:5e:00:00:01'\nports = ['x1.1', 'x1.3']\n", "static-members"),
                 (self.BASE.replace("pvid = 10\n[[vlan]]", "pvid = 10\nisolated = true\n[[vlan]]"), "isolated-alone"),
