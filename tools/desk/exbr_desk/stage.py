@@ -10,9 +10,11 @@ import os
 import shutil
 import subprocess
 import tempfile
+import time
 from typing import Iterator, NamedTuple
 
 from .errors import DeskError
+from .progress import Progress
 
 IN_MEMORY, ROOM = "/dev/shm", 1 << 30
 BROKEN = "exbr: "
@@ -59,10 +61,29 @@ def ask(exbr: str, words: list[str], folder: str | None = None) -> Said:
 
 
 def run(exbr: str, text: str, folder: str, options: list[str] | None = None) -> Said:
-    """Runs a topology in a folder. Every other end than a good one is a fault of the tool that made the topology."""
+    """Runs a topology in a folder, and shows how much it has written where that takes long. Every other end than a good one is a fault of the
+    tool that made the topology."""
     with open(os.path.join(folder, "topology.toml"), "w", encoding="utf-8") as out:
         out.write(text)
-    said = ask(exbr, ["run", "topology.toml", *(options or [])], folder)
+    progress = Progress("playing: bytes written")
+    said = _watched([exbr, "run", "topology.toml", *(options or [])], folder, progress) if progress.is_on else \
+        ask(exbr, ["run", "topology.toml", *(options or [])], folder)
     if said.status:
         raise DeskError(f"exbr ended with status {said.status}: {said.line or 'it said nothing'}")
     return said
+
+
+def _watched(words: list[str], folder: str, progress: Progress) -> Said:
+    """Runs the program, and looks at its folder meanwhile."""
+    with subprocess.Popen(words, cwd=folder, stdin=subprocess.DEVNULL, stdout=subprocess.PIPE, stderr=subprocess.STDOUT) as process:
+        try:
+            while process.poll() is None:
+                progress.at(sum(it.stat().st_size for it in os.scandir(folder) if it.is_file()))
+                time.sleep(0.05)
+            out, _ = process.communicate()
+        except BaseException:
+            process.kill()
+            raise
+        finally:
+            progress.end()
+    return Said(process.returncode, out.decode(errors="replace"))

@@ -11,6 +11,7 @@ from typing import Iterator, NamedTuple
 
 from exbr_desk import stage
 from exbr_desk.errors import DeskError
+from exbr_desk.progress import Progress
 from exbr_desk.topology import Topology
 
 from . import masks, playing, relation
@@ -106,11 +107,14 @@ def sorted_out(course: Course, plan: Plan, its: playing.Played) -> Answers:
     """What came of each probe, by VLAN and moment."""
     found = Answers(course, plan, {}, {}, its.copies, masks.of(course.given.external))
     broad, named = _by_place(plan, its)
+    progress = Progress("moments sorted out", len(plan.touched))
     for place, vids in enumerate(plan.touched):
+        progress.at(place)
         for vid in sorted(vids):
             found.vlans.setdefault(vid, Timeline()).put(place, _heard(broad.get((place, vid), [])))
         for entry in {it for it in found.statics if it[0] in vids} | plan.statics[place]:
             found.statics.setdefault(entry, Timeline()).put(place, _heard(named.get((place, entry), [])))
+    progress.end()
     _look_at_stations(found, its)
     return found
 

@@ -9,6 +9,8 @@ from __future__ import annotations
 from dataclasses import dataclass
 from typing import NamedTuple
 
+from exbr_desk.progress import Progress
+
 from . import masks
 from .moments import Course, Moment, State, states
 
@@ -72,6 +74,7 @@ class Planner:
 
     def go(self) -> Plan:
         waiting: set[int] = set()
+        progress = Progress("moments planned", len(self.course.given.commands))
         for moment, state, touched in states(self.course):
             if self.asked.leaks and moment.command and moment.command.table["op"] in ("accept", "filter", "isolate", "up", "down"):
                 touched = touched | state.members.keys()
@@ -82,6 +85,8 @@ class Planner:
             self.plan.statics.append(frozenset(key for key in state.now.statics if key[0] in vids))
             for vid in sorted(vids):
                 self._of_vlan(moment, state, vid)
+            progress.at(moment.place)
+        progress.end()
         return self.plan
 
     def _now(self, moment: Moment, waiting: set[int]) -> frozenset[int]:

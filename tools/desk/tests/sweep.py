@@ -3,7 +3,8 @@
 
     tools/desk/tests/sweep.py [COUNT] [--from N] [--program EXBR] [--limits-only | --reach-only]
 
-Reachability has to be equal pair by pair, at each moment, in each VLAN, by all tags, folded here and unfolded there. Numbers have to be
+Reachability has to be equal pair by pair, at each moment, in each VLAN, by all tags, folded here and unfolded there; frames that are on their way during commands have
+to go as at one of the moments. Numbers have to be
 those that the plain bridge counts; with the least limits nothing is refused in a run, and with one less something is.
 """
 from __future__ import annotations
@@ -20,7 +21,7 @@ import desk_help
 import plainly
 from exbr_desk import topology
 from exbr_preflight import tables
-from exbr_reach import answers, relation
+from exbr_reach import answers, during, relation
 from exbr_reach.moments import vids_of
 from exbr_reach.probes import Asked
 
@@ -39,6 +40,10 @@ def reach_of(text: str, program: str, told: Counter) -> None:
         static_of(found, it, places[number], told)
         told["moments"] += 1
     assert not found.astray, found.astray[:3]
+    seen = during.watched(found, program, 1)
+    assert not seen.odd, seen.odd[:3]
+    told["frames on their way during commands"] += seen.frames
+    told["of these between two commands of one second"] += seen.between
     told["frames played"] += len(found.plan.probes)
     told["frames without folding"] += found.plan.wanted
     told["frames to single stations"] += found.to_stations
