@@ -36,11 +36,12 @@ class Report:
     least: dict[str, int | None] | None = None
     settling: settling.Settling | None = None
     warnings: list[lint.Warning] = field(default_factory=list)
+    unread: list[lint.Warning] = field(default_factory=list)
     strict: bool = False
 
     @property
     def status(self) -> int:
-        if not self.verdict.is_good:
+        if not self.verdict.is_good or self.unread:
             return BROKEN
         if self.tables is not None and not self.tables.suffice:
             return REFUSED
@@ -126,8 +127,9 @@ def _settle(report: Report, given: topology.Topology, played: tables.Played, ask
 def _warn(report: Report, given: topology.Topology, off: set[str], frames: int) -> None:
     refused = {it.command for it in report.tables.refused if it.command}
     found = lint.of_topology(given, report.verdict.placed, refused)
-    if given.captures and not {"foreign-tags", "snap", "both-directions", "fcs", "same-file", "after-end"} <= off:
-        found += records.of_captures(given, report.verdict.placed, frames)
+    if given.captures:
+        more, report.unread = records.of_captures(given, report.verdict.placed, frames)
+        found += more
     report.warnings = [it for it in found if it.name not in off]
 
 
@@ -135,6 +137,7 @@ def lines(report: Report, asked: argparse.Namespace):
     yield from show.faults(report.verdict)
     if report.tables is None:
         return
+    yield from show.warnings(report.verdict.path, report.unread, "error")
     yield from show.warnings(report.verdict.path, report.warnings)
     yield from show.tables(report.tables, asked.ports, asked.commands)
     if report.least:
@@ -145,7 +148,9 @@ def lines(report: Report, asked: argparse.Namespace):
 
 def verdict_line(report: Report) -> str:
     """The verdict, in one line."""
-    count = len(report.warnings)
+    count, unread = len(report.warnings), len(report.unread)
+    if unread:
+        return f"{unread} capture{'s' * (unread != 1)} can't be read; " + show.table_verdict(report.tables)
     return show.table_verdict(report.tables) + (f"; {count} warning{'s' * (count != 1)}" if count else "; no warning")
 
 

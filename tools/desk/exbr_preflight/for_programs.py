@@ -19,6 +19,7 @@ def of(report) -> dict:
         found["least"] = report.least
     found["settling"] = {"opening": report.settling.plain[0], "commands": report.settling.plain[1:],
                          "fates": report.settling.fates, "worst_opening": report.settling.worst[0], "worst_commands": report.settling.worst[1:]}
+    found["unread"] = [{"text": it.words(), **place(it.place)} for it in report.unread]
     found["warnings"] = [{"name": it.name, "text": it.words(), "ports": [plain.name_of(port) for port in it.ports], "since": it.since, "until": it.until,
                           **place(it.place)} for it in report.warnings]
     return found

@@ -5,6 +5,7 @@ that these commands touched. Which commands take effect is what the program says
 """
 from __future__ import annotations
 
+from collections import Counter
 from dataclasses import dataclass, field
 from typing import Iterable, Iterator, NamedTuple
 
@@ -31,7 +32,8 @@ LINTS = {
 }
 NAMES = plain.name_of
 # What a text says of one port, and of many.
-VERBS = {"{} is ": "{} are ", "{} gets ": "{} get ", "{} has ": "{} have ", "its filter": "their filter", "its PVID": "their PVID", "it sends": "they send", "and isn't": "and aren't", "which isn't": "which aren't",
+VERBS = {"{} is ": "{} are ", "{} gets ": "{} get ", "{} has ": "{} have ", "its filter": "their filter", "its PVID": "their PVID",
+         "it sends": "they send", "and isn't": "and aren't", "which isn't": "which aren't",
          "it filters": "they filter", "its own": "their own", " and accepts ": " and accept ",
          "in a VLAN of it": "in a VLAN of theirs"}
 
@@ -148,36 +150,31 @@ class Watch:
     # What stands at a moment.
 
     def _look(self, ports: set[int], vids: set[int], entries: set[tuple], number: int) -> None:
-        stand = {}
-        for warning, subject in self._of_all(ports, vids, entries):
-            stand[subject] = warning
+        """Looks at what was touched: warnings that don't stand any more end with this command, and new ones begin."""
+        stand = {subject: warning for warning, subject in self._of_all(ports, vids, entries)}
         looked = {(name, it) for name in ("two-untagged", "pvid-member", "asymmetric", "kept-out") for it in ports}
         looked |= {("one-member", vid) for vid in vids} | {("static-members", entry) for entry in entries}
-        gone = [it for it in self.standing if it not in stand and ((it.name, it.what) in looked or it.name == "isolated-alone")]
-        for subject in gone:
-            warning = self.standing.pop(subject)
-            warning.until = number
-            self.found.append(warning)
-        for subject, warning in stand.items():
-            if subject not in self.standing or self.standing[subject].text != warning.text:
-                warning.since = number
-                warning.path = ("command", number - 1, "op") if number else warning.path
-                self.standing[subject] = warning
+        for subject in [it for it in self.standing if it not in stand and ((it.name, it.what) in looked or it.name == "isolated-alone")]:
+            self.standing[subject].until = number
+            self.found.append(self.standing.pop(subject))
+        self.standing |= {subject: _since(warning, number) for subject, warning in stand.items()
+                          if subject not in self.standing or self.standing[subject].text != warning.text}
 
     def _of_all(self, ports: set[int], vids: set[int], entries: set[tuple]) -> Iterator[tuple[Warning, Subject]]:
         for port in sorted(ports):
             yield from ((it, Subject(it.name, port)) for it in self._of_port(port))
-        for vid in sorted(vids):
-            members = self._members(vid)
-            if len(members) == 1:
-                yield Warning("one-member", f"VLAN {vid} has one member, {{}}: nothing that it sends there has anywhere to go", list(members),
-                              ("vlan", self.vlan_tables.get(vid, 0), "vid")), Subject("one-member", vid)
-        for key in sorted(entries & self.now.statics.keys()):
-            strangers = sorted(self.now.statics[key] - self._members(key[0]))
-            if strangers:
-                yield Warning("static-members", f"the static entry of {frames.mac(key[1])} names {{}}, which isn't in VLAN {key[0]}: nothing leaves there",
-                              strangers, ("static", self.static_tables.get(key, 0), "ports")), Subject("static-members", key)
+        yield from ((self._one_member(vid), Subject("one-member", vid)) for vid in sorted(vids) if len(self._members(vid)) == 1)
+        strangers = ((key, sorted(self.now.statics[key] - self._members(key[0]))) for key in sorted(entries & self.now.statics.keys()))
+        yield from ((self._static(key, them), Subject("static-members", key)) for key, them in strangers if them)
         yield from self._isolated()
+
+    def _one_member(self, vid: int) -> Warning:
+        return Warning("one-member", f"VLAN {vid} has one member, {{}}: nothing that it sends there has anywhere to go", list(self._members(vid)),
+                       ("vlan", self.vlan_tables.get(vid, 0), "vid"))
+
+    def _static(self, key: tuple[int, bytes], strangers: list[int]) -> Warning:
+        return Warning("static-members", f"the static entry of {frames.mac(key[1])} names {{}}, which isn't in VLAN {key[0]}: nothing leaves there",
+                       strangers, ("static", self.static_tables.get(key, 0), "ports"))
 
     def _of_port(self, port: int) -> Iterator[Warning]:
         kinds, rules = self.vlans_of.get(port, {}), self.now.rules[port]
@@ -217,15 +214,18 @@ class Watch:
         return ("vlan", self.vlan_tables[vids[0]], "vid") if vids and vids[0] in self.vlan_tables else ()
 
     def _isolated(self) -> Iterator[tuple[Warning, Subject]]:
-        isolated = {port for port, rules in self.now.rules.items() if rules.isolated}
-        counts: dict[int, int] = {}
-        for port in isolated:
-            for vid in self.vlans_of.get(port, {}):
-                counts[vid] = counts.get(vid, 0) + 1
-        for port in sorted(isolated):
-            if all(counts[vid] == 1 for vid in self.vlans_of.get(port, {})):
-                yield Warning("isolated-alone", "{} is isolated, and no other isolated port is in a VLAN of it: that keeps nothing apart", [port],
-                              self._port_path(port)), Subject("isolated-alone", port)
+        isolated = sorted(port for port, rules in self.now.rules.items() if rules.isolated)
+        counts = Counter(vid for port in isolated for vid in self.vlans_of.get(port, {}))
+        alone = (port for port in isolated if all(counts[vid] == 1 for vid in self.vlans_of.get(port, {})))
+        yield from ((Warning("isolated-alone", "{} is isolated, and no other isolated port is in a VLAN of it: that keeps nothing apart", [port],
+                             self._port_path(port)), Subject("isolated-alone", port)) for port in alone)
+
+
+def _since(warning: Warning, number: int) -> Warning:
+    """A warning that stands from a command on, at whose line it is told."""
+    warning.since = number
+    warning.path = ("command", number - 1, "op") if number else warning.path
+    return warning
 
 
 def _some(vids: list[int]) -> str:

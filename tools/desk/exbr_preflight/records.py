@@ -9,6 +9,7 @@ from typing import Iterator
 
 from exbr_desk import frames, plain
 from exbr_desk.captures import SECOND, Classic, Pieces, form_of, opened
+from exbr_desk.errors import DeskError
 from exbr_desk.places import Placed
 from exbr_desk.progress import Progress
 from exbr_desk.topology import Topology, folder_of
@@ -72,18 +73,27 @@ def _note(found: Seen, frame: bytes, is_cut: bool) -> None:
         found.checked += zlib.crc32(frame[:-4]) == struct.unpack("<I", frame[-4:])[0]
 
 
-def of_captures(given: Topology, placed: Placed, look: int = LOOK) -> list[Warning]:
-    """The warnings on captures."""
+def of_captures(given: Topology, placed: Placed, look: int = LOOK) -> tuple[list[Warning], list[Warning]]:
+    """The warnings on captures, and those captures that a run couldn't read."""
+    seen, broken = all_seen(given, look)
+    found = [*_same_files(given, folder_of(given.path)), *_tags(given, seen), *_signs(seen), *_directions(seen), *_ends(given, seen)]
+    for it in (*found, *broken):
+        it.place = placed.value(it.path) or placed.key(it.path)
+    return found, broken
+
+
+def all_seen(given: Topology, look: int) -> tuple[dict[int, Seen], list[Warning]]:
+    """What each capture holds, and those that can't be read."""
     folder, progress = folder_of(given.path), Progress("looking at captures", len(given.captures))
-    seen = {}
+    seen, broken = {}, []
     for at, (port, name) in enumerate(given.captures.items()):
-        seen[port] = seen_in(os.path.join(folder, name), look)
+        try:
+            seen[port] = seen_in(os.path.join(folder, name), look)
+        except (DeskError, OSError) as fault:
+            broken.append(Warning("capture", f"the capture of {{}} can't be read: {fault.strerror if isinstance(fault, OSError) else fault}", [port], _path(port)))
         progress.at(at)
     progress.end()
-    found = [*_same_files(given, folder), *_tags(given, seen), *_signs(seen), *_directions(seen), *_ends(given, seen)]
-    for it in found:
-        it.place = placed.value(it.path) or placed.key(it.path)
-    return found
+    return seen, broken
 
 
 def _same_files(given: Topology, folder: str) -> Iterator[Warning]:
@@ -101,19 +111,18 @@ def _path(port: int) -> tuple:
 def ever_in(given: Topology) -> dict[int, set[int]]:
     """By port the VLANs in which it is at some moment."""
     now, found = given.start(), {}
-
-    def note(vid: int) -> None:
-        for ports in now.vlans.get(vid, {}).values():
-            for port in ports:
-                found.setdefault(port, set()).add(vid)
-
     for vid in now.vlans:
-        note(vid)
+        _note_members(found, vid, now)
     for command in given.commands:
         now.command(command.table)
         if command.table["op"] in ("vlan", "member"):
-            note(command.table["vid"])
+            _note_members(found, command.table["vid"], now)
     return found
+
+
+def _note_members(found: dict[int, set[int]], vid: int, now: plain.Configuration) -> None:
+    for port in {port for ports in now.vlans.get(vid, {}).values() for port in ports}:
+        found.setdefault(port, set()).add(vid)
 
 
 def _tags(given: Topology, seen: dict[int, Seen]) -> Iterator[Warning]:
@@ -134,17 +143,20 @@ def _signs(seen: dict[int, Seen]) -> Iterator[Warning]:
 
 
 def _directions(seen: dict[int, Seen]) -> Iterator[Warning]:
-    """Two captures in which many of the same addresses send: one of them at least holds what left its port."""
+    """Captures of which most addresses send in others too: one of them at least holds what left its port."""
     ports_of: dict[bytes, list[int]] = {}
-    for port, it in seen.items():
-        for address in it.sources:
-            ports_of.setdefault(address, []).append(port)
-    for port, it in seen.items():
-        elsewhere = [address for address in it.sources if len(ports_of[address]) > 1]
-        if len(it.sources) > 1 and 2 * len(elsewhere) > len(it.sources):
-            others = sorted({other for address in elsewhere for other in ports_of[address]} - {port})
-            yield Warning("both-directions", f"of {len(it.sources)} addresses that send in the capture of {{}} {len(elsewhere)} send in others too, as "
-                          f"{frames.mac(min(elsewhere))} at {NAMES(others[0])}: it seems to hold what left the port (tcpdump -Q in)", [port], _path(port))
+    for port, address in ((port, address) for port, it in seen.items() for address in it.sources):
+        ports_of.setdefault(address, []).append(port)
+    yield from (found for port, it in seen.items() if (found := _both(port, it, ports_of)))
+
+
+def _both(port: int, it: Seen, ports_of: dict[bytes, list[int]]) -> Warning | None:
+    elsewhere = [address for address in it.sources if len(ports_of[address]) > 1]
+    if len(it.sources) < 2 or 2 * len(elsewhere) <= len(it.sources):
+        return None
+    other = min({other for address in elsewhere for other in ports_of[address]} - {port})
+    return Warning("both-directions", f"of {len(it.sources)} addresses that send in the capture of {{}} {len(elsewhere)} send in others too, as {frames.mac(min(elsewhere))} "
+                   f"in that of {NAMES(other)}: it seems to hold what left the port (tcpdump -Q in)", [port], _path(port))
 
 
 def _ends(given: Topology, seen: dict[int, Seen]) -> Iterator[Warning]:

@@ -164,9 +164,9 @@ def settling(it: Settling, length: float | None, commands: bool) -> Iterator[str
             yield f"  command {at}: {in_time(one, length)}" + (f", at the worst {in_time(worst, length)}" if it.fates else "")
 
 
-def warnings(path: str, them: list[Warning]) -> Iterator[str]:
+def warnings(path: str, them: list[Warning], word: str | None = None) -> Iterator[str]:
     for it in them:
-        yield from pointed(path, it.place, f"warning ({it.name})", it.words(), None)
+        yield from pointed(path, it.place, word or f"warning ({it.name})", it.words(), None)
 
 
 def say(lines: Iterator[str]) -> None:

@@ -85,6 +85,8 @@ def _unknown(fault: Fault, placed: Placed) -> tuple[str, str | None]:
     key, path = str(fault.path[-1]), fault.path
     known = TABLES if len(path) == 1 else fault.about["known"]
     close, op = near(key, known), fault.about.get("op")
+    if path == ("wire",):
+        return 'a topology has no table "wire"', "this is a file of a net: exbr net reads it, and this tool each of its topologies"
     where = "a topology has no table" if len(path) == 1 else f"{element_of(path, placed.tables)} has no key"
     if len(path) == 1 and any(key in it for it in KEYS.values()):
         return f'{where} "{key}"', f'"{key}" is a key of a table: it stands behind the head of its table, as [bridge]'

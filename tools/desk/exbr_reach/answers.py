@@ -7,7 +7,7 @@ from __future__ import annotations
 
 from bisect import bisect_right
 from dataclasses import dataclass, field
-from typing import Iterator, NamedTuple
+from typing import Iterable, Iterator, NamedTuple
 
 from exbr_desk import stage
 from exbr_desk.errors import DeskError
@@ -110,13 +110,18 @@ def sorted_out(course: Course, plan: Plan, its: playing.Played) -> Answers:
     progress = Progress("moments sorted out", len(plan.touched))
     for place, vids in enumerate(plan.touched):
         progress.at(place)
-        for vid in sorted(vids):
-            found.vlans.setdefault(vid, Timeline()).put(place, _heard(broad.get((place, vid), [])))
-        for entry in {it for it in found.statics if it[0] in vids} | plan.statics[place]:
-            found.statics.setdefault(entry, Timeline()).put(place, _heard(named.get((place, entry), [])))
+        entries = {it for it in found.statics if it[0] in vids} | plan.statics[place]
+        _put(found.vlans, place, sorted(vids), broad)
+        _put(found.statics, place, entries, named)
     progress.end()
     _look_at_stations(found, its)
     return found
+
+
+def _put(lines: dict, place: int, keys: Iterable, outcomes: dict) -> None:
+    """Puts what is known of VLANs, or of entries, at a moment."""
+    for key in keys:
+        lines.setdefault(key, Timeline()).put(place, _heard(outcomes.get((place, key), [])))
 
 
 Outcome = tuple[Probe, int, int]

@@ -88,14 +88,13 @@ class State:
         self.untagged_only = self._ports_with(lambda it: it.accept == "untagged")
         self.filtering = self._ports_with(lambda it: it.filter)
         self.isolated = self._ports_with(lambda it: it.isolated)
+        # By VLAN the ports of which it is the PVID, and by port the VLANs in which it is.
         self.pvids: dict[int, int] = {}
+        self.vlans_of: dict[int, set[int]] = {}
         for port, rules in self.now.rules.items():
             self.pvids[rules.pvid] = self.pvids.get(rules.pvid, 0) | 1 << port
-        # By port the VLANs in which it is.
-        self.vlans_of: dict[int, set[int]] = {}
-        for vid, kinds in self.now.vlans.items():
-            for port in (*kinds["tagged"], *kinds["untagged"]):
-                self.vlans_of.setdefault(port, set()).add(vid)
+        for vid, port in ((vid, port) for vid, kinds in self.now.vlans.items() for ports in kinds.values() for port in ports):
+            self.vlans_of.setdefault(port, set()).add(vid)
 
     def _ports_with(self, test) -> int:
         return masks.of(port for port, rules in self.now.rules.items() if test(rules))

@@ -103,11 +103,9 @@ class Planner:
         tagging = state.external if self.asked.leaks else self.may.get(vid, 0)
         sets = [(form, part) for form, senders in ((NO_TAG, state.pvids.get(vid, 0)), (TAG, tagging)) for part in self._parts(senders, by)]
         places = [self._add(moment, vid, form, part, None) for form, part in sets]
-        for (_, mac), ports in self._entries(state, vid):
-            mask = masks.of(ports)
-            for form, part in sets:
-                for piece in self._parts(part, (mask,)):
-                    self._add(moment, vid, form, piece, mac)
+        entries = ((mac, masks.of(ports)) for (_, mac), ports in self._entries(state, vid))
+        for mac, form, piece in ((mac, form, piece) for mac, mask in entries for form, part in sets for piece in self._parts(part, (mask,))):
+            self._add(moment, vid, form, piece, mac)
         if self.asked.unicast:
             self._to_stations(moment, vid, sets, places)
 

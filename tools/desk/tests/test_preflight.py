@@ -329,6 +329,14 @@ class Warnings(Told):
             self.assertEqual(sorted(set(found)), [name], text)
             self.assertEqual(self.names(self.BASE + "[captures]\n" + text, "--off", name), [])
 
+    def test_captures_that_cannot_be_read(self):
+        self.write("bad.pcap", b"no capture")
+        status, out, _ = self.ask(self.BASE + "[captures]\n'x1.1' = 'none.pcap'\n'x1.2' = 'bad.pcap'\n")
+        self.assertEqual(status, 3)
+        self.assertIn("topology.toml:17:10: error: the capture of x1.1 can't be read: ", out)
+        self.assertIn("NotPcap at 0", out)
+        self.assertIn("2 captures can't be read; tables suffice", out)
+
     def test_a_command_after_the_last_frame(self):
         self.write("a.pcap", captures.capture_text([(10**9, frame(1)), (3 * 10**9, frame(1))]))
         text = self.BASE + "[[command]]\nat = {}\nop = 'down'\nport = 'x1.1'\n[captures]\n'x1.1' = 'a.pcap'\n"

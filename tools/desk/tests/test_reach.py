@@ -230,6 +230,20 @@ class Asked(desk_help.FolderTest):
         self.assertEqual((told["status"], told["difference"]["lost"], told["before"]["end"]["vlans"]["20"]["reach"][0]["to"]), (1, 30, ["x3.1-3", "x4.1-3"]))
         self.assertEqual([it["lost"] for it in told["before"]["commands"]], [0, 2, 4, 6, 8, 10, 0, 0])
 
+    def test_the_page_asks_for_nothing_and_says_all_of_it(self):
+        path = self.path("page.html")
+        self.ask(NIGHT, "--brief", "--leaks", "--fail", "each-extender", "--html", path, "--expect",
+                 self.write("policies.toml", "[[never]]\nname = '<b>\"&'\nfrom = 'x3.*'\nto = 'x3.*'\n"))
+        with open(path, encoding="utf-8") as file:
+            text = file.read()
+        for part in ("default-src 'none'", "command 8 (filter port x4.2 filter true) at 61 s", "VLAN 20: x3.1-3, x4.1-3 &lt;-&gt; each other", '&lt;b&gt;"&amp;',
+                     "– (was →)", "↔ t", "frames played for 1,966", 'id="policies"', 'id="losses"'):
+            self.assertIn(part, text)
+        for part in ("http:", "https:", "<script", "src=", "url(", "<b>\""):
+            self.assertNotIn(part, text)
+        self.assertEqual(os.listdir(self.folder).count("page.html.part"), 0)
+        self.assertEqual(self.ask(NIGHT, "--html", self.path("none/page.html"))[0], 2)
+
     def test_what_was_played_can_be_kept(self):
         self.ask(NIGHT, "--keep", self.path("kept"))
         self.assertTrue(os.path.exists(self.path("kept/out-x1.1.pcap")))
