@@ -236,7 +236,7 @@ class Asked(desk_help.FolderTest):
                  self.write("policies.toml", "[[never]]\nname = '<b>\"&'\nfrom = 'x3.*'\nto = 'x3.*'\n"))
         with open(path, encoding="utf-8") as file:
             text = file.read()
-        for part in ("default-src 'none'", "command 8 (filter port x4.2 filter true) at 61 s", "VLAN 20: x3.1-3, x4.1-3 &lt;-&gt; each other", '&lt;b&gt;"&amp;',
+        for part in ("default-src &#x27;none&#x27;", "command 8 (filter port x4.2 filter true) at 61 s", "VLAN 20: x3.1-3, x4.1-3 &lt;-&gt; each other", '&lt;b&gt;"&amp;',
                      "– (was →)", "↔ t", "frames played for 1,966", 'id="policies"', 'id="losses"'):
             self.assertIn(part, text)
         for part in ("http:", "https:", "<script", "src=", "url(", "<b>\""):
