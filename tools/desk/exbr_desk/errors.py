@@ -13,8 +13,8 @@ class DeskError(Exception):
     """Input that can't be used. Its text is the line that a tool prints before it ends with status 2."""
 
 
-def ended(name: str, main: Callable[[], int]) -> int:
-    """The status of a tool: that of `main`, or 2 with a line on standard error where input is broken."""
+def ended(name: str, main: Callable[[], int], broken: int = 2) -> int:
+    """The status of a tool: that of `main`, or `broken` with a line on standard error where input is broken."""
     sys.stdout, sys.stderr = Screen(sys.stdout), Screen(sys.stderr, by_line=True)
     try:
         return main()
@@ -32,7 +32,7 @@ def ended(name: str, main: Callable[[], int]) -> int:
         print(f"{name}: {fault.filename or 'a file'}: {fault.strerror or fault}", file=sys.stderr)
     except Exception as fault:  # noqa: BLE001
         print(f"{name}: the input can't be read: {_strange(fault)}", file=sys.stderr)
-    return 2
+    return broken
 
 
 def _strange(fault: Exception) -> str:
