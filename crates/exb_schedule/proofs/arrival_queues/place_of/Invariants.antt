@@ -2,7 +2,7 @@ use Rattle.std.proofs.Common.{◌≤◌, ◌-◌, length}
 use Rattle.exb_schedule.proofs.arrival_queues.place_of.Given as goal
 
 abbrev pub invariant-halves : goal.invariant-halves
-invariant-halves g l = (l.low ≤ l.high) × (l.high ≤ length l.queues)
+invariant-halves l = (l.low ≤ l.high) × (l.high ≤ length l.queues)
 
 abbrev pub decreases-halves : goal.decreases-halves
-decreases-halves g l = l.high - l.low
+decreases-halves l = l.high - l.low

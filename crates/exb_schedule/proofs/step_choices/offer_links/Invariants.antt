@@ -2,7 +2,7 @@ use Rattle.std.proofs.Common.{◌≤◌, ◌-◌}
 use Rattle.exb_schedule.proofs.step_choices.offer_links.Given as goal
 
 abbrev pub invariant-links : goal.invariant-links
-invariant-links g l = l.from ≤ 65
+invariant-links l = l.from ≤ 65
 
 abbrev pub decreases-links : goal.decreases-links
-decreases-links g l = 65 - l.from
+decreases-links l = 65 - l.from
