@@ -34,7 +34,13 @@ pub record AreReadAs (t : Shape) (journal trace : List ℕ) (outputs : ℕ → L
 
 -- what a run of an input wrote, as the rules see it
 abbrev pub files_of : Input → History → List TraceLine → Files
-files_of i h lines = record { tree = tree_of i; journal = journal_of h; captures = frames_in i; outputs = frames_out i h; lines = lines }
+files_of i h lines = record {
+  tree = tree_of i;
+  journal = journal_of h;
+  captures = frames_in i;
+  outputs = frames_out i h;
+  lines = lines;
+}
 
 -- What is known of a run beside that its trace is legal: these are facts of the types of what was written, and of the
 -- sizes of what was read.
@@ -46,9 +52,11 @@ pub record IsOfTypes (i : Input) (h : History) (lines : List TraceLine) : Type 0
   pub moments : EachEvent RelayFits h
 
 pub record IsAudited (i : Input) (h : History) (lines : List TraceLine) : Type 0 where
-  pub read : AreReadAs (tree_of i) (journal_text h) (trace_text lines) (λ q. capture_text (flat (basis_of i) h q)) (files_of i h lines)
+  pub read : AreReadAs (tree_of i) (journal_text h) (trace_text lines) (λ q. capture_text (flat (basis_of i) h q))
+      (files_of i h lines)
   pub legal : judged (files_of i h lines) ≡ None
 
 -- The texts that a run writes are in their grammars, and what is read back from them is judged legal.
 abbrev pub RunsAreAudited : Type 0
-RunsAreAudited = (i : Input) (h : History) (lines : List TraceLine) → IsLegal (files_of i h lines) → IsOfTypes i h lines → IsAudited i h lines
+RunsAreAudited = (i : Input) (h : History) (lines : List TraceLine) → IsLegal (files_of i h lines) → IsOfTypes i h lines
+    → IsAudited i h lines

@@ -39,7 +39,8 @@ NamesNone _ _ = Unit {0}
 
 abbrev pub IsNamedBy : List ℕ → List ℕ → Option RecordName → Type 0
 IsNamedBy at index None = NamesNone (port_in at) (number_in index)
-IsNamedBy at index (Some named) = (port_in at ≡ Some named.port) × (number_in index ≡ Some named.index) × (named.port < 4160)
+IsNamedBy at index (Some named) = (port_in at ≡ Some named.port) × (number_in index ≡ Some named.index)
+    × (named.port < 4160)
 
 -- the entry names that record
 abbrev pub Names : Option Entry → ℕ → ℕ → Type 0
@@ -63,8 +64,10 @@ way_in text =
     else None
 
 abbrev pub passing_by_words : List ℕ → ℕ → ℕ → List ℕ → Option TraceLine
-passing_by_words way n k hex = option_and_then (Rattle.exb_trace_spec.specs.TraceTexts.passing_by way n k) (bytes_in hex)
+passing_by_words way n k hex = option_and_then (Rattle.exb_trace_spec.specs.TraceTexts.passing_by way n k)
+    (bytes_in hex)
 
 -- the line of four words
 abbrev pub passing_words : List ℕ → List ℕ → List ℕ → List ℕ → Option TraceLine
-passing_words way device side hex = option_and_then (λ n. option_and_then (λ k. passing_by_words way n k hex) (side_in n side)) (device_in device)
+passing_words way device side hex = option_and_then (λ n. option_and_then (λ k. passing_by_words way n k hex)
+    (side_in n side)) (device_in device)

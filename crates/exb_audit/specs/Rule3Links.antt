@@ -26,7 +26,8 @@ some_or (Some n) o = Some n
 abbrev pub noted : List ℕ → ℕ → List ℕ → Option ℕ
 noted f n g = if bytes_eq f g then Some n else None
 
--- of each control word the data words before its first sending, the data words that went out, and how many of them came in
+-- of each control word the data words before its first sending, the data words that went out, and how many of them came
+-- in
 pub record IsLink (known : List ℕ → Option ℕ) (sent : List (List ℕ)) (came : ℕ) (x : Link) : Type 0 where
   pub known_first : (f : List ℕ) → known f ≡ before_first f x.controls
   pub gone : x.gone ≡ length sent

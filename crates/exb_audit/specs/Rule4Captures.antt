@@ -35,11 +35,13 @@ IsNowhere t comes_in l = (q : ℕ) → is_external t q ≡ true → passing_at c
 
 -- each external port has its frames
 abbrev pub AreAll : Bool → Shape → List PortFrames → List TraceLine → Type 0
-AreAll comes_in t all lines = (p : ℕ) → is_external t p ≡ true → flat_map (passing_at comes_in p) lines ≡ frames_by all p
+AreAll comes_in t all lines = (p : ℕ) → is_external t p ≡ true → flat_map (passing_at comes_in p) lines
+    ≡ frames_by all p
 
 -- each has as many of them as are counted
 abbrev pub AreSoFar : Bool → Shape → List PortFrames → List TraceLine → List ℕ → Type 0
-AreSoFar comes_in t all lines counts = (p : ℕ) → is_external t p ≡ true → IsSoFar (passing_at comes_in p) lines (frames_by all p) (slice_index counts p)
+AreSoFar comes_in t all lines counts = (p : ℕ) → is_external t p ≡ true
+    → IsSoFar (passing_at comes_in p) lines (frames_by all p) (slice_index counts p)
 
 abbrev pub AreCounted : Shape → List PortFrames → List ℕ → Type 0
 AreCounted t all counts = (p : ℕ) → is_external t p ≡ true → slice_index counts p ≡ length (frames_by all p)

@@ -37,7 +37,8 @@ IsFirstEntry lines (Some i) = EntersAt lines i
 
 -- by port of the bridge how many data frames it sent there, at most two
 abbrev pub AreCounts : Shape → List TraceLine → List ℕ → Type 0
-AreCounts t lines counts = (k : ℕ) → (slice_index counts k ≤ 2) × (k < 256 → length (sent t k lines) ≡ slice_index counts k)
+AreCounts t lines counts = (k : ℕ) → (slice_index counts k ≤ 2)
+    × (k < 256 → length (sent t k lines) ≡ slice_index counts k)
 
 -- a frame that goes out does so at a side below 256
 abbrev pub HasLowSide : TraceLine → Type 0
@@ -46,13 +47,16 @@ HasLowSide _ = Unit {0}
 
 -- what comes to the bridge is told of, and nothing else is relayed
 abbrev pub is_told : Shape → (ℕ → List (List ℕ)) → TraceLine → List TraceLine → Bool
-is_told t captures first rest = if is_arrival t first then enters t captures first (entries rest) else says_none (relays rest)
+is_told t captures first rest = if is_arrival t first then enters t captures first (entries rest) else says_none
+    (relays rest)
 
 -- each step is right
 abbrev pub each_is_right : Shape → (ℕ → List (List ℕ)) → List TraceLine → Bool
 each_is_right t captures [] = true
-each_is_right t captures (l ∷ ls) = (if begins l then is_step t captures l (until_next ls) else true) && each_is_right t captures ls
+each_is_right t captures (l ∷ ls) = (if begins l then is_step t captures l (until_next ls) else true)
+    && each_is_right t captures ls
 
 -- and what stands before the first
 abbrev pub are_right : Shape → (ℕ → List (List ℕ)) → List TraceLine → Bool
-are_right t captures lines = (says_none (relays (until_next lines)) && sends_by_relay t (until_next lines)) && each_is_right t captures lines
+are_right t captures lines = (says_none (relays (until_next lines)) && sends_by_relay t (until_next lines))
+    && each_is_right t captures lines

@@ -17,7 +17,8 @@ pub struct PortFrames {
 /// Notes a place, from 1, where none is noted yet.
 fn note(table: &mut [usize], port: PortId, place: usize)
     requires { length table.old ≡ 4160 }
-    ensures set { table.new ≡ (if slice_index table.old port == 0 then slice_set table.old port place else table.old) }
+    ensures set { table.new ≡ (if slice_index table.old port == 0 then slice_set table.old port
+        place else table.old) }
     ensures low { port < 4160 }
 {
     let at = port.number() as usize;
@@ -46,7 +47,8 @@ pub(crate) fn table_of(alloc: Global, all: &[PortFrames]) -> Result<Vec<usize>, 
     Ok(table)
 }
 
-/// The frames of a port: of a port that is named twice those that stand first, and none of one that isn't named.
+/// The frames of a port: of a port that is named twice those that stand first, and none of one that
+/// isn't named.
 pub(crate) fn frames_at<'a>(all: &'a [PortFrames], table: &[usize], port: PortId) -> &'a [Bytes]
     requires { IsTable all.now table.now }
     ensures { result.now ≡ frames_by all.now port }

@@ -116,7 +116,8 @@ fn named_by(at: &[u8], index: &[u8]) -> Option<RecordName>
     Some(RecordName { port, index })
 }
 
-/// The record that a line of a journal names; none where it names none, or one of a number that no record has.
+/// The record that a line of a journal names; none where it names none, or one of a number that no
+/// record has.
 pub(crate) fn record_in(line: &[u8]) -> Option<RecordName>
     ensures { IsNamed line.now result }
 {

@@ -35,7 +35,8 @@ pub enum Judged {
     Broken { rule: u8 },
 }
 
-/// That frames are of ports, and fewer than 64 bits count, as a fact for whoever calls it. It does nothing.
+/// That frames are of ports, and fewer than 64 bits count, as a fact for whoever calls it. It does
+/// nothing.
 fn are_frames(all: &[PortFrames])
     ensures { AreFrames (frames_by all.now) }
 {
@@ -52,7 +53,8 @@ fn is_entered(
     captures: &[PortFrames],
     trace: &[TraceLine],
 ) -> Result<bool, NoMemory>
-    ensures { IfOk result (λ good. Decides good (AreSteps tree.now (frames_by captures.now) trace.now)) }
+    ensures { IfOk result (λ good.
+        Decides good (AreSteps tree.now (frames_by captures.now) trace.now)) }
 {
     rule_5_is_decided();
     are_frames(captures);
@@ -72,7 +74,9 @@ fn is_captured(
     outputs: &[PortFrames],
     trace: &[TraceLine],
 ) -> Result<bool, NoMemory>
-    ensures { IfOk result (λ good. Decides good (IsCaptured tree.now (frames_by captures.now) (frames_by outputs.now) trace.now)) }
+    ensures { IfOk result (λ good.
+        Decides good (IsCaptured tree.now (frames_by captures.now) (frames_by outputs.now)
+        trace.now)) }
 {
     if !are_captured(alloc, tree, captures, trace, true)? {
         return Ok(false);
@@ -95,7 +99,8 @@ fn judge_rest(
     requires sized { length hanging.now ≡ 65 }
     requires few { (n : ℕ) → slice_index ports.now n ≤ 64 }
     requires places { Each (NamesPlace tree.now) trace.now }
-    ensures { IfOk result (λ judged. FindsRest tree.now (frames_by captures.now) (frames_by outputs.now) trace.now judged) }
+    ensures { IfOk result (λ judged. FindsRest tree.now (frames_by captures.now)
+        (frames_by outputs.now) trace.now judged) }
 {
     tree.is_tree();
     if !follow_machines(alloc, ports, trace)? {
@@ -113,8 +118,8 @@ fn judge_rest(
     Ok(Judged::Legal)
 }
 
-/// Whether a trace is legal, and else the lowest rule that doesn't hold, by the setup, the frames of captures and output files, and
-/// the lines of journal and trace alone.
+/// Whether a trace is legal, and else the lowest rule that doesn't hold, by the setup, the frames
+/// of captures and output files, and the lines of journal and trace alone.
 pub fn judge(
     alloc: Global,
     setup: &Setup,
@@ -124,8 +129,10 @@ pub fn judge(
     outputs: &[PortFrames],
 ) -> Result<Judged, NoMemory>
     requires { IsValid setup.now }
-    ensures legal { IfOk result (λ judged. (judged ≡ Judged.Legal) ↔ IsLegal (files_by setup.now captures.now journal.now trace.now outputs.now)) }
-    ensures broken { IfOk result (λ judged. (r : ℕ) → judged ≡ Judged.Broken r → IsLowestBroken (files_by setup.now captures.now journal.now trace.now outputs.now) r) }
+    ensures legal { IfOk result (λ judged. (judged ≡ Judged.Legal)
+        ↔ IsLegal (files_by setup.now captures.now journal.now trace.now outputs.now)) }
+    ensures broken { IfOk result (λ judged. (r : ℕ) → judged ≡ Judged.Broken r
+        → IsLowestBroken (files_by setup.now captures.now journal.now trace.now outputs.now) r) }
     ensures few { IfOk result (λ judged. (r : ℕ) → judged ≡ Judged.Broken r → (1 ≤ r) × (r ≤ 5)) }
 {
     let ports = setup.port_counts();

@@ -6,12 +6,14 @@ use exb_capture::laws::written_is_read;
 use exb_trace_spec::checker_laws::all_are_judged;
 use exb_trace_spec::laws::{journals_are_lines, legal_lines_are_spelled, traces_read_back};
 
-/// Each frame that the one bridge sends can be written into a capture, where the moments of its history can be.
+/// Each frame that the one bridge sends can be written into a capture, where the moments of its
+/// history can be.
 pub fn flat_can_be_written()
     ensures { FlatCanBeWritten }
 {}
 
-/// The texts that a run wrote are in their grammars, and what is read back from them is judged legal.
+/// The texts that a run wrote are in their grammars, and what is read back from them is judged
+/// legal.
 pub fn runs_are_audited()
     ensures { RunsAreAudited }
 {

@@ -1,7 +1,8 @@
 //! An audit: the files of a run are read and judged by the rules of a legal trace alone.
 //!
-//! `read_line` reads a line of a trace, and `judge` decides the five rules over lines that are read; each rule has a module. Of the
-//! switch they use no code but the extender's machine, which rule 2 names, and what tells an E-TAG.
+//! `read_line` reads a line of a trace, and `judge` decides the five rules over lines that are
+//! read; each rule has a module. Of the switch they use no code but the extender's machine, which
+//! rule 2 names, and what tells an E-TAG.
 #![tactic(auto)]
 
 pub mod facts;

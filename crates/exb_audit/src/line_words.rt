@@ -10,7 +10,8 @@ ghost use Rattle.exb_audit.specs.LineWords.{TellsNumber};
 
 /// What stands before the first such byte, and what stands behind it if there is one.
 pub(crate) fn cut(byte: u8, text: &[u8]) -> (&[u8], Option<&[u8]>)
-    ensures { slice_split (λ x. x == byte) text.now ≡ result.0.now ∷ option_map_or (λ rest. slice_split (λ x. x == byte) rest.now) result.1 [] }
+    ensures { slice_split (λ x. x == byte) text.now ≡ result.0.now ∷ option_map_or (λ rest.
+        slice_split (λ x. x == byte) rest.now) result.1 [] }
 {
     for (i, c) in text.iter().enumerate() {
         if *c == byte {
@@ -23,7 +24,8 @@ pub(crate) fn cut(byte: u8, text: &[u8]) -> (&[u8], Option<&[u8]>)
 /// The first word of a line, and what stands behind the space after it.
 #[tactic(auto, unfolding(exb_trace_spec::specs::TextFields::words_in))]
 pub(crate) fn first_word(line: &[u8]) -> (&[u8], Option<&[u8]>)
-    ensures { words_in line.now ≡ result.0.now ∷ option_map_or (λ rest. words_in rest.now) result.1 [] }
+    ensures { words_in line.now ≡ result.0.now ∷ option_map_or (λ rest. words_in rest.now) result.1
+        [] }
 {
     cut(b' ', line)
 }

@@ -52,12 +52,17 @@ fn is_place(ports: &[u8], who: u8, side: u8) -> bool
     count > 0 && side <= count
 }
 
-/// How many lines of the journal stand up to this line, where so many stand before it; none where the line may not stand there.
+/// How many lines of the journal stand up to this line, where so many stand before it; none where
+/// the line may not stand there.
 fn told(ports: &[u8], journal: &[Bytes], line: &TraceLine, count: usize) -> Option<usize>
     requires { count ≤ length journal.now }
-    ensures some { IfSome result (λ next. (t : Shape) → t.ports ≡ ports.now → (before : List Line) → IsToldSoFar t journal.now before count → IsToldSoFar t journal.now (before ++ line.now ∷ []) next) }
+    ensures some { IfSome result (λ next. (t : Shape) → t.ports ≡ ports.now → (before : List Line)
+        → IsToldSoFar t journal.now before count
+        → IsToldSoFar t journal.now (before ++ line.now ∷ []) next) }
     ensures low { IfSome result (λ next. next ≤ length journal.now) }
-    ensures none { IfNone result ((t : Shape) → t.ports ≡ ports.now → (before after : List Line) → IsToldSoFar t journal.now before count → HasPlaces t journal.now (before ++ line.now ∷ after) → ⊥) }
+    ensures none { IfNone result ((t : Shape) → t.ports ≡ ports.now → (before after : List Line)
+        → IsToldSoFar t journal.now before count
+        → HasPlaces t journal.now (before ++ line.now ∷ after) → ⊥) }
 {
     match line.way {
         TraceWay::In | TraceWay::Out => {
@@ -80,7 +85,8 @@ fn told(ports: &[u8], journal: &[Bytes], line: &TraceLine, count: usize) -> Opti
 
 /// Whether the trace has the journal's lines, in order, and each line names a place that is there.
 pub(crate) fn has_places(ports: &[u8], journal: &[Bytes], trace: &[TraceLine]) -> bool
-    ensures { (t : Shape) → t.ports ≡ ports.now → Decides result (HasPlaces t journal.now trace.now) }
+    ensures { (t : Shape) → t.ports ≡ ports.now
+        → Decides result (HasPlaces t journal.now trace.now) }
 {
     let mut count = 0;
     for line in trace {

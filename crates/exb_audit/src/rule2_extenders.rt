@@ -20,7 +20,8 @@ use exb_model::trace::{TraceLine, TraceWay};
 use exb_trace_spec::checker_laws::rule_2_is_decided;
 use std::alloc::Global;
 
-/// An extender that is watched: what came last, what it sends for it, and how much of that went out.
+/// An extender that is watched: what came last, what it sends for it, and how much of that went
+/// out.
 #[derive(Drop)]
 pub(crate) struct Watcher {
     extender: Extender,
@@ -127,9 +128,11 @@ fn is_only(frame: &[u8], place: usize, bytes: &[u8]) -> bool
     frame == bytes
 }
 
-/// Whether it is the control frame of the extender's own at a place, from 0: of the two those that aren't empty.
+/// Whether it is the control frame of the extender's own at a place, from 0: of the two those that
+/// aren't empty.
 fn is_own(sends: &Sends, place: usize, side: u8, bytes: &[u8]) -> bool
-    ensures value { result ≡ is_first side bytes.now (drop place (own_sent sends.now.first.items ++ own_sent sends.now.second.items)) }
+    ensures value { result ≡ is_first side bytes.now
+        (drop place (own_sent sends.now.first.items ++ own_sent sends.now.second.items)) }
     ensures within { result ≡ true → place ≤ 1 }
 {
     let first = sends.first.as_slice();
@@ -199,8 +202,10 @@ impl Watcher {
     /// A frame comes in at a side.
     fn take(&mut self, side: u8, frame: &[u8]) -> Result<(), NoMemory>
         requires { (ports : ℕ) × (HasPorts ports self.old × (side ≤ ports)) }
-        ensures watch { OnOk result (watch_of self.new ≡ given (Arrives (side_of side) frame.now) (watch_of self.old)) }
-        ensures ports { OnOk result ((ports : ℕ) → HasPorts ports self.old → HasPorts ports self.new) }
+        ensures watch { OnOk result (watch_of self.new ≡ given (Arrives (side_of side) frame.now)
+            (watch_of self.old)) }
+        ensures ports { OnOk result ((ports : ℕ) → HasPorts ports self.old
+            → HasPorts ports self.new) }
     {
         self.frame.clear();
         self.frame.extend_from_slice(frame)?;
@@ -226,7 +231,8 @@ impl Watcher {
     /// A frame goes out at a side; false exactly where it isn't the next that it sends.
     fn send(&mut self, side: u8, frame: &[u8]) -> bool
         ensures right { result ≡ is_first side frame.now (watch_of self.old).owed }
-        ensures watch { result ≡ true → watch_of self.new ≡ record (watch_of self.old) { owed = without_first (watch_of self.old).owed } }
+        ensures watch { result ≡ true → watch_of self.new
+            ≡ record (watch_of self.old) { owed = without_first (watch_of self.old).owed } }
         ensures ports { (ports : ℕ) → HasPorts ports self.old → HasPorts ports self.new }
     {
         if !is_sent(&self.sends, self.frame.as_slice(), self.gone, side, frame) {
@@ -240,8 +246,10 @@ impl Watcher {
     fn follow(&mut self, number: u8, line: &TraceLine) -> Result<bool, NoMemory>
         requires { (ports : ℕ) × (HasPorts ports self.old × IsSideOf number ports line.now) }
         ensures right { IfOk result (λ good. good ≡ may_stand number (watch_of self.old) line.now) }
-        ensures watch { IfOk result (λ good. good ≡ true → watch_of self.new ≡ watched number (watch_of self.old) line.now) }
-        ensures ports { OnOk result ((ports : ℕ) → HasPorts ports self.old → HasPorts ports self.new) }
+        ensures watch { IfOk result (λ good. good ≡ true → watch_of self.new
+            ≡ watched number (watch_of self.old) line.now) }
+        ensures ports { OnOk result ((ports : ℕ) → HasPorts ports self.old
+            → HasPorts ports self.new) }
     {
         match line.way {
             TraceWay::In => {
@@ -275,7 +283,8 @@ impl Watcher {
 /// Goes through the lines with a watcher at power-on.
 fn follow_all(watcher: &mut Watcher, number: u8, trace: &[TraceLine]) -> Result<bool, NoMemory>
     requires { (ports : ℕ) × (HasPorts ports watcher.old × All (IsSideOf number ports) trace.now) }
-    ensures { IfOk result (λ good. good ≡ is_done (through (watch_line number) (Some (watch_of watcher.old)) trace.now)) }
+    ensures { IfOk result (λ good. good
+        ≡ is_done (through (watch_line number) (Some (watch_of watcher.old)) trace.now)) }
 {
     for line in trace {
         if !watcher.follow(number, line)? {
@@ -301,8 +310,10 @@ fn follows_if(alloc: Global, number: u8, ports: u8, trace: &[TraceLine]) -> Resu
     requires numbered { (1 ≤ number) × (number ≤ 64) }
     requires ports { ports ≤ 64 }
     requires sides { All (IsSideOf number ports) trace.now }
-    ensures yes { IfOk result (λ good. good ≡ true → 0 < ports → done_at number ports trace.now ≡ true) }
-    ensures no { IfOk result (λ good. good ≡ false → (0 < ports) × (done_at number ports trace.now ≡ false)) }
+    ensures yes { IfOk result (λ good. good ≡ true → 0 < ports → done_at number ports trace.now
+        ≡ true) }
+    ensures no { IfOk result (λ good. good ≡ false → (0 < ports)
+        × (done_at number ports trace.now ≡ false)) }
 {
     if ports == 0 {
         return Ok(true);
@@ -319,7 +330,8 @@ pub(crate) fn follow_machines(
     requires sized { length ports.now ≡ 65 }
     requires few { (n : ℕ) → slice_index ports.now n ≤ 64 }
     requires places { (t : Shape) × ((t.ports ≡ ports.now) × Each (NamesPlace t) trace.now) }
-    ensures { IfOk result (λ good. (t : Shape) → t.ports ≡ ports.now → Decides good (FollowMachines t trace.now)) }
+    ensures { IfOk result (λ good. (t : Shape) → t.ports ≡ ports.now
+        → Decides good (FollowMachines t trace.now)) }
 {
     rule_2_is_decided();
     for number in 1..DEVICES {

@@ -39,7 +39,8 @@ fn note<'a>(
     frame: &'a [u8],
     count: usize,
 ) -> Result<(), NoMemory>
-    ensures { OnOk result ((g : List ℕ) → before_in before.new g ≡ some_or (before_in before.old g) (noted frame.now count g)) }
+    ensures { OnOk result ((g : List ℕ) → before_in before.new g
+        ≡ some_or (before_in before.old g) (noted frame.now count g)) }
 {
     if before.contains_key(frame) {
         return Ok(());
@@ -69,7 +70,8 @@ impl<'a> LinkDirection<'a> {
 
     /// A word goes out.
     fn put(&mut self, frame: &'a [u8]) -> Result<(), NoMemory>
-        ensures { OnOk result ((x : Link) → IsDirection self.old x → IsDirection self.new (goes_out (frame.now ∷ []) x)) }
+        ensures { OnOk result ((x : Link) → IsDirection self.old x
+            → IsDirection self.new (goes_out (frame.now ∷ []) x)) }
     {
         if is_control_frame(frame) {
             return note(&mut self.before, frame, self.sent.len());
@@ -90,7 +92,8 @@ impl<'a> LinkDirection<'a> {
         sent[self.came] == frame
     }
 
-    /// Whether a control word may come in: it went out, and the data words that went out before it first did came in.
+    /// Whether a control word may come in: it went out, and the data words that went out before it
+    /// first did came in.
     fn may_come(&self, frame: &[u8]) -> bool
         ensures { result ≡ some_within self.now.came (before_in self.now.before frame.now) }
     {
@@ -102,8 +105,10 @@ impl<'a> LinkDirection<'a> {
 
     /// A word comes in; false exactly where it may not.
     fn take(&mut self, frame: &[u8]) -> bool
-        ensures yes { result ≡ true → (x : Link) → IsDirection self.old x → IsDirection self.new (comes_in (frame.now ∷ []) x) }
-        ensures no { result ≡ false → (x : Link) → IsDirection self.old x → (comes_in (frame.now ∷ []) x).waiting ≡ None }
+        ensures yes { result ≡ true → (x : Link) → IsDirection self.old x
+            → IsDirection self.new (comes_in (frame.now ∷ []) x) }
+        ensures no { result ≡ false → (x : Link) → IsDirection self.old x
+            → (comes_in (frame.now ∷ []) x).waiting ≡ None }
     {
         if is_control_frame(frame) {
             return self.may_come(frame);
@@ -122,8 +127,10 @@ impl<'a> LinkDirection<'a> {
         to: &DeviceSide,
         line: &'a TraceLine,
     ) -> Result<bool, NoMemory>
-        ensures yes { IfOk result (λ good. good ≡ true → (x : Link) → IsDirection self.old x → IsDirection self.new (link_line (place_in from.now) (place_in to.now) x line.now)) }
-        ensures no { IfOk result (λ good. good ≡ false → (x : Link) → IsDirection self.old x → (link_line (place_in from.now) (place_in to.now) x line.now).waiting ≡ None) }
+        ensures yes { IfOk result (λ good. good ≡ true → (x : Link) → IsDirection self.old x
+            → IsDirection self.new (link_line (place_in from.now) (place_in to.now) x line.now)) }
+        ensures no { IfOk result (λ good. good ≡ false → (x : Link) → IsDirection self.old x
+            → (link_line (place_in from.now) (place_in to.now) x line.now).waiting ≡ None) }
     {
         match line.way {
             TraceWay::In => {
@@ -159,7 +166,9 @@ fn carry_all<'a>(
     trace: &'a [TraceLine],
 ) -> Result<bool, NoMemory>
     requires { IsDirection direction.old new_link }
-    ensures { IfOk result (λ good. good ≡ is_used_up (through (link_line (place_in from.now) (place_in to.now)) new_link trace.now).waiting) }
+    ensures { IfOk result (λ good. good
+        ≡ is_used_up (through (link_line (place_in from.now) (place_in to.now)) new_link
+        trace.now).waiting) }
 {
     for line in trace {
         if !direction.follow(from, to, line)? {
@@ -169,14 +178,17 @@ fn carry_all<'a>(
     Ok(direction.is_empty())
 }
 
-/// Whether the words from one place to another come in as they may, and no data word is still to come at the end.
+/// Whether the words from one place to another come in as they may, and no data word is still to
+/// come at the end.
 fn carries(
     alloc: Global,
     from: &DeviceSide,
     to: &DeviceSide,
     trace: &[TraceLine],
 ) -> Result<bool, NoMemory>
-    ensures { IfOk result (λ good. good ≡ is_used_up (through (link_line (place_in from.now) (place_in to.now)) new_link trace.now).waiting) }
+    ensures { IfOk result (λ good. good
+        ≡ is_used_up (through (link_line (place_in from.now) (place_in to.now)) new_link
+        trace.now).waiting) }
 {
     let mut direction = LinkDirection::new(alloc);
     carry_all(&mut direction, from, to, trace)
@@ -210,8 +222,10 @@ fn carries_if(
     port: PortId,
     trace: &[TraceLine],
 ) -> Result<bool, NoMemory>
-    ensures yes { IfOk result (λ good. good ≡ true → 0 < ports → both_used_up number port trace.now ≡ true) }
-    ensures no { IfOk result (λ good. good ≡ false → (0 < ports) × (both_used_up number port trace.now ≡ false)) }
+    ensures yes { IfOk result (λ good. good ≡ true → 0 < ports → both_used_up number port trace.now
+        ≡ true) }
+    ensures no { IfOk result (λ good. good ≡ false → (0 < ports)
+        × (both_used_up number port trace.now ≡ false)) }
 {
     if ports == 0 {
         return Ok(true);
@@ -228,7 +242,8 @@ pub(crate) fn keep_links(
 ) -> Result<bool, NoMemory>
     requires ports { length ports.now ≡ 65 }
     requires hanging { length hanging.now ≡ 65 }
-    ensures { IfOk result (λ good. (t : Shape) → t.ports ≡ ports.now → t.on ≡ hanging.now → Decides good (KeepsLinks t trace.now)) }
+    ensures { IfOk result (λ good. (t : Shape) → t.ports ≡ ports.now → t.on ≡ hanging.now
+        → Decides good (KeepsLinks t trace.now)) }
 {
     rule_3_is_decided();
     for number in 1..DEVICES {

@@ -63,7 +63,8 @@ pub(crate) fn stands_at(frames: &[Bytes], place: usize, frame: &[u8]) -> bool
     next.as_slice() == frame
 }
 
-/// Counts a line, if it is a frame that goes that way at an external port; false exactly where it isn't the next frame of that port.
+/// Counts a line, if it is a frame that goes that way at an external port; false exactly where it
+/// isn't the next frame of that port.
 fn count(
     tree: &Tree,
     all: &[PortFrames],
@@ -75,8 +76,12 @@ fn count(
     requires table { IsTable all.now table.now }
     requires counts { length counts.old ≡ 4160 }
     ensures length { length counts.new ≡ 4160 }
-    ensures yes { result ≡ true → (before : List Line) → AreSoFar comes_in tree.now all.now before counts.old → AreSoFar comes_in tree.now all.now (before ++ line.now ∷ []) counts.new }
-    ensures no { result ≡ false → (before after : List Line) → AreSoFar comes_in tree.now all.now before counts.old → AreAll comes_in tree.now all.now (before ++ line.now ∷ after) → ⊥ }
+    ensures yes { result ≡ true → (before : List Line)
+        → AreSoFar comes_in tree.now all.now before counts.old
+        → AreSoFar comes_in tree.now all.now (before ++ line.now ∷ []) counts.new }
+    ensures no { result ≡ false → (before after : List Line)
+        → AreSoFar comes_in tree.now all.now before counts.old
+        → AreAll comes_in tree.now all.now (before ++ line.now ∷ after) → ⊥ }
 {
     let Some(port) = external_port(tree, line, comes_in) else {
         return true;
@@ -101,7 +106,8 @@ fn is_whole(
 ) -> bool
     requires table { IsTable all.now table.now }
     requires counts { length counts.now ≡ 4160 }
-    ensures { IsTrue result ↔ (is_external tree.now port ≡ true → slice_index counts.now port ≡ length (frames_by all.now port)) }
+    ensures { IsTrue result ↔ (is_external tree.now port ≡ true → slice_index counts.now port
+        ≡ length (frames_by all.now port)) }
 {
     if !tree.is_external(port) {
         return true;

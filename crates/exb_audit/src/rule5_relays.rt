@@ -1,4 +1,5 @@
-//! Rule 5: what the journal says of each frame that comes to the bridge, and what the bridge sends for it.
+//! Rule 5: what the journal says of each frame that comes to the bridge, and what the bridge sends
+//! for it.
 ghost use Rattle.std.specs.Prelude.{◌≡◌, ◌-◌, ◌<◌, ◌&&◌, ◌∷◌, ◌++◌, ℕ, [], List, true, false, length, slice_index, is_some, option_map, if◌then◌else◌};
 ghost use Rattle.std.specs.List.{list_all};
 ghost use Rattle.std.specs.Str.{bytes_eq};
@@ -86,7 +87,8 @@ fn is_local(tree: &Tree, side: u8) -> bool
     tree.is_external(PortId::new(number).unwrap())
 }
 
-/// Whether a frame at a side of the bridge is data: at a local port it is, whatever its destination.
+/// Whether a frame at a side of the bridge is data: at a local port it is, whatever its
+/// destination.
 fn is_data(tree: &Tree, side: u8, frame: &[u8]) -> bool
     ensures { result ≡ is_data_at tree.now side frame.now }
 {
@@ -165,7 +167,8 @@ fn holds(tree: &Tree, side: u8, frame: &[u8], bare: &[u8]) -> bool
 fn record_at<'a>(captures: &CaptureTable<'a>, named: &RecordName) -> Option<&'a [u8]>
     requires table { IsTable captures.now.all.now captures.now.table.now }
     requires port { named.now.port < 4160 }
-    ensures { option_map (λ f. f.now) result ≡ numbered (frames_by captures.now.all.now named.now.port) named.now.index }
+    ensures { option_map (λ f. f.now) result
+        ≡ numbered (frames_by captures.now.all.now named.now.port) named.now.index }
 {
     let port = PortId::new(named.port)?;
     let frames = frames_at(captures.all, captures.table, port);
@@ -175,7 +178,8 @@ fn record_at<'a>(captures: &CaptureTable<'a>, named: &RecordName) -> Option<&'a 
     Some(frames[named.index as usize - 1].as_slice())
 }
 
-/// Whether a record of a port may be named by what comes in at a side of the bridge: at a local port it is one of that port.
+/// Whether a record of a port may be named by what comes in at a side of the bridge: at a local
+/// port it is one of that port.
 fn is_here(tree: &Tree, side: u8, port: u16) -> bool
     ensures { result ≡ is_here tree.now side port }
 {
@@ -185,10 +189,13 @@ fn is_here(tree: &Tree, side: u8, port: u16) -> bool
     port == u16::from(side.saturating_sub(1))
 }
 
-/// Whether a line of the journal names the record of a frame that comes to the bridge: at a local port one of that port.
+/// Whether a line of the journal names the record of a frame that comes to the bridge: at a local
+/// port one of that port.
 fn names(tree: &Tree, captures: &CaptureTable, side: u8, frame: &[u8], text: &[u8]) -> bool
     requires { IsTable captures.now.all.now captures.now.table.now }
-    ensures { AreFew (frames_by captures.now.all.now) → result ≡ is_entered tree.now (frames_by captures.now.all.now) side frame.now (text.now ∷ []) }
+    ensures { AreFew (frames_by captures.now.all.now)
+        → result ≡ is_entered tree.now (frames_by captures.now.all.now) side frame.now
+        (text.now ∷ []) }
 {
     let Some(named) = record_in(text) else {
         return false;
@@ -202,7 +209,8 @@ fn names(tree: &Tree, captures: &CaptureTable, side: u8, frame: &[u8], text: &[u
     }
 }
 
-/// Whether exactly one line says what became of a frame that comes to the bridge, and names its record.
+/// Whether exactly one line says what became of a frame that comes to the bridge, and names its
+/// record.
 fn is_entered(
     tree: &Tree,
     captures: &CaptureTable,
@@ -211,7 +219,9 @@ fn is_entered(
     rest: &[TraceLine],
 ) -> bool
     requires { IsTable captures.now.all.now captures.now.table.now }
-    ensures { AreFew (frames_by captures.now.all.now) → result ≡ is_entered tree.now (frames_by captures.now.all.now) side frame.now (entries rest.now) }
+    ensures { AreFew (frames_by captures.now.all.now)
+        → result ≡ is_entered tree.now (frames_by captures.now.all.now) side frame.now
+        (entries rest.now) }
 {
     let Some(i) = first_entry(rest) else {
         return false;
@@ -228,8 +238,10 @@ fn count(tree: &Tree, line: &TraceLine, counts: &mut [u8]) -> bool
     requires { length counts.old ≡ 256 }
     ensures length { length counts.new ≡ 256 }
     ensures low { HasLowSide line.now }
-    ensures yes { result ≡ true → (before : List Line) → AreCounts tree.now before counts.old → AreCounts tree.now (before ++ line.now ∷ []) counts.new }
-    ensures no { result ≡ false → (before after : List Line) → AreCounts tree.now before counts.old → few_at tree.now (before ++ line.now ∷ after) line.now ≡ false }
+    ensures yes { result ≡ true → (before : List Line) → AreCounts tree.now before counts.old
+        → AreCounts tree.now (before ++ line.now ∷ []) counts.new }
+    ensures no { result ≡ false → (before after : List Line) → AreCounts tree.now before counts.old
+        → few_at tree.now (before ++ line.now ∷ after) line.now ≡ false }
 {
     let at = line.side as usize;
     if !is_sending(tree, line) {
@@ -264,10 +276,12 @@ fn count_all(tree: &Tree, lines: &[TraceLine], counts: &mut [u8]) -> bool
     true
 }
 
-/// Whether lines are those of a step: what comes to the bridge is told of, and the bridge sends data for no others.
+/// Whether lines are those of a step: what comes to the bridge is told of, and the bridge sends
+/// data for no others.
 fn is_step(tree: &Tree, captures: &CaptureTable, first: &TraceLine, rest: &[TraceLine]) -> bool
     requires { IsTable captures.now.all.now captures.now.table.now }
-    ensures { AreFew (frames_by captures.now.all.now) → result ≡ is_step tree.now (frames_by captures.now.all.now) first.now rest.now }
+    ensures { AreFew (frames_by captures.now.all.now)
+        → result ≡ is_step tree.now (frames_by captures.now.all.now) first.now rest.now }
 {
     if !is_told(tree, captures, first, rest) {
         return false;
@@ -281,7 +295,8 @@ fn is_step(tree: &Tree, captures: &CaptureTable, first: &TraceLine, rest: &[Trac
 /// Whether a frame that comes to the bridge is told of, and nothing else is relayed.
 fn is_told(tree: &Tree, captures: &CaptureTable, first: &TraceLine, rest: &[TraceLine]) -> bool
     requires { IsTable captures.now.all.now captures.now.table.now }
-    ensures { AreFew (frames_by captures.now.all.now) → result ≡ is_told tree.now (frames_by captures.now.all.now) first.now rest.now }
+    ensures { AreFew (frames_by captures.now.all.now)
+        → result ≡ is_told tree.now (frames_by captures.now.all.now) first.now rest.now }
 {
     if !is_arrival(tree, first) {
         return has_no_relay(rest);
@@ -314,7 +329,9 @@ fn until_next(lines: &[TraceLine]) -> &[TraceLine]
 /// Whether the step that begins with a line is right, if one does.
 fn is_right(tree: &Tree, captures: &CaptureTable, line: &TraceLine, behind: &[TraceLine]) -> bool
     requires { IsTable captures.now.all.now captures.now.table.now }
-    ensures { AreFew (frames_by captures.now.all.now) → result ≡ (if begins line.now then is_step tree.now (frames_by captures.now.all.now) line.now (until_next behind.now) else true) }
+    ensures { AreFew (frames_by captures.now.all.now)
+        → result ≡ (if begins line.now then is_step tree.now (frames_by captures.now.all.now)
+        line.now (until_next behind.now) else true) }
 {
     if !begins(line) {
         return true;
@@ -325,7 +342,8 @@ fn is_right(tree: &Tree, captures: &CaptureTable, line: &TraceLine, behind: &[Tr
 /// Whether each step is right.
 fn are_steps(tree: &Tree, captures: &CaptureTable, trace: &[TraceLine]) -> bool
     requires { IsTable captures.now.all.now captures.now.table.now }
-    ensures { AreFew (frames_by captures.now.all.now) → result ≡ each_is_right tree.now (frames_by captures.now.all.now) trace.now }
+    ensures { AreFew (frames_by captures.now.all.now)
+        → result ≡ each_is_right tree.now (frames_by captures.now.all.now) trace.now }
 {
     for (i, line) in trace.iter().enumerate() {
         if !is_right(tree, captures, line, &trace[i + 1..]) {
@@ -338,7 +356,8 @@ fn are_steps(tree: &Tree, captures: &CaptureTable, trace: &[TraceLine]) -> bool
 /// Whether each step is right, and what stands before the first is.
 pub(crate) fn all_entered(tree: &Tree, captures: &CaptureTable, trace: &[TraceLine]) -> bool
     requires { IsTable captures.now.all.now captures.now.table.now }
-    ensures { AreFew (frames_by captures.now.all.now) → result ≡ are_right tree.now (frames_by captures.now.all.now) trace.now }
+    ensures { AreFew (frames_by captures.now.all.now)
+        → result ≡ are_right tree.now (frames_by captures.now.all.now) trace.now }
 {
     let before = until_next(trace);
     if !has_no_relay(before) {

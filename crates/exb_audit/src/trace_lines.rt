@@ -108,7 +108,8 @@ fn passing(
     side_word: &[u8],
     hex: &[u8],
 ) -> Result<Option<TraceLine>, NoMemory>
-    ensures { IfOk result (λ read. read ≡ passing_words way_word.now device_word.now side_word.now hex.now) }
+    ensures { IfOk result (λ read. read ≡ passing_words way_word.now device_word.now side_word.now
+        hex.now) }
 {
     let Some(who) = device(device_word) else {
         return Ok(None);
@@ -184,7 +185,8 @@ fn read_journal(alloc: Global, text: &[u8]) -> Result<Option<TraceLine>, NoMemor
     }))
 }
 
-/// The line of a trace of a text without its newline; none exactly where the text isn't such a line.
+/// The line of a trace of a text without its newline; none exactly where the text isn't such a
+/// line.
 #[tactic(auto, unfolding(exb_trace_spec::specs::TraceTexts::read_line))]
 pub fn read_line(alloc: Global, line: &[u8]) -> Result<Option<TraceLine>, NoMemory>
     ensures some { IfOk result (λ read. IfSome read (λ l. read_line line.now ≡ Some l)) }

@@ -49,7 +49,13 @@ pub record Seen : Type 0 where
   pub lines : List TraceLine
 
 abbrev pub evidence_of : Scope → Seen → Evidence
-evidence_of s x = record { tree = s.tree; journal = x.journal; captures = frames_by x.captures; outputs = frames_by x.outputs; lines = x.lines }
+evidence_of s x = record {
+  tree = s.tree;
+  journal = x.journal;
+  captures = frames_by x.captures;
+  outputs = frames_by x.outputs;
+  lines = x.lines;
+}
 
 -- all is there, in its grammar and within its limit
 pub record IsSeen (s : Scope) (file : Files) (x : Seen) : Type 0 where
@@ -94,20 +100,25 @@ lines_fault what name (lines.Bad n) = BadLine what n
 
 -- the first fault of the captures, and so on
 abbrev pub CapturesStop : Scope → Files → Fault → Type 0
-CapturesStop s file fault = (f : FramesFault) × IsFirstFault (records_by Either) file most (capture_files s.captures) f × (fault ≡ captures_fault f)
+CapturesStop s file fault = (f : FramesFault) × IsFirstFault (records_by Either) file most (capture_files s.captures) f
+    × (fault ≡ captures_fault f)
 
 abbrev pub OutputsStop : Scope → Files → Fault → Type 0
-OutputsStop s file fault = (f : FramesFault) × IsFirstFault (records_by Classic) file most (output_files s.tree s.prefix) f × (fault ≡ outputs_fault f)
+OutputsStop s file fault = (f : FramesFault) × IsFirstFault (records_by Classic) file most
+    (output_files s.tree s.prefix) f × (fault ≡ outputs_fault f)
 
 abbrev pub JournalStops : Scope → Files → Fault → Type 0
-JournalStops s file fault = (f : LinesFault) × IsLinesFault entry_in most (file (journal_name s.prefix)) f × (fault ≡ lines_fault part.Journal (journal_name s.prefix) f)
+JournalStops s file fault = (f : LinesFault) × IsLinesFault entry_in most (file (journal_name s.prefix)) f
+    × (fault ≡ lines_fault part.Journal (journal_name s.prefix) f)
 
 abbrev pub TraceStops : Scope → Files → Fault → Type 0
-TraceStops s file fault = (f : LinesFault) × IsLinesFault read_line most (file (trace_name s.prefix)) f × (fault ≡ lines_fault part.Trace (trace_name s.prefix) f)
+TraceStops s file fault = (f : LinesFault) × IsLinesFault read_line most (file (trace_name s.prefix)) f
+    × (fault ≡ lines_fault part.Trace (trace_name s.prefix) f)
 
 -- the lowest rule that doesn't hold
 abbrev pub RulesStop : Scope → Files → Fault → Type 0
-RulesStop s file fault = (x : Seen) × IsSeen s file x × (r : ℕ) × IsLowestBroken (evidence_of s x) r × (fault ≡ Illegal r)
+RulesStop s file fault = (x : Seen) × IsSeen s file x × (r : ℕ) × IsLowestBroken (evidence_of s x) r
+    × (fault ≡ Illegal r)
 
 -- captures, output files and journal are read
 abbrev pub HasCaptures : Scope → Files → Type 0
@@ -119,8 +130,8 @@ HasOutputs s file = (outputs : List PortFrames) × AreOutputs s file outputs
 abbrev pub HasEntries : Scope → Files → Type 0
 HasEntries s file = (journal : List (List ℕ)) × AreEntries s file journal
 
--- This stops the audit, the first in the order in which things are looked at: captures and output files in port order, the journal, the
--- trace, and the rules.
+-- This stops the audit, the first in the order in which things are looked at: captures and output files in port order,
+-- the journal, the trace, and the rules.
 abbrev pub StopsAudit : Scope → Files → Fault → Type 0
 StopsAudit s file fault =
     CapturesStop s file fault

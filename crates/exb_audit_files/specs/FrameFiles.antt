@@ -51,9 +51,10 @@ total file [] = 0
 total file (x ∷ xs) = length (bytes_of (file x.name)) + total file xs
 
 -- all files are read, and together they are within the limit
-pub record AreRead (read : Reading) (file : Files) (limit : ℕ) (xs : List PortFile) (fs : List PortFrames) : Type 0 where
-  pub each : EachIsRead read file xs fs
-  pub within : total file xs ≤ limit
+pub record AreRead (read : Reading) (file : Files) (limit : ℕ) (xs : List PortFile) (fs : List PortFrames) : Type 0
+  where
+    pub each : EachIsRead read file xs fs
+    pub within : total file xs ≤ limit
 
 -- ---- the first fault
 -- a file is there, and has no fault
@@ -67,16 +68,20 @@ pub record IsGood (read : Reading) (file : Files) (x : PortFile) : Type 0 where
 abbrev pub StandsBy : Reading → List ℕ → FormatFault → Type 0
 StandsBy read front fault = (more : List ℕ) → IsBytes more → read (front ++ more) ≡ Err fault
 
--- What is wrong with a file of which so many bytes may be read: it is not there; its first fault, which within these bytes stands whatever
--- follows; or that it is longer, and no fault stands.
+-- What is wrong with a file of which so many bytes may be read: it is not there; its first fault, which within these
+-- bytes stands whatever follows; or that it is longer, and no fault stands.
 abbrev pub IsFlaw : Reading → ℕ → PortFile → Option (List ℕ) → FramesFault → Type 0
 IsFlaw read left x None fault = fault ≡ Missing x.name
-IsFlaw read left x (Some bytes) (Broken port fault) = (port ≡ x.port) × (read bytes ≡ Err fault) × (left < length bytes → StandsBy read (take left bytes) fault)
-IsFlaw read left x (Some bytes) Large = (left < length bytes) × ((fault : FormatFault) → StandsBy read (take left bytes) fault → ⊥)
+IsFlaw read left x (Some bytes) (Broken port fault) = (port ≡ x.port) × (read bytes ≡ Err fault)
+    × (left < length bytes → StandsBy read (take left bytes) fault)
+IsFlaw read left x (Some bytes) Large = (left < length bytes)
+    × ((fault : FormatFault) → StandsBy read (take left bytes) fault → ⊥)
 IsFlaw read left x (Some bytes) _ = ⊥
 
--- the files before one are good and together within the limit, and this is wrong with that one, of which so many bytes may be read as are left
-pub record IsFirstFault (read : Reading) (file : Files) (limit : ℕ) (files : List PortFile) (fault : FramesFault) : Type 0 where
+-- the files before one are good and together within the limit, and this is wrong with that one, of which so many bytes
+-- may be read as are left
+pub record IsFirstFault (read : Reading) (file : Files) (limit : ℕ) (files : List PortFile) (fault : FramesFault) : Type
+    0 where
   pub before : List PortFile
   pub one : PortFile
   pub after : List PortFile

@@ -1,4 +1,5 @@
--- A text that is fed in pieces, and what is kept of it: what its lines are read as, and the last part, which isn't ended yet.
+-- A text that is fed in pieces, and what is kept of it: what its lines are read as, and the last part, which isn't
+-- ended yet.
 use Rattle.std.specs.Prelude.{◌≡◌, ◌==◌, ℕ, Bool, true, false, is_some, if◌then◌else◌, List, [], ◌∷◌, ◌++◌, flat_map, Option, Some, None, All}
 use Rattle.exb_shelf.specs.declared.shelf.OpenFault.{OpenFault}
 use Rattle.exb_shelf.specs.declared.shelf.OpenFault.TheVariants as opening
@@ -24,12 +25,13 @@ abbrev pub IsOneLine : List ℕ → Type 0
 IsOneLine line = All (λ (c : ℕ). (c == 10) ≡ false) line
 
 -- all lines that are ended were read, and this is the last part
-pub record AreCut {A : Type 0} (read : List ℕ → Option A) (text : List ℕ) (lines : List A) (rest : List ℕ) : Type 0 where
-  pub before : List (List ℕ)
-  pub is : text ≡ ended before ++ rest
-  pub each : Each IsOneLine before
-  pub last : IsOneLine rest
-  pub are : all_read read before ≡ Some lines
+pub record AreCut {A : Type 0} (read : List ℕ → Option A) (text : List ℕ) (lines : List A) (rest : List ℕ) : Type 0
+  where
+    pub before : List (List ℕ)
+    pub is : text ≡ ended before ++ rest
+    pub each : Each IsOneLine before
+    pub last : IsOneLine rest
+    pub are : all_read read before ≡ Some lines
 
 -- behind the lines that were read stands one that can't be
 pub record AreBroken {A : Type 0} (read : List ℕ → Option A) (text : List ℕ) (lines : List A) : Type 0 where

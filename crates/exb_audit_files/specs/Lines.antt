@@ -28,15 +28,16 @@ abbrev pub IsTrace : List ℕ → List TraceLine → Type 0
 IsTrace text lines = read_trace text ≡ Some lines
 
 -- a file is there and within the limit, and its text gives these lines
-pub record HoldsLines {A : Type 0} (Gives : List ℕ → List A → Type 0) (limit : ℕ) (file : Option (List ℕ)) (lines : List A) : Type 0 where
+pub record HoldsLines {A : Type 0} (Gives : List ℕ → List A → Type 0) (limit : ℕ) (file : Option (List ℕ))
+    (lines : List A) : Type 0 where
   pub text : List ℕ
   pub there : file ≡ Some text
   pub small : length text ≤ limit
   pub gives : Gives text lines
 
 -- ---- the first line that can't be read
--- a part of a text that was cut at its newlines, before these parts: it is not read as a line, or it is the last part, which has no newline,
--- and not empty
+-- a part of a text that was cut at its newlines, before these parts: it is not read as a line, or it is the last part,
+-- which has no newline, and not empty
 abbrev pub IsBadLine : {A : Type 0} → (List ℕ → Option A) → List ℕ → List (List ℕ) → Type 0
 IsBadLine read line [] = line ≢ []
 IsBadLine read line (next ∷ rest) = read line ≡ None
@@ -55,7 +56,8 @@ pub record FirstBadLine {A : Type 0} (read : List ℕ → Option A) (text : List
 abbrev pub IsLinesFault : {A : Type 0} → (List ℕ → Option A) → ℕ → Option (List ℕ) → LinesFault → Type 0
 IsLinesFault read limit file Missing = file ≡ None
 IsLinesFault read limit file Large = (text : List ℕ) × (file ≡ Some text) × (limit < length text)
-IsLinesFault read limit file (Bad number) = (text : List ℕ) × (file ≡ Some text) × (length text ≤ limit) × FirstBadLine read text number
+IsLinesFault read limit file (Bad number) = (text : List ℕ) × (file ≡ Some text) × (length text ≤ limit)
+    × FirstBadLine read text number
 IsLinesFault read limit file Read = ⊥
 IsLinesFault read limit file Memory = ⊥
 

@@ -32,14 +32,17 @@ pub record AreWithin (s : Scope) (file : Files) : Type 0 where
   pub journal : length (bytes_of (file (journal_name s.prefix))) ≤ most
   pub trace : length (bytes_of (file (trace_name s.prefix))) ≤ most
 
--- These files hold what a run of a topology wrote over a history of the input that they give: the capture of each external port is what the
--- one flat bridge sends there, the journal is that history, and the trace is these lines, which are legal. The frames of lines are bytes,
--- ports are ports and numbers have 64 bits, and moments are such as a capture can hold.
+-- These files hold what a run of a topology wrote over a history of the input that they give: the capture of each
+-- external port is what the one flat bridge sends there, the journal is that history, and the trace is these lines,
+-- which are legal. The frames of lines are bytes, ports are ports and numbers have 64 bits, and moments are such as a
+-- capture can hold.
 pub record IsWritten (t : Topology) (file : Files) (h : History) (lines : List TraceLine) : Type 0 where
-  pub captures : (q : ℕ) → is_external (shape_of t.setup) q ≡ true → file (capture_name t.prefix q) ≡ Some (capture_text (flat (basis_of (input_of t file)) h q))
+  pub captures : (q : ℕ) → is_external (shape_of t.setup) q ≡ true → file (capture_name t.prefix q)
+      ≡ Some (capture_text (flat (basis_of (input_of t file)) h q))
   pub journal : file (journal_name t.prefix) ≡ Some (journal_text h)
   pub trace : file (trace_name t.prefix) ≡ Some (trace_text lines)
-  pub legal : LegalTrace (shape_of t.setup) (journal_of h) (frames_in (input_of t file)) (frames_out (input_of t file) h) lines
+  pub legal : LegalTrace (shape_of t.setup) (journal_of h) (frames_in (input_of t file))
+      (frames_out (input_of t file) h) lines
   pub bytes : All HasBytes lines
   pub numbers : All IsOfNumbers h
   pub moments : EachEvent RelayFits h
@@ -52,5 +55,6 @@ pub record FindsLegal (s : Scope) (file : Files) : Type 0 where
 -- What a run wrote is found legal, where its captures are good and all is within the limits.
 abbrev pub RunsAreFoundLegal : Type 0
 RunsAreFoundLegal =
-    (t : Topology) (file : Files) (h : History) (lines : List TraceLine) → IsTree (shape_of t.setup) → IsSmall (shape_of t.setup) → IsSound t → AreAllGood t.captures file
+    (t : Topology) (file : Files) (h : History) (lines : List TraceLine) → IsTree (shape_of t.setup)
+    → IsSmall (shape_of t.setup) → IsSound t → AreAllGood t.captures file
     → AreWithin (scope_of t) file → IsWritten t file h lines → FindsLegal (scope_of t) file

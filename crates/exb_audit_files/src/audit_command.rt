@@ -64,7 +64,8 @@ fn outputs_fault(fault: FramesFault) -> Fault
 /// What is wrong with a file of lines of this name.
 fn lines_fault(alloc: Global, what: AuditInput, name: &str, fault: LinesFault) -> Fault
     ensures is { (result ≡ lines_fault what name.now fault) ⊎ (result ≡ Fault.Memory) }
-    ensures memory { result ≡ Fault.Memory → (fault ≡ LinesFault.Memory) ⊎ (fault ≡ LinesFault.Missing) }
+    ensures memory { result ≡ Fault.Memory → (fault ≡ LinesFault.Memory)
+        ⊎ (fault ≡ LinesFault.Missing) }
 {
     match fault {
         LinesFault::Memory => Fault::Memory,
@@ -81,10 +82,13 @@ fn read_captures<S: Shelf>(
     shelf: &mut S,
     topology: &Topology,
 ) -> Result<Vec<PortFrames>, Fault>
-    ensures read { S.tells → IfOk result (λ captures. AreCaptures (scope_of topology.now) (S.file shelf.old) captures.items) }
-    ensures stops { S.tells → IfErr result (λ fault. CapturesStop (scope_of topology.now) (S.file shelf.old) fault ⊎ (fault ≡ Fault.Read) ⊎ (fault ≡ Fault.Memory)) }
+    ensures read { S.tells → IfOk result (λ captures. AreCaptures (scope_of topology.now)
+        (S.file shelf.old) captures.items) }
+    ensures stops { S.tells → IfErr result (λ fault. CapturesStop (scope_of topology.now)
+        (S.file shelf.old) fault ⊎ (fault ≡ Fault.Read) ⊎ (fault ≡ Fault.Memory)) }
     ensures causes { IfErr result IsOfAudit }
-    ensures opened { Opens (ReadsOneOf (capture_files topology.now.captures)) (S.ids shelf.old) (S.ids shelf.new) }
+    ensures opened { Opens (ReadsOneOf (capture_files topology.now.captures)) (S.ids shelf.old)
+        (S.ids shelf.new) }
     ensures files { SameFiles (S.file shelf.old) (S.file shelf.new) }
     ensures faults { CountsFaults result (S.faults shelf.old) (S.faults shelf.new) }
 {
@@ -102,10 +106,13 @@ fn read_outputs<S: Shelf>(
     topology: &Topology,
 ) -> Result<Vec<PortFrames>, Fault>
     requires { IsValid topology.now.setup }
-    ensures read { S.tells → IfOk result (λ outputs. AreOutputs (scope_of topology.now) (S.file shelf.old) outputs.items) }
-    ensures stops { S.tells → IfErr result (λ fault. OutputsStop (scope_of topology.now) (S.file shelf.old) fault ⊎ (fault ≡ Fault.Read) ⊎ (fault ≡ Fault.Memory)) }
+    ensures read { S.tells → IfOk result (λ outputs. AreOutputs (scope_of topology.now)
+        (S.file shelf.old) outputs.items) }
+    ensures stops { S.tells → IfErr result (λ fault. OutputsStop (scope_of topology.now)
+        (S.file shelf.old) fault ⊎ (fault ≡ Fault.Read) ⊎ (fault ≡ Fault.Memory)) }
     ensures causes { IfErr result IsOfAudit }
-    ensures opened { Opens (ReadsEvidence (scope_of topology.now)) (S.ids shelf.old) (S.ids shelf.new) }
+    ensures opened { Opens (ReadsEvidence (scope_of topology.now)) (S.ids shelf.old)
+        (S.ids shelf.new) }
     ensures files { SameFiles (S.file shelf.old) (S.file shelf.new) }
     ensures faults { CountsFaults result (S.faults shelf.old) (S.faults shelf.new) }
 {
@@ -123,10 +130,13 @@ fn read_entries<S: Shelf>(
     shelf: &mut S,
     topology: &Topology,
 ) -> Result<Vec<Bytes>, Fault>
-    ensures read { S.tells → IfOk result (λ journal. AreEntries (scope_of topology.now) (S.file shelf.old) journal.items) }
-    ensures stops { S.tells → IfErr result (λ fault. JournalStops (scope_of topology.now) (S.file shelf.old) fault ⊎ (fault ≡ Fault.Read) ⊎ (fault ≡ Fault.Memory)) }
+    ensures read { S.tells → IfOk result (λ journal. AreEntries (scope_of topology.now)
+        (S.file shelf.old) journal.items) }
+    ensures stops { S.tells → IfErr result (λ fault. JournalStops (scope_of topology.now)
+        (S.file shelf.old) fault ⊎ (fault ≡ Fault.Read) ⊎ (fault ≡ Fault.Memory)) }
     ensures causes { IfErr result IsOfAudit }
-    ensures opened { Opens (ReadsEvidence (scope_of topology.now)) (S.ids shelf.old) (S.ids shelf.new) }
+    ensures opened { Opens (ReadsEvidence (scope_of topology.now)) (S.ids shelf.old)
+        (S.ids shelf.new) }
     ensures files { SameFiles (S.file shelf.old) (S.file shelf.new) }
     ensures faults { CountsFaults result (S.faults shelf.old) (S.faults shelf.new) }
 {
@@ -143,10 +153,13 @@ fn read_lines<S: Shelf>(
     shelf: &mut S,
     topology: &Topology,
 ) -> Result<Vec<TraceLine>, Fault>
-    ensures read { S.tells → IfOk result (λ lines. AreLines (scope_of topology.now) (S.file shelf.old) lines.items) }
-    ensures stops { S.tells → IfErr result (λ fault. TraceStops (scope_of topology.now) (S.file shelf.old) fault ⊎ (fault ≡ Fault.Read) ⊎ (fault ≡ Fault.Memory)) }
+    ensures read { S.tells → IfOk result (λ lines. AreLines (scope_of topology.now)
+        (S.file shelf.old) lines.items) }
+    ensures stops { S.tells → IfErr result (λ fault. TraceStops (scope_of topology.now)
+        (S.file shelf.old) fault ⊎ (fault ≡ Fault.Read) ⊎ (fault ≡ Fault.Memory)) }
     ensures causes { IfErr result IsOfAudit }
-    ensures opened { Opens (ReadsEvidence (scope_of topology.now)) (S.ids shelf.old) (S.ids shelf.new) }
+    ensures opened { Opens (ReadsEvidence (scope_of topology.now)) (S.ids shelf.old)
+        (S.ids shelf.new) }
     ensures files { SameFiles (S.file shelf.old) (S.file shelf.new) }
     ensures faults { CountsFaults result (S.faults shelf.old) (S.faults shelf.new) }
 {
@@ -174,8 +187,12 @@ fn judge_all(
     outputs: &[PortFrames],
 ) -> Result<String, Fault>
     requires { IsValid setup.now }
-    ensures legal { IfOk result (λ text. IsLegal (files_by setup.now captures.now journal.now trace.now outputs.now) × (string_bytes text ≡ legal_line (length trace.now))) }
-    ensures broken { IfErr result (λ fault. ((r : ℕ) × IsRule r × IsLowestBroken (files_by setup.now captures.now journal.now trace.now outputs.now) r × (fault ≡ Fault.Illegal r)) ⊎ (fault ≡ Fault.Memory)) }
+    ensures legal { IfOk result (λ text.
+        IsLegal (files_by setup.now captures.now journal.now trace.now outputs.now)
+        × (string_bytes text ≡ legal_line (length trace.now))) }
+    ensures broken { IfErr result (λ fault.
+        ((r : ℕ) × IsRule r × IsLowestBroken (files_by setup.now captures.now journal.now trace.now
+        outputs.now) r × (fault ≡ Fault.Illegal r)) ⊎ (fault ≡ Fault.Memory)) }
 {
     match judge(alloc, setup, captures, journal, trace, outputs)? {
         Judged::Legal => Ok(legal_line(alloc, trace.len())?),
@@ -183,15 +200,19 @@ fn judge_all(
     }
 }
 
-/// Reads what a run of a topology was given and wrote, in port order captures and output files, then journal and trace; judges it
-/// by the five rules of a legal trace alone; and answers the line that says that it is legal.
+/// Reads what a run of a topology was given and wrote, in port order captures and output files,
+/// then journal and trace; judges it by the five rules of a legal trace alone; and answers the line
+/// that says that it is legal.
 pub fn audit<S: Shelf>(alloc: Global, shelf: &mut S, topology: &Topology) -> Result<String, Fault>
     requires { IsValid topology.now.setup }
     ensures says { IfOk result (λ text. (n : ℕ) × (string_bytes text ≡ legal_line n)) }
-    ensures legal { S.tells → IfOk result (λ text. IsFoundLegal (scope_of topology.now) (S.file shelf.old) (string_bytes text)) }
-    ensures cause { S.tells → IfErr result (λ fault. StopsAudit (scope_of topology.now) (S.file shelf.old) fault ⊎ (fault ≡ Fault.Read) ⊎ (fault ≡ Fault.Memory)) }
+    ensures legal { S.tells → IfOk result (λ text. IsFoundLegal (scope_of topology.now)
+        (S.file shelf.old) (string_bytes text)) }
+    ensures cause { S.tells → IfErr result (λ fault. StopsAudit (scope_of topology.now)
+        (S.file shelf.old) fault ⊎ (fault ≡ Fault.Read) ⊎ (fault ≡ Fault.Memory)) }
     ensures causes { IfErr result IsOfAudit }
-    ensures opened { Opens (ReadsEvidence (scope_of topology.now)) (S.ids shelf.old) (S.ids shelf.new) }
+    ensures opened { Opens (ReadsEvidence (scope_of topology.now)) (S.ids shelf.old)
+        (S.ids shelf.new) }
     ensures files { SameFiles (S.file shelf.old) (S.file shelf.new) }
     ensures faults { CountsFaults result (S.faults shelf.old) (S.faults shelf.new) }
 {

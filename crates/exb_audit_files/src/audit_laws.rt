@@ -11,8 +11,8 @@ pub fn audits_have_one_end()
     ensures { HasOneEnd }
 {}
 
-/// What a run of a topology wrote is found legal: where its captures are good and all is within the limits, no file and no rule stops its
-/// audit.
+/// What a run of a topology wrote is found legal: where its captures are good and all is within the
+/// limits, no file and no rule stops its audit.
 pub fn runs_are_found_legal()
     ensures { RunsAreFoundLegal }
 {

@@ -74,16 +74,23 @@ fn take_frames<S: Shelf>(
 ) -> Result<CapturedFrames, Halt>
     requires at { IsAt (S.ids shelf.old file.old.id) file.old.got }
     requires sound { IsSound file.old }
-    ensures whole { S.tells → IfOk result (λ taken. HasRead (bytes_of (S.file shelf.old (S.ids shelf.old file.old.id).name)) [] file.old
-        → IsTaken capture_records file.old.limit (bytes_of (S.file shelf.old (S.ids shelf.old file.old.id).name)) taken) }
-    ensures halts { S.tells → IfErr result (λ halt. HasRead (bytes_of (S.file shelf.old (S.ids shelf.old file.old.id).name)) [] file.old
-        → HaltsBy (bytes_of (S.file shelf.old (S.ids shelf.old file.old.id).name)) file.old.limit halt) }
+    ensures whole { S.tells
+        → IfOk result (λ taken.
+        HasRead (bytes_of (S.file shelf.old (S.ids shelf.old file.old.id).name)) [] file.old
+        → IsTaken capture_records file.old.limit
+        (bytes_of (S.file shelf.old (S.ids shelf.old file.old.id).name)) taken) }
+    ensures halts { S.tells
+        → IfErr result (λ halt.
+        HasRead (bytes_of (S.file shelf.old (S.ids shelf.old file.old.id).name)) [] file.old
+        → HaltsBy (bytes_of (S.file shelf.old (S.ids shelf.old file.old.id).name)) file.old.limit
+        halt) }
     ensures bytes { IfOk result (λ taken. taken.bytes ≤ file.old.limit) }
     ensures moves { MovesOn file.old.id (S.ids shelf.old) (S.ids shelf.new) }
     ensures files { SameFiles (S.file shelf.old) (S.file shelf.new) }
     ensures counts { S.faults shelf.new ≡ after_looking result (S.faults shelf.old) }
     ensures faults { NoFewer (S.faults shelf.old) (S.faults shelf.new) }
-    ensures failed { IsErrOf result Halt.Failed → Rose (S.faults shelf.old).reads (S.faults shelf.new).reads }
+    ensures failed { IsErrOf result Halt.Failed
+        → Rose (S.faults shelf.old).reads (S.faults shelf.new).reads }
 {
     let mut frames = Vec::new(alloc);
     'records: while let Some(_) = file.ahead(shelf)? {
@@ -107,8 +114,11 @@ pub(crate) fn take_capture<S: Shelf>(
     one: &PortFile,
     left: u64,
 ) -> Result<CapturedFrames, FramesFault>
-    ensures taken { S.tells → IfOk result (IsTakenOf capture_records left (S.file shelf.old one.now.name)) }
-    ensures flaw { S.tells → IfErr result (λ fault. IsFlaw capture_records left one.now (S.file shelf.old one.now.name) fault ⊎ (fault ≡ FramesFault.Read) ⊎ (fault ≡ FramesFault.Memory)) }
+    ensures taken { S.tells
+        → IfOk result (IsTakenOf capture_records left (S.file shelf.old one.now.name)) }
+    ensures flaw { S.tells → IfErr result (λ fault. IsFlaw capture_records left one.now
+        (S.file shelf.old one.now.name) fault ⊎ (fault ≡ FramesFault.Read)
+        ⊎ (fault ≡ FramesFault.Memory)) }
     ensures bytes { IfOk result (λ taken. taken.bytes ≤ left) }
     ensures port { IfErr result IsOfPort }
     ensures opened { Opens (IsReadingOf one.now.name) (S.ids shelf.old) (S.ids shelf.new) }
@@ -132,7 +142,9 @@ fn first_byte<S: Shelf>(
     name: &Text,
 ) -> Result<Option<u8>, FramesFault>
     ensures first { S.tells → IfOk result (λ first. BeginsWith first (S.file shelf.old name.now)) }
-    ensures fault { S.tells → IfErr result (λ fault. ((S.file shelf.old name.now ≡ None) × (fault ≡ FramesFault.Missing name.now)) ⊎ (fault ≡ FramesFault.Read) ⊎ (fault ≡ FramesFault.Memory)) }
+    ensures fault { S.tells → IfErr result (λ fault. ((S.file shelf.old name.now ≡ None)
+        × (fault ≡ FramesFault.Missing name.now)) ⊎ (fault ≡ FramesFault.Read)
+        ⊎ (fault ≡ FramesFault.Memory)) }
     ensures port { IfErr result IsOfPort }
     ensures opened { Opens (IsReadingOf name.now) (S.ids shelf.old) (S.ids shelf.new) }
     ensures files { SameFiles (S.file shelf.old) (S.file shelf.new) }
@@ -166,16 +178,20 @@ fn no_classic(port: PortId) -> FramesFault
     FramesFault::Broken { port, fault }
 }
 
-/// Takes the frames of a classic capture, of which so many bytes may be read. Its first byte is looked at before: one that begins as pcapng
-/// does is no classic capture, and any other is read as such.
+/// Takes the frames of a classic capture, of which so many bytes may be read. Its first byte is
+/// looked at before: one that begins as pcapng does is no classic capture, and any other is read as
+/// such.
 pub(crate) fn take_classic<S: Shelf>(
     alloc: Global,
     shelf: &mut S,
     one: &PortFile,
     left: u64,
 ) -> Result<CapturedFrames, FramesFault>
-    ensures taken { S.tells → IfOk result (IsTakenOf pcap_records left (S.file shelf.old one.now.name)) }
-    ensures flaw { S.tells → IfErr result (λ fault. IsFlaw pcap_records left one.now (S.file shelf.old one.now.name) fault ⊎ (fault ≡ FramesFault.Read) ⊎ (fault ≡ FramesFault.Memory)) }
+    ensures taken { S.tells
+        → IfOk result (IsTakenOf pcap_records left (S.file shelf.old one.now.name)) }
+    ensures flaw { S.tells → IfErr result (λ fault. IsFlaw pcap_records left one.now
+        (S.file shelf.old one.now.name) fault ⊎ (fault ≡ FramesFault.Read)
+        ⊎ (fault ≡ FramesFault.Memory)) }
     ensures bytes { IfOk result (λ taken. taken.bytes ≤ left) }
     ensures port { IfErr result IsOfPort }
     ensures opened { Opens (IsReadingOf one.now.name) (S.ids shelf.old) (S.ids shelf.new) }

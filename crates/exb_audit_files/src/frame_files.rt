@@ -14,7 +14,10 @@ use std::alloc::Global;
 
 /// Puts the file of a name and a port behind others.
 fn put(alloc: Global, files: &mut Vec<PortFile>, port: PortId, name: &str) -> Result<(), NoMemory>
-    ensures { OnOk result (files.new.items ≡ files.old.items ++ record { port = port; name = name.now } ∷ []) }
+    ensures { OnOk result (files.new.items ≡ files.old.items ++ record {
+      port = port;
+      name = name.now;
+    } ∷ []) }
 {
     let name = Text::from_str(alloc, name)?;
     files.push(PortFile { port, name })?;
@@ -44,7 +47,8 @@ fn put_output(
     prefix: &str,
     port: PortId,
 ) -> Result<(), NoMemory>
-    ensures { OnOk result (files.new.items ≡ files.old.items ++ output_file tree.now prefix.now port) }
+    ensures { OnOk result (files.new.items ≡ files.old.items ++ output_file tree.now prefix.now
+        port) }
 {
     if !tree.is_external(port) {
         return Ok(());

@@ -1,5 +1,5 @@
-//! A text that is fed in pieces and read line by line. What is kept is what its lines are read as, and the last part of it, which has no
-//! newline yet.
+//! A text that is fed in pieces and read line by line. What is kept is what its lines are read as,
+//! and the last part of it, which has no newline yet.
 ghost use Rattle.std.specs.Prelude.{◌≡◌, ◌≢◌, ◌<◌, ◌≤◌, ◌+◌, ◌-◌, ◌^◌, ◌++◌, ◌∷◌, ◌⊎◌, ℕ, [], List, Ok, length, take, drop, min, IfOk, OnOk, IfErr, IsErrOf};
 ghost use Rattle.exb_shelf.specs.Files.{SameFiles, bytes_of};
 ghost use Rattle.exb_shelf.specs.Shelf.{IsReading, IsReadingOf, Opens, NoFewer, Rose, moved};
@@ -109,8 +109,11 @@ fn next_number<L: Line>(from: &Lines<L>) -> u64
 
 /// What a whole text is read as, or its first line that can't be read.
 fn finish<L: Line>(from: Lines<L>) -> Result<Vec<L>, LinesFault>
-    ensures lines { IfOk result (λ lines. (text : List ℕ) → HasCut L.reads text from → AreLines L.reads text lines.items) }
-    ensures bad { IfErr result (λ fault. (number : ℕ) × (fault ≡ LinesFault.Bad number) × ((text : List ℕ) → length text < 2 ^ 33 → HasCut L.reads text from → FirstBadLine L.reads text number)) }
+    ensures lines { IfOk result (λ lines. (text : List ℕ) → HasCut L.reads text from
+        → AreLines L.reads text lines.items) }
+    ensures bad { IfErr result (λ fault. (number : ℕ) × (fault ≡ LinesFault.Bad number)
+        × ((text : List ℕ) → length text < 2 ^ 33 → HasCut L.reads text from
+        → FirstBadLine L.reads text number)) }
 {
     if from.bad {
         let number = next_number(&from);
@@ -136,18 +139,24 @@ fn read_on<S: Shelf, L: Line>(
     ensures piece { length piece.new ≡ length piece.old }
     ensures bound { IfOk result (λ n. n ≤ length piece.old) }
     ensures cut { S.tells → IfOk result (λ n. CutsOn L.reads to.old to.new
-        (take n (drop (S.ids shelf.old id).place (bytes_of (S.file shelf.old (S.ids shelf.old id).name))))) }
+        (take n (drop (S.ids shelf.old id).place
+        (bytes_of (S.file shelf.old (S.ids shelf.old id).name))))) }
     ensures end { S.tells → result ≡ Ok 0
-        → drop (S.ids shelf.old id).place (bytes_of (S.file shelf.old (S.ids shelf.old id).name)) ≡ [] }
-    ensures some { S.tells → IfOk result (λ n. (S.ids shelf.old id).place + n ≤ length (bytes_of (S.file shelf.old (S.ids shelf.old id).name)) ⊎ (n ≡ 0)) }
-    ensures cause { IfErr result (λ fault. (fault ≡ LinesFault.Read) ⊎ (fault ≡ LinesFault.Memory)) }
+        → drop (S.ids shelf.old id).place (bytes_of (S.file shelf.old (S.ids shelf.old id).name))
+        ≡ [] }
+    ensures some { S.tells → IfOk result (λ n. (S.ids shelf.old id).place + n
+        ≤ length (bytes_of (S.file shelf.old (S.ids shelf.old id).name)) ⊎ (n ≡ 0)) }
+    ensures cause { IfErr result (λ fault. (fault ≡ LinesFault.Read)
+        ⊎ (fault ≡ LinesFault.Memory)) }
     ensures id { IfOk result (λ n. S.ids shelf.new id ≡ moved (S.ids shelf.old id) n) }
-    ensures file { (name : List ℕ) → IsReadingOf name (S.ids shelf.old id) → IsReadingOf name (S.ids shelf.new id) }
+    ensures file { (name : List ℕ) → IsReadingOf name (S.ids shelf.old id)
+        → IsReadingOf name (S.ids shelf.new id) }
     ensures others { (j : ℕ) → j ≢ id → S.ids shelf.new j ≡ S.ids shelf.old j }
     ensures files { SameFiles (S.file shelf.old) (S.file shelf.new) }
     ensures counts { S.faults shelf.new ≡ after_lines result (S.faults shelf.old) }
     ensures faults { NoFewer (S.faults shelf.old) (S.faults shelf.new) }
-    ensures failed { IsErrOf result LinesFault.Read → Rose (S.faults shelf.old).reads (S.faults shelf.new).reads }
+    ensures failed { IsErrOf result LinesFault.Read
+        → Rose (S.faults shelf.old).reads (S.faults shelf.new).reads }
 {
     let n = match shelf.read(id, piece) {
         Ok(n) => n,
@@ -166,8 +175,11 @@ pub(crate) fn read_lines<S: Shelf, L: Line>(
     name: &str,
     limit: u32,
 ) -> Result<Vec<L>, LinesFault>
-    ensures lines { S.tells → IfOk result (λ lines. HoldsLines (AreLines L.reads) limit (S.file shelf.old name.now) lines.items) }
-    ensures refused { S.tells → IfErr result (λ fault. IsLinesFault L.reads limit (S.file shelf.old name.now) fault ⊎ (fault ≡ LinesFault.Read) ⊎ (fault ≡ LinesFault.Memory)) }
+    ensures lines { S.tells → IfOk result (λ lines. HoldsLines (AreLines L.reads) limit
+        (S.file shelf.old name.now) lines.items) }
+    ensures refused { S.tells
+        → IfErr result (λ fault. IsLinesFault L.reads limit (S.file shelf.old name.now) fault
+        ⊎ (fault ≡ LinesFault.Read) ⊎ (fault ≡ LinesFault.Memory)) }
     ensures opened { Opens (IsReadingOf name.now) (S.ids shelf.old) (S.ids shelf.new) }
     ensures files { SameFiles (S.file shelf.old) (S.file shelf.new) }
     ensures faults { CountsLines result (S.faults shelf.old) (S.faults shelf.new) }

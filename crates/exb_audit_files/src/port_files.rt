@@ -14,7 +14,8 @@ use exb_model::text::Text;
 use exb_shelf::Shelf;
 use std::alloc::Global;
 
-/// The most bytes of all captures together, of all output files together, of a journal, and of a trace.
+/// The most bytes of all captures together, of all output files together, of a journal, and of a
+/// trace.
 pub const LIMIT: u32 = 536_870_912;
 
 /// A file of captured frames, and the port whose frames they are.
@@ -67,8 +68,11 @@ fn take_file<S: Shelf>(
     grammar: Grammar,
     left: u64,
 ) -> Result<CapturedFrames, FramesFault>
-    ensures taken { S.tells → IfOk result (IsTakenOf (records_by grammar) left (S.file shelf.old one.now.name)) }
-    ensures flaw { S.tells → IfErr result (λ fault. IsFlaw (records_by grammar) left one.now (S.file shelf.old one.now.name) fault ⊎ (fault ≡ FramesFault.Read) ⊎ (fault ≡ FramesFault.Memory)) }
+    ensures taken { S.tells
+        → IfOk result (IsTakenOf (records_by grammar) left (S.file shelf.old one.now.name)) }
+    ensures flaw { S.tells → IfErr result (λ fault. IsFlaw (records_by grammar) left one.now
+        (S.file shelf.old one.now.name) fault ⊎ (fault ≡ FramesFault.Read)
+        ⊎ (fault ≡ FramesFault.Memory)) }
     ensures bytes { IfOk result (λ taken. taken.bytes ≤ left) }
     ensures port { IfErr result IsOfPort }
     ensures opened { Opens (IsReadingOf one.now.name) (S.ids shelf.old) (S.ids shelf.new) }
@@ -81,10 +85,12 @@ fn take_file<S: Shelf>(
     }
 }
 
-/// Reads the frames of files in the order in which they are given, which together have at most `limit` bytes.
+/// Reads the frames of files in the order in which they are given, which together have at most
+/// `limit` bytes.
 ///
-/// Where the files are told, it answers the frames of their records, by port. Else it answers the fault of the first file that has one:
-/// that it is not there; its first fault in the grammar, where no more bytes than are left of the limit decide that; or Large.
+/// Where the files are told, it answers the frames of their records, by port. Else it answers the
+/// fault of the first file that has one: that it is not there; its first fault in the grammar,
+/// where no more bytes than are left of the limit decide that; or Large.
 pub fn read_frames<S: Shelf>(
     alloc: Global,
     shelf: &mut S,
@@ -92,8 +98,12 @@ pub fn read_frames<S: Shelf>(
     grammar: Grammar,
     limit: u32,
 ) -> Result<Vec<PortFrames>, FramesFault>
-    ensures frames { S.tells → IfOk result (λ frames. AreRead (records_by grammar) (S.file shelf.old) limit files.now frames.items) }
-    ensures refused { S.tells → IfErr result (λ fault. IsFirstFault (records_by grammar) (S.file shelf.old) limit files.now fault ⊎ (fault ≡ FramesFault.Read) ⊎ (fault ≡ FramesFault.Memory)) }
+    ensures frames { S.tells
+        → IfOk result (λ frames. AreRead (records_by grammar) (S.file shelf.old) limit files.now
+        frames.items) }
+    ensures refused { S.tells
+        → IfErr result (λ fault. IsFirstFault (records_by grammar) (S.file shelf.old) limit
+        files.now fault ⊎ (fault ≡ FramesFault.Read) ⊎ (fault ≡ FramesFault.Memory)) }
     ensures port { IfErr result IsOfPort }
 
     // What is opened, and what stays.

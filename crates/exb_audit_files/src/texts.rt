@@ -29,17 +29,22 @@ pub enum LinesFault {
 
 /// Reads a journal of at most `limit` bytes, line by line. It is read in pieces.
 ///
-/// Where the files are told, it answers its lines without their newlines; Missing only where there is no such file; Large exactly where it
-/// has more bytes than the limit; and else Bad exactly where a line isn't in the grammar of a journal, or the last one has no newline, with
-/// the number of the first such line.
+/// Where the files are told, it answers its lines without their newlines; Missing only where there
+/// is no such file; Large exactly where it has more bytes than the limit; and else Bad exactly
+/// where a line isn't in the grammar of a journal, or the last one has no newline, with the number
+/// of the first such line.
 pub fn read_journal<S: Shelf>(
     alloc: Global,
     shelf: &mut S,
     name: &str,
     limit: u32,
 ) -> Result<Vec<Bytes>, LinesFault>
-    ensures lines { S.tells → IfOk result (λ lines. HoldsLines IsJournal limit (S.file shelf.old name.now) lines.items) }
-    ensures refused { S.tells → IfErr result (λ fault. IsLinesFault entry_in limit (S.file shelf.old name.now) fault ⊎ (fault ≡ LinesFault.Read) ⊎ (fault ≡ LinesFault.Memory)) }
+    ensures lines { S.tells
+        → IfOk result (λ lines. HoldsLines IsJournal limit (S.file shelf.old name.now)
+        lines.items) }
+    ensures refused { S.tells
+        → IfErr result (λ fault. IsLinesFault entry_in limit (S.file shelf.old name.now) fault
+        ⊎ (fault ≡ LinesFault.Read) ⊎ (fault ≡ LinesFault.Memory)) }
 
     // What is opened, and what stays.
     ensures opened { Opens (IsReadingOf name.now) (S.ids shelf.old) (S.ids shelf.new) }
@@ -52,15 +57,19 @@ pub fn read_journal<S: Shelf>(
 
 /// Reads a trace of at most `limit` bytes, line by line. It is read in pieces.
 ///
-/// Where the files are told, it answers its lines; and its faults are those of a journal, by the grammar of a trace.
+/// Where the files are told, it answers its lines; and its faults are those of a journal, by the
+/// grammar of a trace.
 pub fn read_trace<S: Shelf>(
     alloc: Global,
     shelf: &mut S,
     name: &str,
     limit: u32,
 ) -> Result<Vec<TraceLine>, LinesFault>
-    ensures lines { S.tells → IfOk result (λ lines. HoldsLines IsTrace limit (S.file shelf.old name.now) lines.items) }
-    ensures refused { S.tells → IfErr result (λ fault. IsLinesFault read_line limit (S.file shelf.old name.now) fault ⊎ (fault ≡ LinesFault.Read) ⊎ (fault ≡ LinesFault.Memory)) }
+    ensures lines { S.tells
+        → IfOk result (λ lines. HoldsLines IsTrace limit (S.file shelf.old name.now) lines.items) }
+    ensures refused { S.tells
+        → IfErr result (λ fault. IsLinesFault read_line limit (S.file shelf.old name.now) fault
+        ⊎ (fault ≡ LinesFault.Read) ⊎ (fault ≡ LinesFault.Memory)) }
 
     // What is opened, and what stays.
     ensures opened { Opens (IsReadingOf name.now) (S.ids shelf.old) (S.ids shelf.new) }

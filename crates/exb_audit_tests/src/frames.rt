@@ -9,10 +9,12 @@ use exb_test_shelf::{Disturbance, FaultyShelf};
 use std::alloc::Global;
 use std::process::Abort;
 
-/// A row a line: the grammar, the limit, files by their letters, and behind `>` what is answered: by port the lengths of its frames, or the fault.
+/// A row a line: the grammar, the limit, files by their letters, and behind `>` what is answered:
+/// by port the lengths of its frames, or the fault.
 ///
-/// `a` is a classic capture of 100 bytes with a frame of 60, `b` one of 61 bytes with frames of 0 and 5, `c` is `a` without its last byte, `h` a
-/// header of 24 bytes, `n` pcapng of 28 bytes without a frame, `t` the first three bytes of that, `z` has no bytes, and `-` is not there.
+/// `a` is a classic capture of 100 bytes with a frame of 60, `b` one of 61 bytes with frames of 0
+/// and 5, `c` is `a` without its last byte, `h` a header of 24 bytes, `n` pcapng of 28 bytes
+/// without a frame, `t` the first three bytes of that, `z` has no bytes, and `-` is not there.
 const ROWS: &str = "either 0 >\n\
      classic 0 >\n\
      either 100 a>0: 60;\n\
@@ -253,7 +255,8 @@ fn judge_calls(rt: &impl Abort, alloc: Global, grammar: Grammar, calls: usize) {
     );
 }
 
-// Each file takes an open and two reads, and an open and a read more where its first byte is looked at.
+// Each file takes an open and two reads, and an open and a read more where its first byte is looked
+// at.
 #[test]
 fn each_call_may_fail(rt: HostRuntime) {
     judge_calls(&rt, rt.alloc(), Grammar::Either, 6);

@@ -12,7 +12,8 @@ enum TextKind {
     Trace,
 }
 
-/// A row a line: which text is read, the text with `/` for the end of each line, and behind `>` how many lines are read of it, or its fault.
+/// A row a line: which text is read, the text with `/` for the end of each line, and behind `>` how
+/// many lines are read of it, or its fault.
 const ROWS: &str = "journal >0\n\
      journal settled/>1\n\
      journal settled>Bad 1\n\

@@ -136,7 +136,8 @@ fn timed(
     }
 }
 
-/// What `spread` and `alike` count and what `tick` and `forget` take; None where memory runs out or the clock can't be read.
+/// What `spread` and `alike` count and what `tick` and `forget` take; None where memory runs out or
+/// the clock can't be read.
 pub(crate) fn measured(
     clock: &impl Clock,
     alloc: Global,

@@ -1,4 +1,5 @@
-//! Calls one library call many times, so that `bench/libraries.py` and `bench/learned.py` can tell the time of one.
+//! Calls one library call many times, so that `bench/libraries.py` and `bench/learned.py` can tell
+//! the time of one.
 //!
 //!     take PORTS TIMES    an extender takes a frame of a group of PORTS ports
 //!     rows 0 TIMES        the rows of a set of all 4,033 ports below one bridge port, 64 extenders
@@ -49,7 +50,8 @@ fn does(rt: &HostRuntime, what: &str, count: u32, times: u32) -> bool {
     }
 }
 
-// The status with these words: 1 where something could not be done, 2 where they are no words for this program.
+// The status with these words: 1 where something could not be done, 2 where they are no words for
+// this program.
 fn status(rt: &HostRuntime, words: &[String]) -> u8 {
     let [_program, what, count, times] = words else {
         return 2;

@@ -92,7 +92,8 @@ fn is_in_force(stage: &Stage) -> bool
     }
 }
 
-// Commits the change that is prepared, if one is, and ends it; how many requests it has before its commit.
+// Commits the change that is prepared, if one is, and ends it; how many requests it has before its
+// commit.
 fn commit(active: &mut ActiveConfig) -> Result<u64, NoMemory> {
     let Some(asks) = prepared(active.stage()) else {
         return Ok(0);
@@ -176,7 +177,8 @@ fn changes(active: &mut ActiveConfig, what: &str, times: u32) -> Result<u64, NoM
     }
 }
 
-/// How many requests the changes have that `member` or `port` names, so many times, where there are so many VLANs; and one more.
+/// How many requests the changes have that `member` or `port` names, so many times, where there are
+/// so many VLANs; and one more.
 pub(crate) fn change(
     alloc: Global,
     setup: &mut Setup,

@@ -22,8 +22,8 @@ use Rattle.exb_bridge.specs.declared.bridge.Bridge.{Bridge}
 use Rattle.exb_bridge.specs.TreeIndexes.{Site, limits_in}
 
 -- ---- the parts
--- What of a network the bridge neither sees nor touches: the extenders, what is on its way up, the index of the next record of each
--- port, and the beats. All that the bridge does, it does whatever these are.
+-- What of a network the bridge neither sees nor touches: the extenders, what is on its way up, the index of the next
+-- record of each port, and the beats. All that the bridge does, it does whatever these are.
 pub record Rest : Type 0 where
   pub far : Devices
   pub up : List (List LinkFrame)
@@ -42,7 +42,16 @@ pub record Whole : Type 0 where
   pub beats : ℕ
 
 abbrev pub whole : Rest → Bridge → Whole
-whole r b = record { control = b.control; learned = b.learned; near = b.near; down = b.down; far = r.far; up = r.up; next = r.next; beats = r.beats }
+whole r b = record {
+  control = b.control;
+  learned = b.learned;
+  near = b.near;
+  down = b.down;
+  far = r.far;
+  up = r.up;
+  next = r.next;
+  beats = r.beats;
+}
 
 -- ---- the world
 abbrev pub world_in : Whole → World
@@ -58,8 +67,8 @@ world_in c =
       beats = c.beats;
     }
 
--- The parts are of this site: its tree and limits are those of the control, exactly its extenders are there, each with its
--- ports, and memory hasn't run out in the control.
+-- The parts are of this site: its tree and limits are those of the control, exactly its extenders are there, each with
+-- its ports, and memory hasn't run out in the control.
 pub record IsAt (s : Site) (c : Whole) : Type 0 where
   pub shape : c.control.active.shape ≡ s.tree
   pub limits : c.control.active.limits ≡ limits_in s

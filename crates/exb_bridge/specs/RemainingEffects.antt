@@ -13,6 +13,7 @@ pub record Leads (whole rest : Effect) (old so_far : Log) : Type 0 where
   pub events : so_far.events ++ rest.events ≡ old.events ++ whole.events
   pub passed : so_far.passed ++ rest.passed ≡ old.passed ++ whole.passed
   pub left : all_left so_far.left ++ rest.left ≡ all_left old.left ++ whole.left
-  pub outs : so_far.outs.items ++ if_tracing so_far.tracing (all_told rest.outs) ≡ old.outs.items ++ if_tracing old.tracing (all_told whole.outs)
+  pub outs : so_far.outs.items ++ if_tracing so_far.tracing (all_told rest.outs)
+      ≡ old.outs.items ++ if_tracing old.tracing (all_told whole.outs)
   pub lines : so_far.lines ≡ old.lines
   pub tracing : so_far.tracing ≡ old.tracing

@@ -27,8 +27,8 @@ pub record ArePlaces (order places : List ℕ) : Type 0 where
 abbrev pub StandsOnce : List ℕ → Type 0
 StandsOnce order = (j k n : ℕ) → slice_get order j ≡ Some n → slice_get order k ≡ Some n → j ≡ k
 
--- The tables beside a tree: how many ports each device has, the port on which each extender hangs, the extenders from the
--- deepest, their set, and by extender its place among those from the deepest and among those by depth.
+-- The tables beside a tree: how many ports each device has, the port on which each extender hangs, the extenders from
+-- the deepest, their set, and by extender its place among those from the deepest and among those by depth.
 pub record HasTables (t : Shape) (ports on deepest : List ℕ) (extenders : ℕ) (up down : List ℕ) : Type 0 where
   pub counts : ports ≡ t.ports
   pub places : on ≡ t.on

@@ -25,7 +25,8 @@ pub fn stamp_of(arrival: &Arrival) -> Stamp
 #[cold]
 #[inline(never)]
 pub fn ignore(arrival: &Arrival, log: &mut Log) -> Result<(), NoMemory>
-    ensures events { OnOk result (log.new.events ≡ log.old.events ++ Event.Ignored arrival.now.port arrival.now.index ∷ []) }
+    ensures events { OnOk result (log.new.events ≡ log.old.events ++ Event.Ignored arrival.now.port
+        arrival.now.index ∷ []) }
     ensures passed { log.new.passed ≡ log.old.passed }
     ensures left { log.new.left ≡ log.old.left }
     ensures trace { KeepsTrace log.old log.new }

@@ -1,5 +1,5 @@
-//! The controlling bridge as a box: its control, what it has learned, its ends of the transport, and what is on its way down
-//! from it.
+//! The controlling bridge as a box: its control, what it has learned, its ends of the transport,
+//! and what is on its way down from it.
 ghost use Rattle.std.specs.Prelude.{◌≡◌, [], false, IfOk};
 ghost use Rattle.exb_model.specs.Setup.{IsValid, limits_of, shape_of};
 ghost use Rattle.exb_ecp.specs.StopAndWait.{new_state};
@@ -45,7 +45,8 @@ impl Bridge {
     pub fn new(alloc: Global, setup: &Setup) -> Result<Bridge, NoMemory>
         requires { IsValid setup.now }
         ensures state { IfOk result (λ made. state_of made.control ≡ first_of setup.now) }
-        ensures learned { IfOk result (λ made. table_of made.learned ≡ empty_table setup.now.ageing) }
+        ensures learned { IfOk result (λ made. table_of made.learned
+            ≡ empty_table setup.now.ageing) }
         ensures shape { IfOk result (λ made. made.control.active.shape ≡ shape_of setup.now) }
         ensures limits { IfOk result (λ made. made.control.active.limits ≡ limits_of setup.now) }
         ensures awake { IfOk result (λ made. made.control.failed ≡ false) }

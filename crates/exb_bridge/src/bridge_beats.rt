@@ -27,7 +27,8 @@ fn payload_of(end: &Ecp) -> &[u8]
     end.payload()
 }
 
-/// The bridge's end with an extender counts the beat; what it sends goes out again when that is due.
+/// The bridge's end with an extender counts the beat; what it sends goes out again when that is
+/// due.
 #[cold]
 #[inline(never)]
 fn beat_near(
@@ -40,7 +41,8 @@ fn beat_near(
     ghost rest: { Rest }
     requires at { IsAt site.now (whole rest bridge.old) }
     requires there { is_extender site.now.tree number ≡ true }
-    ensures { OnOk result (Does (beats_near site.now.tree number (world_in (whole rest bridge.old))) site.now (whole rest bridge.new) post.old.log post.new.log) }
+    ensures { OnOk result (Does (beats_near site.now.tree number (world_in (whole rest bridge.old)))
+        site.now (whole rest bridge.new) post.old.log post.new.log) }
 {
     site.has_low_number(number);
     if bridge.near.beat(number) != Beat::SendAgain {
@@ -62,7 +64,9 @@ fn beat_near_any(
 ) -> Result<(), NoMemory>
     ghost rest: { Rest }
     requires at { IsAt site.now (whole rest bridge.old) }
-    ensures { OnOk result (Does (if_there site.now.tree (beats_near site.now.tree) number (world_in (whole rest bridge.old))) site.now (whole rest bridge.new) post.old.log post.new.log) }
+    ensures { OnOk result (Does (if_there site.now.tree (beats_near site.now.tree) number
+        (world_in (whole rest bridge.old))) site.now (whole rest bridge.new) post.old.log
+        post.new.log) }
 {
     if !site.tree().is_extender(number) {
         return Ok(());
@@ -70,7 +74,8 @@ fn beat_near_any(
     beat_near(site, number, buffers, bridge, post)
 }
 
-/// All of the bridge's ends count the beat, by extender. One that sends nothing has nothing to count.
+/// All of the bridge's ends count the beat, by extender. One that sends nothing has nothing to
+/// count.
 #[inline(always)]
 pub fn beat_ends(
     site: &TreeIndex,
@@ -80,7 +85,9 @@ pub fn beat_ends(
 ) -> Result<(), NoMemory>
     ghost rest: { Rest }
     requires at { IsAt site.now (whole rest bridge.old) }
-    ensures { OnOk result (Does (each (if_there site.now.tree (beats_near site.now.tree)) all_extenders (world_in (whole rest bridge.old))) site.now (whole rest bridge.new) post.old.log post.new.log) }
+    ensures { OnOk result (Does (each (if_there site.now.tree (beats_near site.now.tree))
+        all_extenders (world_in (whole rest bridge.old))) site.now (whole rest bridge.new)
+        post.old.log post.new.log) }
 {
     let mut from = 1u8;
     'numbers: while let Some(number) = bridge.near.next_sending(from) {
@@ -99,8 +106,10 @@ fn beat_working(
 ) -> Result<(), NoMemory>
     ghost rest: { Rest }
     requires at { IsAt site.now (whole rest bridge.old) }
-    requires asks { AsksWell site.now.tree (limits_in site.now) (world_in (whole rest bridge.old)).control }
-    ensures { OnOk result (Does (beats_control site.now.tree (world_in (whole rest bridge.old))) site.now (whole rest bridge.new) room.old.post.log room.new.post.log) }
+    requires asks { AsksWell site.now.tree (limits_in site.now)
+        (world_in (whole rest bridge.old)).control }
+    ensures { OnOk result (Does (beats_control site.now.tree (world_in (whole rest bridge.old)))
+        site.now (whole rest bridge.new) room.old.post.log room.new.post.log) }
 {
     if bridge.control.beat(&mut room.outbox).is_err() {
         return Err(NoMemory);
@@ -117,8 +126,10 @@ pub fn beat_control(
 ) -> Result<(), NoMemory>
     ghost rest: { Rest }
     requires at { IsAt site.now (whole rest bridge.old) }
-    requires asks { AsksWell site.now.tree (limits_in site.now) (world_in (whole rest bridge.old)).control }
-    ensures { OnOk result (Does (beats_control site.now.tree (world_in (whole rest bridge.old))) site.now (whole rest bridge.new) room.old.post.log room.new.post.log) }
+    requires asks { AsksWell site.now.tree (limits_in site.now)
+        (world_in (whole rest bridge.old)).control }
+    ensures { OnOk result (Does (beats_control site.now.tree (world_in (whole rest bridge.old)))
+        site.now (whole rest bridge.new) room.old.post.log room.new.post.log) }
 {
     if bridge.control.settled() {
         return Ok(());

@@ -28,7 +28,9 @@ pub fn tick(
     ghost rest: { Rest }
     requires at { IsAt site.now (whole rest bridge.old) }
     requires clock { (world_in (whole rest bridge.old)).table.clock + seconds < 2 ^ 63 }
-    ensures { OnOk result (Does (done_by site.now.tree (limits_in site.now) (Tick seconds) (world_in (whole rest bridge.old))) site.now (whole rest bridge.new) room.old.post.log room.new.post.log) }
+    ensures { OnOk result (Does (done_by site.now.tree (limits_in site.now) (Tick seconds)
+        (world_in (whole rest bridge.old))) site.now (whole rest bridge.new) room.old.post.log
+        room.new.post.log) }
 {
     let _ = site;
     room.post.log.events.push(Event::Tick { seconds })?;
@@ -49,8 +51,11 @@ pub fn order(
     requires at { IsAt site.now (whole rest bridge.old) }
     requires names { NamesExternal site.now.tree command.now }
     requires few { (world_in (whole rest bridge.old)).control.given < 65536 }
-    requires asks { AsksWell site.now.tree (limits_in site.now) (world_in (whole rest bridge.old)).control }
-    ensures { OnOk result (Does (done_by site.now.tree (limits_in site.now) (Order command.now) (world_in (whole rest bridge.old))) site.now (whole rest bridge.new) room.old.post.log room.new.post.log) }
+    requires asks { AsksWell site.now.tree (limits_in site.now)
+        (world_in (whole rest bridge.old)).control }
+    ensures { OnOk result (Does (done_by site.now.tree (limits_in site.now) (Order command.now)
+        (world_in (whole rest bridge.old))) site.now (whole rest bridge.new) room.old.post.log
+        room.new.post.log) }
 {
     match bridge.control.command(command, &mut room.outbox) {
         Ok(()) => follow(site, room, bridge),

@@ -1,5 +1,5 @@
-//! What the bridge hears from its extenders: announcements (LLDP, IEEE 802.1AB), acknowledgements and requests (ECP), and
-//! the answers that these carry.
+//! What the bridge hears from its extenders: announcements (LLDP, IEEE 802.1AB), acknowledgements
+//! and requests (ECP), and the answers that these carry.
 ghost use Rattle.std.specs.Prelude.{◌≡◌, ℕ, List, true, OnOk, Ok};
 ghost use Rattle.exb_ecp.specs.Frames.{pdu_in};
 ghost use Rattle.exb_model.specs.Tree.{is_extender};
@@ -49,8 +49,12 @@ fn hear_announcement(
     ghost rest: { Rest }
     requires at { IsAt site.now (whole rest bridge.old) }
     requires there { is_extender site.now.tree number ≡ true }
-    requires asks { AsksWell site.now.tree (limits_in site.now) (world_in (whole rest bridge.old)).control }
-    ensures { OnOk result ((f : List ℕ) → Does (hears_frame site.now.tree (limits_in site.now) number (Ok announce.now) f (world_in (whole rest bridge.old))) site.now (whole rest bridge.new) room.old.post.log room.new.post.log) }
+    requires asks { AsksWell site.now.tree (limits_in site.now)
+        (world_in (whole rest bridge.old)).control }
+    ensures { OnOk result ((f : List ℕ)
+        → Does (hears_frame site.now.tree (limits_in site.now) number (Ok announce.now) f
+        (world_in (whole rest bridge.old))) site.now (whole rest bridge.new) room.old.post.log
+        room.new.post.log) }
 {
     if !is_of(site, number, announce) {
         return Ok(());
@@ -64,7 +68,8 @@ fn hear_announcement(
 /// An answer that is taken ends the sending of its request.
 fn stop_answered(taken: &Taken, number: u8, near: &mut Ends)
     requires { IsNumber number }
-    ensures { (w : World) → w.near ≡ near_of near.old → stops taken.now number w ≡ record w { near = near_of near.new } }
+    ensures { (w : World) → w.near ≡ near_of near.old → stops taken.now number w
+        ≡ record w { near = near_of near.new } }
 {
     match taken {
         Taken::Answer { .. } => near.stop(number),
@@ -84,8 +89,11 @@ fn hear_message(
     ghost rest: { Rest }
     requires at { IsAt site.now (whole rest bridge.old) }
     requires there { is_extender site.now.tree number ≡ true }
-    requires asks { AsksWell site.now.tree (limits_in site.now) (world_in (whole rest bridge.old)).control }
-    ensures { OnOk result (Does (hears_message site.now.tree (limits_in site.now) number (Ok message.now) (world_in (whole rest bridge.old))) site.now (whole rest bridge.new) room.old.post.log room.new.post.log) }
+    requires asks { AsksWell site.now.tree (limits_in site.now)
+        (world_in (whole rest bridge.old)).control }
+    ensures { OnOk result (Does (hears_message site.now.tree (limits_in site.now) number
+        (Ok message.now) (world_in (whole rest bridge.old))) site.now (whole rest bridge.new)
+        room.old.post.log room.new.post.log) }
 {
     site.has_low_number(number);
     let Ok(taken) = bridge.control.answered(number, message, &mut room.outbox) else {
@@ -95,8 +103,8 @@ fn hear_message(
     follow(site, room, bridge)
 }
 
-/// A request of an extender over the transport: it is acknowledged first; where its sequence differs from the last received
-/// its payload is taken.
+/// A request of an extender over the transport: it is acknowledged first; where its sequence
+/// differs from the last received its payload is taken.
 fn hear_request(
     site: &TreeIndex,
     number: u8,
@@ -108,8 +116,11 @@ fn hear_request(
     ghost rest: { Rest }
     requires at { IsAt site.now (whole rest bridge.old) }
     requires there { is_extender site.now.tree number ≡ true }
-    requires asks { AsksWell site.now.tree (limits_in site.now) (world_in (whole rest bridge.old)).control }
-    ensures { OnOk result (Does (hears_request site.now.tree (limits_in site.now) number sequence payload.now (world_in (whole rest bridge.old))) site.now (whole rest bridge.new) room.old.post.log room.new.post.log) }
+    requires asks { AsksWell site.now.tree (limits_in site.now)
+        (world_in (whole rest bridge.old)).control }
+    ensures { OnOk result (Does (hears_request site.now.tree (limits_in site.now) number sequence
+        payload.now (world_in (whole rest bridge.old))) site.now (whole rest bridge.new)
+        room.old.post.log room.new.post.log) }
 {
     site.has_low_number(number);
     spell_acknowledgement(sequence, &mut room.buffers.control);
@@ -135,8 +146,11 @@ fn hear_pdu(
     ghost rest: { Rest }
     requires at { IsAt site.now (whole rest bridge.old) }
     requires there { is_extender site.now.tree number ≡ true }
-    requires asks { AsksWell site.now.tree (limits_in site.now) (world_in (whole rest bridge.old)).control }
-    ensures { OnOk result (Does (hears_pdu site.now.tree (limits_in site.now) number (pdu_in frame.now) frame.now (world_in (whole rest bridge.old))) site.now (whole rest bridge.new) room.old.post.log room.new.post.log) }
+    requires asks { AsksWell site.now.tree (limits_in site.now)
+        (world_in (whole rest bridge.old)).control }
+    ensures { OnOk result (Does (hears_pdu site.now.tree (limits_in site.now) number
+        (pdu_in frame.now) frame.now (world_in (whole rest bridge.old))) site.now
+        (whole rest bridge.new) room.old.post.log room.new.post.log) }
 {
     site.has_low_number(number);
     let Ok(pdu) = exb_ecp::read(frame) else {
@@ -171,8 +185,11 @@ pub(crate) fn hear(
     ghost rest: { Rest }
     requires at { IsAt site.now (whole rest bridge.old) }
     requires there { is_extender site.now.tree number ≡ true }
-    requires asks { AsksWell site.now.tree (limits_in site.now) (world_in (whole rest bridge.old)).control }
-    ensures { OnOk result (Does (hears site.now.tree (limits_in site.now) number frame.now (world_in (whole rest bridge.old))) site.now (whole rest bridge.new) room.old.post.log room.new.post.log) }
+    requires asks { AsksWell site.now.tree (limits_in site.now)
+        (world_in (whole rest bridge.old)).control }
+    ensures { OnOk result (Does (hears site.now.tree (limits_in site.now) number frame.now
+        (world_in (whole rest bridge.old))) site.now (whole rest bridge.new) room.old.post.log
+        room.new.post.log) }
 {
     match exb_lldp::read(frame) {
         Ok(announce) => hear_announcement(site, number, &announce, room, bridge),

@@ -11,7 +11,8 @@ use exb_model::port::{DEVICES, PortId};
 use exb_model::tree::Tree;
 use std::alloc::Global;
 
-/// How many ports there are from a port up to the bridge, where an extender hangs on the port of its number.
+/// How many ports there are from a port up to the bridge, where an extender hangs on the port of
+/// its number.
 fn height(on: &[PortId; DEVICES as usize], from: PortId) -> u8
     ensures { result ≡ length (path on.now from) }
 {

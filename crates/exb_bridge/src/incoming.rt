@@ -1,4 +1,5 @@
-//! What the bridge does with words that come up to it, and with frames: it hears the one, and relays the other.
+//! What the bridge does with words that come up to it, and with frames: it hears the one, and
+//! relays the other.
 ghost use Rattle.std.specs.Prelude.{◌≡◌, ◌-◌, ◌≤◌, ◌++◌, ◌∷◌, [], true, IfOk, OnOk, Some};
 ghost use Rattle.std.specs.List.{All};
 ghost use Rattle.exb_model.specs.EagerHistory.{is_relayed};
@@ -44,7 +45,11 @@ fn leave_bridge(
 ) -> Result<(), NoMemory>
     requires from1 { 1 ≤ bridge_port }
     requires to64 { bridge_port ≤ 64 }
-    ensures { OnOk result (HasLeft (record { port = bridge_port - 1; moment = moment; bytes = frame }) (Out 0 bridge_port frame) post.old.log post.new.log) }
+    ensures { OnOk result (HasLeft (record {
+      port = bridge_port - 1;
+      moment = moment;
+      bytes = frame;
+    }) (Out 0 bridge_port frame) post.old.log post.new.log) }
 {
     note_out(
         post.alloc,
@@ -75,7 +80,9 @@ fn put_word(
     requires at { IsAt site.now (whole rest bridge.old) }
     requires from1 { 1 ≤ bridge_port }
     requires to64 { bridge_port ≤ 64 }
-    ensures { OnOk result (Does (puts_word bridge_port (hung_on site.now.tree (bridge_port - 1)) (record { bytes = frame; stamp = Some stamp }) (world_in (whole rest bridge.old))) site.now (whole rest bridge.new) post.old.log post.new.log) }
+    ensures { OnOk result (Does (puts_word bridge_port (hung_on site.now.tree (bridge_port - 1))
+        (record { bytes = frame; stamp = Some stamp }) (world_in (whole rest bridge.old))) site.now
+        (whole rest bridge.new) post.old.log post.new.log) }
 {
     let tree = site.tree();
     tree.is_tree();
@@ -94,7 +101,8 @@ fn put_word(
     bridge.down.push(below, word)
 }
 
-/// One send of the bridge for a frame that passed with this VLAN tag: it leaves there, or goes down there with an E-TAG.
+/// One send of the bridge for a frame that passed with this VLAN tag: it leaves there, or goes down
+/// there with an E-TAG.
 fn send(
     site: &TreeIndex,
     arrival: &Arrival,
@@ -107,7 +115,9 @@ fn send(
     requires at { IsAt site.now (whole rest bridge.old) }
     requires passed { HasPassed arrival.now.bytes tag.now }
     requires send { CanSend send.now }
-    ensures { OnOk result (Does (sends_in site.now.tree arrival.now tag.now.vid send.now (world_in (whole rest bridge.old))) site.now (whole rest bridge.new) post.old.log post.new.log) }
+    ensures { OnOk result (Does (sends_in site.now.tree arrival.now tag.now.vid send.now
+        (world_in (whole rest bridge.old))) site.now (whole rest bridge.new) post.old.log
+        post.new.log) }
 {
     let frame = arrival.bytes.as_slice();
     let mut buffer = post.store.buffer(post.alloc);
@@ -139,7 +149,9 @@ fn send_all(
     requires at { IsAt site.now (whole rest bridge.old) }
     requires passed { HasPassed arrival.now.bytes tag.now }
     requires sends { All CanSend sends.now }
-    ensures { OnOk result (Does (each (sends_in site.now.tree arrival.now tag.now.vid) sends.now (world_in (whole rest bridge.old))) site.now (whole rest bridge.new) post.old.log post.new.log) }
+    ensures { OnOk result (Does (each (sends_in site.now.tree arrival.now tag.now.vid) sends.now
+        (world_in (whole rest bridge.old))) site.now (whole rest bridge.new) post.old.log
+        post.new.log) }
 {
     for one in sends {
         send(site, arrival, tag, one, bridge, post)?;
@@ -155,7 +167,8 @@ fn has_passed(ingress: &Ingress) -> bool
     matches!(ingress, Ingress::Passed { .. })
 }
 
-/// A frame comes to the bridge; the answer is whether it is relayed, and then it is learned from. What is sent for it is noted.
+/// A frame comes to the bridge; the answer is whether it is relayed, and then it is learned from.
+/// What is sent for it is noted.
 #[inline(always)]
 fn relay(
     site: &TreeIndex,
@@ -166,11 +179,18 @@ fn relay(
     ghost rest: { Rest }
     requires at { IsAt site.now (whole rest bridge.old) }
     requires external { is_external site.now.tree arrival.now.port ≡ true }
-    ensures relayed { IfOk result (λ relayed. relayed ≡ is_relayed (world_in (whole rest bridge.old)).control.bridge arrival.now.port arrival.now.bytes) }
-    ensures does { OnOk result ((log : Log) → Does (learns arrival.now (world_in (whole rest bridge.old))) site.now (whole rest bridge.new) log log) }
-    ensures sends { OnOk result (outgoing.new.sends.items ≡ sends_for site.now.tree (world_in (whole rest bridge.old)) arrival.now) }
+    ensures relayed { IfOk result (λ relayed. relayed
+        ≡ is_relayed (world_in (whole rest bridge.old)).control.bridge arrival.now.port
+        arrival.now.bytes) }
+    ensures does { OnOk result ((log : Log)
+        → Does (learns arrival.now (world_in (whole rest bridge.old))) site.now
+        (whole rest bridge.new) log log) }
+    ensures sends { OnOk result (outgoing.new.sends.items
+        ≡ sends_for site.now.tree (world_in (whole rest bridge.old)) arrival.now) }
     ensures can { OnOk result (All CanSend outgoing.new.sends.items) }
-    ensures ingress { OnOk result (outgoing.new.ingress ≡ ingress_for (world_in (whole rest bridge.old)).control.bridge arrival.now.port arrival.now.bytes) }
+    ensures ingress { OnOk result (outgoing.new.ingress
+        ≡ ingress_for (world_in (whole rest bridge.old)).control.bridge arrival.now.port
+        arrival.now.bytes) }
 {
     let active = bridge.control.active();
     active.is_active_config();
@@ -181,7 +201,8 @@ fn relay(
     relay_and_learn(active, &mut bridge.learned, arrival.port, frame, outgoing)
 }
 
-/// A frame comes to the bridge; the answer is whether it is relayed. It is learned from, and all that is sent for it goes out.
+/// A frame comes to the bridge; the answer is whether it is relayed. It is learned from, and all
+/// that is sent for it goes out.
 #[inline(never)]
 fn relay_on(
     site: &TreeIndex,
@@ -192,9 +213,15 @@ fn relay_on(
     ghost rest: { Rest }
     requires at { IsAt site.now (whole rest bridge.old) }
     requires external { is_external site.now.tree arrival.now.port ≡ true }
-    ensures relayed { IfOk result (λ relayed. relayed ≡ is_relayed (world_in (whole rest bridge.old)).control.bridge arrival.now.port arrival.now.bytes) }
-    ensures does { OnOk result (Does (sent_for site.now.tree arrival.now (world_in (whole rest bridge.old))) site.now (whole rest bridge.new) room.old.post.log room.new.post.log) }
-    ensures ingress { OnOk result (room.new.outgoing.ingress ≡ ingress_for (world_in (whole rest bridge.old)).control.bridge arrival.now.port arrival.now.bytes) }
+    ensures relayed { IfOk result (λ relayed. relayed
+        ≡ is_relayed (world_in (whole rest bridge.old)).control.bridge arrival.now.port
+        arrival.now.bytes) }
+    ensures does { OnOk result
+        (Does (sent_for site.now.tree arrival.now (world_in (whole rest bridge.old))) site.now
+        (whole rest bridge.new) room.old.post.log room.new.post.log) }
+    ensures ingress { OnOk result (room.new.outgoing.ingress
+        ≡ ingress_for (world_in (whole rest bridge.old)).control.bridge arrival.now.port
+        arrival.now.bytes) }
 {
     are_bytes(arrival.bytes.as_slice());
     let relayed = relay(site, arrival, &mut room.outgoing, bridge)?;
@@ -216,7 +243,8 @@ fn relay_on(
 /// Tells that a frame was relayed, and whether it passed. Its bytes go into what is told.
 #[inline(always)]
 fn tell(arrival: Arrival, passed: bool, log: &mut Log) -> Result<(), NoMemory>
-    ensures events { OnOk result (log.new.events ≡ log.old.events ++ Event.Relay arrival.port arrival.index arrival.moment arrival.bytes ∷ []) }
+    ensures events { OnOk result (log.new.events ≡ log.old.events ++ Event.Relay arrival.port
+        arrival.index arrival.moment arrival.bytes ∷ []) }
     ensures passed { OnOk result (log.new.passed ≡ log.old.passed ++ passed ∷ []) }
     ensures left { log.new.left ≡ log.old.left }
     ensures trace { KeepsTrace log.old log.new }
@@ -246,7 +274,8 @@ pub fn come(
     ghost rest: { Rest }
     requires at { IsAt site.now (whole rest bridge.old) }
     requires external { is_external site.now.tree arrival.now.port ≡ true }
-    ensures { OnOk result (Does (comes site.now.tree arrival.now (world_in (whole rest bridge.old))) site.now (whole rest bridge.new) room.old.post.log room.new.post.log) }
+    ensures { OnOk result (Does (comes site.now.tree arrival.now (world_in (whole rest bridge.old)))
+        site.now (whole rest bridge.new) room.old.post.log room.new.post.log) }
 {
     let relayed = relay_on(site, arrival, room, bridge)?;
     if !relayed {
@@ -278,7 +307,9 @@ fn come_in(
     ghost rest: { Rest }
     requires at { IsAt site.now (whole rest bridge.old) }
     requires external { is_external site.now.tree stamp.now.port ≡ true }
-    ensures { OnOk result (Does (comes site.now.tree (arrival_by stamp.now.port stamp.now bytes) (world_in (whole rest bridge.old))) site.now (whole rest bridge.new) room.old.post.log room.new.post.log) }
+    ensures { OnOk result (Does (comes site.now.tree (arrival_by stamp.now.port stamp.now bytes)
+        (world_in (whole rest bridge.old))) site.now (whole rest bridge.new) room.old.post.log
+        room.new.post.log) }
 {
     let arrival = Arrival {
         port: stamp.port,
@@ -302,7 +333,8 @@ fn holder(site: &TreeIndex, bridge: &Bridge, bridge_port: u8, frame: &[u8]) -> O
     requires from1 { 1 ≤ bridge_port }
     requires to64 { bridge_port ≤ 64 }
     requires cascade { is_cascade site.now.tree (bridge_port - 1) ≡ true }
-    ensures { result ≡ holder_by (world_in (whole rest bridge.now)) (bridge_port - 1) (read_etag frame.now) }
+    ensures { result ≡ holder_by (world_in (whole rest bridge.now)) (bridge_port - 1)
+        (read_etag frame.now) }
 {
     let _ = site;
     let tag = ETag::read(frame)?;
@@ -319,7 +351,8 @@ fn has_etag_type(frame: &[u8]) -> bool
     number_at(frame, E_TAG_AT) == E_TAG_TYPE
 }
 
-/// A control word comes to a cascade port of the bridge, from the extender that hangs there or one below it.
+/// A control word comes to a cascade port of the bridge, from the extender that hangs there or one
+/// below it.
 #[cold]
 #[inline(never)]
 fn take_control(
@@ -335,8 +368,11 @@ fn take_control(
     requires from1 { 1 ≤ bridge_port }
     requires to64 { bridge_port ≤ 64 }
     requires hangs { HangsOn site.now.tree below (bridge_port - 1) }
-    requires asks { AsksWell site.now.tree (limits_in site.now) (world_in (whole rest bridge.old)).control }
-    ensures { OnOk result (Does (takes_control site.now.tree (limits_in site.now) (bridge_port - 1) below frame.now (world_in (whole rest bridge.old))) site.now (whole rest bridge.new) room.old.post.log room.new.post.log) }
+    requires asks { AsksWell site.now.tree (limits_in site.now)
+        (world_in (whole rest bridge.old)).control }
+    ensures { OnOk result (Does (takes_control site.now.tree (limits_in site.now)
+        (bridge_port - 1) below frame.now (world_in (whole rest bridge.old))) site.now
+        (whole rest bridge.new) room.old.post.log room.new.post.log) }
 {
     let tree = site.tree();
     tree.is_tree();
@@ -356,8 +392,8 @@ fn take_control(
     Ok(())
 }
 
-/// A data word comes to a cascade port of the bridge: its frame comes from the port whose channel it has. The E-TAG is taken
-/// out where it stands.
+/// A data word comes to a cascade port of the bridge: its frame comes from the port whose channel
+/// it has. The E-TAG is taken out where it stands.
 #[inline(always)]
 fn take_data(
     site: &TreeIndex,
@@ -371,7 +407,11 @@ fn take_data(
     requires from1 { 1 ≤ bridge_port }
     requires to64 { bridge_port ≤ 64 }
     requires cascade { is_cascade site.now.tree (bridge_port - 1) ≡ true }
-    ensures { OnOk result (Does (comes_from site.now.tree (holder_by (world_in (whole rest bridge.old)) (bridge_port - 1) (read_etag word.bytes)) word.stamp (stripped word.bytes) (world_in (whole rest bridge.old))) site.now (whole rest bridge.new) room.old.post.log room.new.post.log) }
+    ensures { OnOk result
+        (Does (comes_from site.now.tree (holder_by (world_in (whole rest bridge.old))
+        (bridge_port - 1) (read_etag word.bytes)) word.stamp (stripped word.bytes)
+        (world_in (whole rest bridge.old))) site.now (whole rest bridge.new) room.old.post.log
+        room.new.post.log) }
 {
     let Some(port) = holder(site, bridge, bridge_port, word.bytes()) else {
         return Ok(());
@@ -403,8 +443,11 @@ pub fn take(
     requires from1 { 1 ≤ bridge_port }
     requires to64 { bridge_port ≤ 64 }
     requires hangs { HangsOn site.now.tree below (bridge_port - 1) }
-    requires asks { AsksWell site.now.tree (limits_in site.now) (world_in (whole rest bridge.old)).control }
-    ensures { OnOk result (Does (bridge_takes site.now.tree (limits_in site.now) (bridge_port - 1) below word (world_in (whole rest bridge.old))) site.now (whole rest bridge.new) room.old.post.log room.new.post.log) }
+    requires asks { AsksWell site.now.tree (limits_in site.now)
+        (world_in (whole rest bridge.old)).control }
+    ensures { OnOk result (Does (bridge_takes site.now.tree (limits_in site.now)
+        (bridge_port - 1) below word (world_in (whole rest bridge.old))) site.now
+        (whole rest bridge.new) room.old.post.log room.new.post.log) }
 {
     site.tree().is_tree();
     if word.is_control() {

@@ -1,6 +1,8 @@
-//! The controlling bridge as a box: it hears its extenders (announcements, acknowledgements, requests and answers), asks them what its
-//! control wants, and relays frames and learns from them. It stands on the bridge's control (`exb_control`), on what relays (`exb_relay`) and on what is learned
-//! (`exb_learn`), and knows of the network no more than the tree and the links down: each call does what the machine of `exb_world_spec` does, whatever the rest of the network is.
+//! The controlling bridge as a box: it hears its extenders (announcements, acknowledgements,
+//! requests and answers), asks them what its control wants, and relays frames and learns from them.
+//! It stands on the bridge's control (`exb_control`), on what relays (`exb_relay`) and on what is
+//! learned (`exb_learn`), and knows of the network no more than the tree and the links down: each
+//! call does what the machine of `exb_world_spec` does, whatever the rest of the network is.
 #![tactic(auto)]
 
 mod arrivals;

@@ -46,8 +46,8 @@ impl Outgoing {
     }
 }
 
-/// Whether a frame that comes to a port is relayed: the port is present, and the frame isn't short, long or
-/// reserved.
+/// Whether a frame that comes to a port is relayed: the port is present, and the frame isn't short,
+/// long or reserved.
 fn is_relayed(config: &Config, port: PortId, frame: &[u8]) -> bool
     ensures kind { result ≡ is_relayed (bridge_of config.now) port frame.now }
     ensures long { result ≡ true → 14 ≤ length frame.now }
@@ -60,7 +60,8 @@ fn is_relayed(config: &Config, port: PortId, frame: &[u8]) -> bool
 fn learn(learned: &mut Learned, port: PortId, frame: &[u8], ingress: &Ingress)
     requires frame { 12 ≤ length frame.now }
     requires room { 1 ≤ learned.old.spare }
-    ensures { table_of learned.new ≡ after_any (relay_call port frame.now (vid_in ingress.now)) (table_of learned.old) }
+    ensures { table_of learned.new ≡ after_any (relay_call port frame.now (vid_in ingress.now))
+        (table_of learned.old) }
 {
     if let Ingress::Passed { vid, .. } = *ingress {
         let address = source(frame);
@@ -78,10 +79,14 @@ pub(crate) fn relay_and_learn(
     frame: &[u8],
     out: &mut Outgoing,
 ) -> Result<bool, NoMemory>
-    ensures relayed { IfOk result (λ relayed. relayed ≡ is_relayed (bridge_in active.now) port frame.now) }
-    ensures sends { OnOk result (out.new.sends.items ≡ sends_by active.now learned.old port frame.now) }
-    ensures ingress { OnOk result (out.new.ingress ≡ ingress_for (bridge_in active.now) port frame.now) }
-    ensures table { OnOk result (table_of learned.new ≡ taught_by (bridge_in active.now) port frame.now (table_of learned.old)) }
+    ensures relayed { IfOk result (λ relayed. relayed
+        ≡ is_relayed (bridge_in active.now) port frame.now) }
+    ensures sends { OnOk result (out.new.sends.items
+        ≡ sends_by active.now learned.old port frame.now) }
+    ensures ingress { OnOk result (out.new.ingress ≡ ingress_for (bridge_in active.now) port
+        frame.now) }
+    ensures table { OnOk result (table_of learned.new
+        ≡ taught_by (bridge_in active.now) port frame.now (table_of learned.old)) }
 {
     out.empty();
     if !is_relayed(active.config(), port, frame) {

@@ -1,5 +1,5 @@
-//! What the bridge sends to its extenders: messages, in control frames over the acknowledged transport (ECP, IEEE 802.1Q,
-//! clause 43).
+//! What the bridge sends to its extenders: messages, in control frames over the acknowledged
+//! transport (ECP, IEEE 802.1Q, clause 43).
 ghost use Rattle.std.specs.Prelude.{◌≡◌, ◌<◌, ◌≤◌, true, OnOk, length};
 ghost use Rattle.exb_model.specs.Tree.{is_extender, on, trunk};
 ghost use Rattle.exb_extender.specs.Machine.{control_pdu};
@@ -64,7 +64,8 @@ pub(crate) fn spell_acknowledgement(sequence: u16, into: &mut ControlBuf)
     exb_ecp::write(BRIDGE, &header(true, sequence), &[], into);
 }
 
-/// A control frame goes out at a port of the bridge, counted from 0, onto the link of the extender that hangs there.
+/// A control frame goes out at a port of the bridge, counted from 0, onto the link of the extender
+/// that hangs there.
 fn put(
     site: &TreeIndex,
     place: u8,
@@ -77,7 +78,8 @@ fn put(
     requires at { IsAt site.now (whole rest bridge.old) }
     requires place { place < 64 }
     requires known { IsNumber below }
-    ensures { OnOk result (Does (puts place below frame (world_in (whole rest bridge.old))) site.now (whole rest bridge.new) post.old.log post.new.log) }
+    ensures { OnOk result (Does (puts place below frame (world_in (whole rest bridge.old))) site.now
+        (whole rest bridge.new) post.old.log post.new.log) }
 {
     let _ = site;
     note_out(
@@ -92,8 +94,8 @@ fn put(
     bridge.down.push(below, word)
 }
 
-/// A control frame goes to a deeper extender, with the channel of the port on which that hangs, by way of the extender
-/// on the bridge port above it.
+/// A control frame goes to a deeper extender, with the channel of the port on which that hangs, by
+/// way of the extender on the bridge port above it.
 #[cold]
 #[inline(never)]
 fn put_deeper(
@@ -107,8 +109,11 @@ fn put_deeper(
     requires at { IsAt site.now (whole rest bridge.old) }
     requires there { is_extender site.now.tree extender ≡ true }
     requires long { 12 ≤ length frame.now }
-    ensures { OnOk result (Does (puts_tagged (trunk site.now.tree extender) (hung_on site.now.tree (trunk site.now.tree extender))
-        (channel_at_trunk site.now.tree (world_in (whole rest bridge.old)).control.held (on site.now.tree extender)) frame.now (world_in (whole rest bridge.old))) site.now (whole rest bridge.new) post.old.log post.new.log) }
+    ensures { OnOk result (Does (puts_tagged (trunk site.now.tree extender)
+        (hung_on site.now.tree (trunk site.now.tree extender))
+        (channel_at_trunk site.now.tree (world_in (whole rest bridge.old)).control.held
+        (on site.now.tree extender)) frame.now (world_in (whole rest bridge.old))) site.now
+        (whole rest bridge.new) post.old.log post.new.log) }
 {
     let tree = site.tree();
     tree.is_tree();
@@ -139,7 +144,9 @@ pub(crate) fn send_to_extender(
     requires at { IsAt site.now (whole rest bridge.old) }
     requires there { is_extender site.now.tree extender ≡ true }
     requires long { 12 ≤ length frame.now }
-    ensures { OnOk result (Does (to_extender site.now.tree extender frame.now (world_in (whole rest bridge.old))) site.now (whole rest bridge.new) post.old.log post.new.log) }
+    ensures { OnOk result (Does (to_extender site.now.tree extender frame.now
+        (world_in (whole rest bridge.old))) site.now (whole rest bridge.new) post.old.log
+        post.new.log) }
 {
     site.has_low_number(extender);
     let port = site.on(extender);
@@ -164,7 +171,8 @@ fn ask(
     ghost rest: { Rest }
     requires at { IsAt site.now (whole rest bridge.old) }
     requires askable { CanGo site.now.tree asked.now }
-    ensures { OnOk result (Does (asks site.now.tree asked.now (world_in (whole rest bridge.old))) site.now (whole rest bridge.new) post.old.log post.new.log) }
+    ensures { OnOk result (Does (asks site.now.tree asked.now (world_in (whole rest bridge.old)))
+        site.now (whole rest bridge.new) post.old.log post.new.log) }
 {
     site.has_low_number(asked.extender);
     exb_csp::write(&asked.message, &mut buffers.message);
@@ -186,7 +194,9 @@ fn ask_all(
     ghost rest: { Rest }
     requires at { IsAt site.now (whole rest bridge.old) }
     requires askable { Each (CanGo site.now.tree) asked.now }
-    ensures { OnOk result (Does (each (asks site.now.tree) asked.now (world_in (whole rest bridge.old))) site.now (whole rest bridge.new) post.old.log post.new.log) }
+    ensures { OnOk result
+        (Does (each (asks site.now.tree) asked.now (world_in (whole rest bridge.old))) site.now
+        (whole rest bridge.new) post.old.log post.new.log) }
 {
     for one in asked {
         ask(site, one, buffers, bridge, post)?;
@@ -203,8 +213,9 @@ fn forget_all(downs: &[PortId], learned: &mut Learned)
     }
 }
 
-/// What was learned at the ports that went down is forgotten, what the control told is told, and what it asked goes out: the rest
-/// of a step of the machine of changes, once the control has made it.
+/// What was learned at the ports that went down is forgotten, what the control told is told, and
+/// what it asked goes out: the rest of a step of the machine of changes, once the control has made
+/// it.
 pub(crate) fn follow(
     site: &TreeIndex,
     room: &mut StepScratch,
@@ -212,9 +223,13 @@ pub(crate) fn follow(
 ) -> Result<(), NoMemory>
     ghost rest: { Rest }
     requires at { IsAt site.now (whole rest bridge.old) }
-    requires askable { AreLow (world_in (whole rest bridge.old)).control.askers → Each (CanGo site.now.tree) room.old.outbox.asks }
-    ensures { OnOk result ((m : Moved) (w : World) → world_in (whole rest bridge.old) ≡ with_control m.state w
-        → room.old.outbox.events ≡ m.events → room.old.outbox.asks ≡ m.asks → room.old.outbox.downs ≡ m.downs → Does (moves site.now.tree m w) site.now (whole rest bridge.new) room.old.post.log room.new.post.log) }
+    requires askable { AreLow (world_in (whole rest bridge.old)).control.askers
+        → Each (CanGo site.now.tree) room.old.outbox.asks }
+    ensures { OnOk result ((m : Moved) (w : World) → world_in (whole rest bridge.old)
+        ≡ with_control m.state w
+        → room.old.outbox.events ≡ m.events → room.old.outbox.asks ≡ m.asks
+        → room.old.outbox.downs ≡ m.downs → Does (moves site.now.tree m w) site.now
+        (whole rest bridge.new) room.old.post.log room.new.post.log) }
 {
     forget_all(room.outbox.downs.as_slice(), &mut bridge.learned);
     bridge.control.has_low_serials();

@@ -19,7 +19,8 @@ pub struct Buffers {
     pub control: ControlBuf,
 }
 
-/// What is lent to every step: where calls write what they give, which each call replaces, and what has happened.
+/// What is lent to every step: where calls write what they give, which each call replaces, and what
+/// has happened.
 pub struct StepScratch {
     /// What a call of the control gives.
     pub outbox: Outbox,

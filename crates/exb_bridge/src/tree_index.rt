@@ -29,7 +29,8 @@ pub struct TreeIndex {
     upwards: Vec<u8>,
     /// The extenders, as a set of numbers.
     extenders: u64,
-    /// By extender its place among those from the deepest, and among those by depth; 64 where there is none.
+    /// By extender its place among those from the deepest, and among those by depth; 64 where there
+    /// is none.
     upward_places: [u8; DEVICES as usize],
     downward_places: [u8; DEVICES as usize],
 }
@@ -57,7 +58,8 @@ impl Model for TreeIndex {
 
     ghost view = { λ s. record { tree = s.tree; channels = s.channels; groups = s.groups } };
 
-    ghost invariant = { λ s. HasTables s.tree s.ports s.on s.upwards.items s.extenders s.upward_places s.downward_places };
+    ghost invariant = { λ s. HasTables s.tree s.ports s.on s.upwards.items s.extenders
+        s.upward_places s.downward_places };
 }
 
 /// The port at a place of a setup.

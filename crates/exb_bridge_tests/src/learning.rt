@@ -1,8 +1,11 @@
-//! What is learned, aged and forgotten, second by second: an ageing time, and behind `:` steps with a semicolon between them. An address is named by
-//! its VLAN and its last byte, a port by its number.
+//! What is learned, aged and forgotten, second by second: an ageing time, and behind `:` steps with
+//! a semicolon between them. An address is named by its VLAN and its last byte, a port by its
+//! number.
 //!
-//! - `see V A P`: an address is seen at a port; `tick S`: seconds go by; `forget P`: a port is forgotten
-//! - `find V A P`: an address is found at a port; `miss V A`: it isn't found; `held N`: so many entries are held
+//! - `see V A P`: an address is seen at a port; `tick S`: seconds go by; `forget P`: a port is
+//! forgotten
+//! - `find V A P`: an address is found at a port; `miss V A`: it isn't found; `held N`: so many
+//! entries are held
 ghost use Rattle.std.specs.Prelude.{◌≡◌, false};
 ghost use Rattle.exb_model.specs.Frames.{is_group};
 
@@ -95,8 +98,9 @@ fn play(rt: &impl Abort, alloc: Global, case: &str) {
     drop(learned);
 }
 
-/// A case a line: an address is found up to the last second; a later sighting moves it, and a down forgets it; with ageing time 0 nothing is learned;
-/// dead entries, those that moved and those of a port that is forgotten are not held.
+/// A case a line: an address is found up to the last second; a later sighting moves it, and a down
+/// forgets it; with ageing time 0 nothing is learned; dead entries, those that moved and those of a
+/// port that is forgotten are not held.
 const CASES: &str = "10:miss 1 1; see 1 1 64; tick 9; find 1 1 64; miss 2 1; tick 1; miss 1 1\n\
      10:see 1 1 64; see 1 1 65; forget 64; find 1 1 65; forget 65; miss 1 1\n\
      0:see 1 1 64; held 0; miss 1 1\n\

@@ -12,4 +12,5 @@ NothingWithoutExtenders = (s : Setup) → s.extenders ≡ [] → needs_of s ≡ 
 abbrev pub IsTheGreatest : Type 0
 IsTheGreatest =
     (t : Shape) (needed : ℕ → ℕ) → ((k : ℕ) → k < 64 → is_cascade t k ≡ true → needed k ≤ greatest_below t needed)
-    × ((greatest_below t needed ≡ 0) ⊎ ((k : ℕ) × (k < 64) × (is_cascade t k ≡ true) × (needed k ≡ greatest_below t needed)))
+    × ((greatest_below t needed ≡ 0) ⊎ ((k : ℕ) × (k < 64) × (is_cascade t k ≡ true)
+    × (needed k ≡ greatest_below t needed)))

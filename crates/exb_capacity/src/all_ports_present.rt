@@ -14,7 +14,8 @@ use std::alloc::Global;
 
 /// Does commands in order.
 fn apply_all(config: &mut Config, commands: &[Command]) -> Result<(), NoMemory>
-    ensures { OnOk result (bridge_of config.new ≡ fold (λ k c. after c k) (bridge_of config.old) commands.now) }
+    ensures { OnOk result (bridge_of config.new ≡ fold (λ k c. after c k) (bridge_of config.old)
+        commands.now) }
 {
     for command in commands {
         config.apply(command)?;

@@ -6,7 +6,8 @@ pub fn nothing_without_extenders()
     ensures { NothingWithoutExtenders }
 {}
 
-/// No cascade port of the bridge needs more than what is said, and one needs just that, or none needs anything.
+/// No cascade port of the bridge needs more than what is said, and one needs just that, or none
+/// needs anything.
 pub fn is_the_greatest()
     ensures { IsTheGreatest }
 {}

@@ -11,7 +11,8 @@ use exb_model::setup::Setup;
 use exb_model::tree::Tree;
 use std::alloc::Global;
 
-/// What the fullest cascade port of the bridge needs where all external ports are present; 0 without extenders.
+/// What the fullest cascade port of the bridge needs where all external ports are present; 0
+/// without extenders.
 #[derive(Clone, Copy)]
 pub struct Needs {
     /// Channels: one for each cascade port and each external port of the extenders below it.
@@ -20,7 +21,8 @@ pub struct Needs {
     pub sets: u64,
 }
 
-/// What a setup with this tree needs. The configuration is let go of by one call, whatever came, which is cheap to prove.
+/// What a setup with this tree needs. The configuration is let go of by one call, whatever came,
+/// which is cheap to prove.
 fn needs_with(alloc: Global, tree: &Tree, setup: &Setup) -> Result<Needs, NoMemory>
     requires tree { tree.now ≡ shape_of setup.now }
     requires valid { IsValid setup.now }
@@ -50,7 +52,8 @@ impl Needs {
     /// The two lines that say what is needed and how much of it a setup has, each with its newline.
     #[tactic(auto, unfolding(crate::specs::Lines::lines_of))]
     pub fn lines(&self, alloc: Global, setup: &Setup) -> Result<String, NoMemory>
-        ensures { IfOk result (λ lines. string_bytes lines ≡ lines_of self.now (limits_of setup.now)) }
+        ensures { IfOk result (λ lines. string_bytes lines
+            ≡ lines_of self.now (limits_of setup.now)) }
     {
         let Needs { channels, sets } = *self;
         let all_channels = setup.channels;

@@ -25,7 +25,8 @@ fn count_below(sets: &[SetAt], bridge_port: u8) -> usize
 /// How many of these sets are below a bridge port, which is counted from 0.
 fn sets_below(sets: &[SetAt], place: u8) -> u64
     requires { place < 64 }
-    ensures { (t : Shape) (b : Bridge) → map seen sets.now ≡ sets_of t b → result ≡ sets_below t b place }
+    ensures { (t : Shape) (b : Bridge) → map seen sets.now ≡ sets_of t b
+        → result ≡ sets_below t b place }
 {
     exb_control_spec::laws::sets_of_each();
     count_below(sets, place + 1) as u64
@@ -33,7 +34,8 @@ fn sets_below(sets: &[SetAt], place: u8) -> u64
 
 /// The greatest number of these sets that are below one cascade port of the bridge.
 fn most_of(tree: &Tree, sets: &[SetAt]) -> u64
-    ensures { (b : Bridge) → map seen sets.now ≡ sets_of tree.now b → result ≡ greatest_below tree.now (sets_below tree.now b) }
+    ensures { (b : Bridge) → map seen sets.now ≡ sets_of tree.now b
+        → result ≡ greatest_below tree.now (sets_below tree.now b) }
 {
     let mut most: u64 = 0;
     for place in 0..64u8 {
@@ -46,7 +48,8 @@ fn most_of(tree: &Tree, sets: &[SetAt]) -> u64
 
 /// How many sets of ports the fullest cascade port of the bridge needs.
 pub(crate) fn sets(alloc: Global, tree: &Tree, config: &Config) -> Result<u64, NoMemory>
-    ensures { IfOk result (λ most. most ≡ greatest_below tree.now (sets_below tree.now (bridge_of config.now))) }
+    ensures { IfOk result (λ most. most ≡ greatest_below tree.now
+        (sets_below tree.now (bridge_of config.now))) }
 {
     let sets = exb_plan::sets(alloc, tree, config)?;
     Ok(most_of(tree, sets.as_slice()))

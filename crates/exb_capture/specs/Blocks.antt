@@ -91,7 +91,8 @@ head_at old twelve = do
 -- what an option 9 says: the digits behind the point of a second
 abbrev pub digits_at : ByteOrder → ℕ → List ℕ → Result ℕ FormatFault
 digits_at order at block =
-    if half_word order block (at + 2) == 1 && nat_le (slice_index block (at + 4)) 9 then Ok (slice_index block (at + 4)) else Err (fault Resolution at)
+    if half_word order block (at + 2) == 1 && nat_le (slice_index block (at + 4)) 9 then Ok (slice_index block (at + 4))
+    else Err (fault Resolution at)
 
 -- with the option at this place, where none before it was an option 9
 abbrev pub or_option : Option (Result ℕ FormatFault) → ByteOrder → ℕ → List ℕ → Option (Result ℕ FormatFault)
@@ -103,15 +104,16 @@ abbrev pub or_six : Option (Result ℕ FormatFault) → Result ℕ FormatFault
 or_six (Some first) = first
 or_six None = Ok 6
 
--- The options from this place on up to one of code 0 or to where they end, behind those of which the first option 9 said this. One that
--- runs past comes before what an option 9 says.
+-- The options from this place on up to one of code 0 or to where they end, behind those of which the first option 9
+-- said this. One that runs past comes before what an option 9 says.
 unfoldable pub resolution_within : ℕ → ByteOrder → Option (Result ℕ FormatFault) → ℕ → ℕ → List ℕ → Result ℕ FormatFault
 resolution_within zero order first at to block = or_six first
 resolution_within (suc n) order first at to block =
     if nat_le to at then or_six first
     else (if half_word order block at == 0 then or_six first
     else (if nat_lt to (at + 4 + half_word order block (at + 2)) then Err (fault Length at)
-    else resolution_within n order (or_option first order at block) (at + 4 + padded (half_word order block (at + 2))) to block))
+    else resolution_within n order (or_option first order at block) (at + 4 + padded (half_word order block (at + 2)))
+    to block))
 
 -- the same, with as many steps as bytes: an option takes at least four
 unfoldable pub resolution_from : ByteOrder → Option (Result ℕ FormatFault) → ℕ → ℕ → List ℕ → Result ℕ FormatFault
@@ -137,7 +139,8 @@ no_interface = record { link = 0; snap = 0; digits = 0 }
 
 -- the interface of this number
 abbrev pub interface_number : List Interface → ℕ → FormatFault → Result Interface FormatFault
-interface_number interfaces i none = if nat_lt i (length interfaces) then Ok (get_or interfaces i no_interface) else Err none
+interface_number interfaces i none = if nat_lt i (length interfaces) then Ok (get_or interfaces i no_interface) else Err
+    none
 
 -- the time of an enhanced packet, in units
 abbrev pub units_at : ByteOrder → List ℕ → ℕ
@@ -154,7 +157,11 @@ enhanced_at head interfaces block = do
   ethernet ← refuse (not (interface.link == 1)) (fault LinkType 8)
   early ← refuse (nat_le (2 ^ 32 * 10 ^ interface.digits) (units_at head.order block)) (fault Time 12)
   fits ← refuse (is_no_frame head.size 32 (word head.order block 20)) (fault Length 20)
-  Ok (Packet (record { moment = nanoseconds interface.digits (units_at head.order block); from = 28; bytes = word head.order block 20 }))
+  Ok (Packet (record {
+    moment = nanoseconds interface.digits (units_at head.order block);
+    from = 28;
+    bytes = word head.order block 20;
+  }))
 
 -- a length cut to what is stored of a frame
 abbrev pub snapped : ℕ → ℕ → ℕ
@@ -199,8 +206,10 @@ in_section s order interfaces = record s { section = Some (record { order = orde
 abbrev pub shown : Sections → BlockHeader → List ℕ → Result BlockContent FormatFault → Front Sections
 shown s head block (Ok Skipped) = Over head.size s
 shown s head block (Ok NewSection) = Over head.size (in_section s head.order [])
-shown s head block (Ok (NewInterface interface)) = Over head.size (in_section s head.order (interfaces_of s.section ++ interface ∷ []))
-shown s head block (Ok (Packet x)) = Holds (record { time = x.moment; bytes = take x.bytes (drop x.from block) }) head.size (record s { last = x.moment })
+shown s head block (Ok (NewInterface interface)) = Over head.size
+    (in_section s head.order (interfaces_of s.section ++ interface ∷ []))
+shown s head block (Ok (Packet x)) = Holds (record { time = x.moment; bytes = take x.bytes (drop x.from block) })
+    head.size (record s { last = x.moment })
 shown s head block (Err f) = Bad f
 
 -- what is looked into has to be there

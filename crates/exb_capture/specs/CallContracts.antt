@@ -1,5 +1,5 @@
--- What each call promises that reads a capture on a shelf, clause by clause: of a shelf that told its files or not, with these files, ids and
--- counts before the call and those after it.
+-- What each call promises that reads a capture on a shelf, clause by clause: of a shelf that told its files or not,
+-- with these files, ids and counts before the call and those after it.
 use Rattle.std.specs.Prelude.{◌≡◌, ◌≢◌, ◌<◌, ◌≤◌, ◌+◌, ◌*◌, ◌^◌, ◌⊎◌, ℕ, true, false, List, [], ◌∷◌, ◌++◌, length, drop, Option, Some, None, Result, IfOk, OnOk, IfErr, OnErr, IsErrOf, IfSome, IfNone, IsSome}
 use Rattle.exb_model.specs.Input.{Record}
 use Rattle.exb_shelf.specs.declared.shelf.OpenFault.{OpenFault}
@@ -26,7 +26,8 @@ use Rattle.exb_capture.specs.Replays.{ComesAt, Disagrees, HasGiven, IsAsBefore, 
 use Rattle.exb_capture.specs.Scans.{IsScan, IsScanned}
 
 -- it reads the next bytes of a file straight into a reader
-pub record Fills {S : Type 0} (tells : Type 0) (were are : Files) (had has : ℕ → Id) (f g : Faults) (i most : ℕ) (old new : Reading S) (result : Result ℕ ShelfFault) : Type 0 where
+pub record Fills {S : Type 0} (tells : Type 0) (were are : Files) (had has : ℕ → Id) (f g : Faults) (i most : ℕ)
+    (old new : Reading S) (result : Result ℕ ShelfFault) : Type 0 where
   pub bound : IfOk result (λ n. n ≤ most)
   pub filled : IfOk result (λ n. HasFilled tells (drop (had i).place (bytes_of (were (had i).name))) n old new)
   pub end : tells → 0 < most → IfOk result (λ n. n ≡ 0 → drop (had i).place (bytes_of (were (had i).name)) ≡ [])
@@ -40,7 +41,8 @@ pub record Fills {S : Type 0} (tells : Type 0) (were are : Files) (had has : ℕ
   pub failed : IsErrOf result shelf.Failed → Rose f.reads g.reads
 
 -- it opens a capture, of which at most so many bytes are read
-pub record OpensCapture (tells : Type 0) (were are : Files) (had has : ℕ → Id) (f g : Faults) (name : List ℕ) (most : ℕ) (result : Result CaptureFile OpenFault) : Type 0 where
+pub record OpensCapture (tells : Type 0) (were are : Files) (had has : ℕ → Id) (f g : Faults) (name : List ℕ) (most : ℕ)
+    (result : Result CaptureFile OpenFault) : Type 0 where
   pub begun : IfOk result (IsBegun most)
   pub sound : IfOk result IsSound
   pub read : tells → IfOk result (HasRead (bytes_of (were name)) [])
@@ -58,7 +60,8 @@ pub record OpensCapture (tells : Type 0) (were are : Files) (had has : ℕ → I
   pub failed : IsErrOf result opening.Failed → Rose f.reads g.reads
 
 -- it reads the next bytes of a file, or its end
-pub record ReadsOn {X : Type 0} (tells : Type 0) (were are : Files) (had has : ℕ → Id) (f g : Faults) (old new : CaptureFile) (result : Result X Halt) : Type 0 where
+pub record ReadsOn {X : Type 0} (tells : Type 0) (were are : Files) (had has : ℕ → Id) (f g : Faults)
+    (old new : CaptureFile) (result : Result X Halt) : Type 0 where
   pub sound : IsSound new
   pub unseen : OnOk result (new.next ≡ None)
   pub same : IsSameFile old new
@@ -68,7 +71,8 @@ pub record ReadsOn {X : Type 0} (tells : Type 0) (were are : Files) (had has : �
   pub left : left_to_read new ≤ left_to_read old
   pub read : tells → OnOk result ((xs : List Record) → HasRead (bytes_of (were (had old.id).name)) xs old
       → HasRead (bytes_of (were (had old.id).name)) xs new)
-  pub large : tells → IsErrOf result stop.Large → (xs : List Record) → HasRead (bytes_of (were (had old.id).name)) xs old
+  pub large : tells → IsErrOf result stop.Large → (xs : List Record)
+      → HasRead (bytes_of (were (had old.id).name)) xs old
       → (old.got ≡ old.limit) × (old.limit < length (bytes_of (were (had old.id).name)))
   pub unbroken : (fault : FormatFault) → IsErrOf result (stop.Broken fault) → ⊥
   pub moves : MovesOn old.id had has
@@ -78,7 +82,8 @@ pub record ReadsOn {X : Type 0} (tells : Type 0) (were are : Files) (had has : �
   pub failed : IsErrOf result stop.Failed → Rose f.reads g.reads
 
 -- it reads on until it is known what comes next
-pub record LooksAhead (tells : Type 0) (were are : Files) (had has : ℕ → Id) (f g : Faults) (old new : CaptureFile) (result : Result (Option ℕ) Halt) : Type 0 where
+pub record LooksAhead (tells : Type 0) (were are : Files) (had has : ℕ → Id) (f g : Faults) (old new : CaptureFile)
+    (result : Result (Option ℕ) Halt) : Type 0 where
   pub sound : IsSound new
   pub same : IsSameFile old new
   pub at : OnOk result (IsAt (has new.id) new.got)
@@ -88,7 +93,8 @@ pub record LooksAhead (tells : Type 0) (were are : Files) (had has : ℕ → Id)
   -- What it says of the file, of which the records xs were taken.
   pub read : tells → OnOk result ((xs : List Record) → HasRead (bytes_of (were (had old.id).name)) xs old
       → HasRead (bytes_of (were (had old.id).name)) xs new)
-  pub end : tells → IfOk result (λ next. IfNone next ((xs : List Record) → HasRead (bytes_of (were (had old.id).name)) xs old
+  pub end : tells → IfOk result (λ next. IfNone next ((xs : List Record)
+      → HasRead (bytes_of (were (had old.id).name)) xs old
       → IsWhole (bytes_of (were (had old.id).name)) xs new))
   pub halts : tells → IfErr result (λ halt. (xs : List Record) → HasRead (bytes_of (were (had old.id).name)) xs old
       → HaltsBy (bytes_of (were (had old.id).name)) old.limit halt)
@@ -121,7 +127,8 @@ pub record Passes (old new : CaptureFile) : Type 0 where
       → HasRead bytes xs old → HasRead bytes (xs ++ x ∷ []) new
 
 -- it goes through a capture that was opened
-pub record ScansOn (tells : Type 0) (were are : Files) (had has : ℕ → Id) (f g : Faults) (old : CaptureFile) (result : Result Scanned Halt) : Type 0 where
+pub record ScansOn (tells : Type 0) (were are : Files) (had has : ℕ → Id) (f g : Faults) (old : CaptureFile)
+    (result : Result Scanned Halt) : Type 0 where
   pub whole : tells → IfOk result (λ scanned. HasRead (bytes_of (were (had old.id).name)) [] old
       → IsScanned old.limit (bytes_of (were (had old.id).name)) scanned)
   pub halts : tells → IfErr result (λ halt. HasRead (bytes_of (were (had old.id).name)) [] old
@@ -135,7 +142,8 @@ pub record ScansOn (tells : Type 0) (were are : Files) (had has : ℕ → Id) (f
   pub failed : IsErrOf result stop.Failed → Rose f.reads g.reads
 
 -- it checks a capture from front to end
-pub record IsChecked (tells : Type 0) (were are : Files) (had has : ℕ → Id) (f g : Faults) (name : List ℕ) (most : ℕ) (result : Result Scanned ScanFault) : Type 0 where
+pub record IsChecked (tells : Type 0) (were are : Files) (had has : ℕ → Id) (f g : Faults) (name : List ℕ) (most : ℕ)
+    (result : Result Scanned ScanFault) : Type 0 where
   pub says : tells → IsScan most (were name) result
   pub bytes : IfOk result (λ scanned. scanned.bytes ≤ most)
   pub first : IfOk result (λ scanned. IfSome scanned.first (λ first. first < 2 ^ 32 * 1_000_000_000))
@@ -149,7 +157,8 @@ pub record IsChecked (tells : Type 0) (were are : Files) (had has : ℕ → Id) 
   pub failed : IsErrOf result check.Read → Rose f.reads g.reads
 
 -- it opens a capture again of which this was told
-pub record OpensAgain (tells : Type 0) (were are : Files) (had has : ℕ → Id) (f g : Faults) (name : List ℕ) (this : Scanned) (result : Result Replay ReplayFault) : Type 0 where
+pub record OpensAgain (tells : Type 0) (were are : Files) (had has : ℕ → Id) (f g : Faults) (name : List ℕ)
+    (this : Scanned) (result : Result Replay ReplayFault) : Type 0 where
   pub told : IfOk result (λ replay. (replay.told ≡ this) × (replay.least ≡ 0))
   pub kept : IfOk result IsKept
   pub begun : IfOk result (λ replay. IsBegun (this.bytes + 1) replay.file)
@@ -169,10 +178,12 @@ pub record OpensAgain (tells : Type 0) (were are : Files) (had has : ℕ → Id)
   pub failed : IsErrOf result again.Read → Rose f.reads g.reads
 
 -- it says at which byte a capture is another one, whose first record comes early
-pub record StopsEarly (tells : Type 0) (were are : Files) (had has : ℕ → Id) (f g : Faults) (old new : Replay) (result : ReplayFault) : Type 0 where
+pub record StopsEarly (tells : Type 0) (were are : Files) (had has : ℕ → Id) (f g : Faults) (old new : Replay)
+    (result : ReplayFault) : Type 0 where
   pub kept : IsKept new
   pub same : IsSameReplay old new
-  pub changed : tells → (at : ℕ) → result ≡ again.Changed at → (xs : List Record) → HasGiven (bytes_of (were (had old.file.id).name)) xs old
+  pub changed : tells → (at : ℕ) → result ≡ again.Changed at → (xs : List Record)
+      → HasGiven (bytes_of (were (had old.file.id).name)) xs old
       → Disagrees old.told (bytes_of (were (had old.file.id).name)) at
   pub place : (at : ℕ) → result ≡ again.Changed at → at ≤ old.told.bytes + 1
   pub before : IsAsBefore old new
@@ -183,7 +194,8 @@ pub record StopsEarly (tells : Type 0) (were are : Files) (had has : ℕ → Id)
   pub failed : result ≡ again.Read → Rose f.reads g.reads
 
 -- it reads on until it is known what comes next, and at which moment
-pub record LooksAgain (tells : Type 0) (were are : Files) (had has : ℕ → Id) (f g : Faults) (old new : Replay) (result : Result (Option ℕ) ReplayFault) : Type 0 where
+pub record LooksAgain (tells : Type 0) (were are : Files) (had has : ℕ → Id) (f g : Faults) (old new : Replay)
+    (result : Result (Option ℕ) ReplayFault) : Type 0 where
   pub kept : IsKept new
   pub same : IsSameReplay old new
   pub before : IsAsBefore old new
@@ -193,9 +205,11 @@ pub record LooksAgain (tells : Type 0) (were are : Files) (had has : ℕ → Id)
   -- What it says of the file, of which the records xs were given.
   pub given : tells → OnOk result ((xs : List Record) → HasGiven (bytes_of (were (had old.file.id).name)) xs old
       → HasGiven (bytes_of (were (had old.file.id).name)) xs new)
-  pub end : tells → IfOk result (λ next. IfNone next ((xs : List Record) → HasGiven (bytes_of (were (had old.file.id).name)) xs old
+  pub end : tells → IfOk result (λ next. IfNone next ((xs : List Record)
+      → HasGiven (bytes_of (were (had old.file.id).name)) xs old
       → IsPlayed old.told (bytes_of (were (had old.file.id).name)) xs))
-  pub changed : tells → (at : ℕ) → IsErrOf result (again.Changed at) → (xs : List Record) → HasGiven (bytes_of (were (had old.file.id).name)) xs old
+  pub changed : tells → (at : ℕ) → IsErrOf result (again.Changed at) → (xs : List Record)
+      → HasGiven (bytes_of (were (had old.file.id).name)) xs old
       → Disagrees old.told (bytes_of (were (had old.file.id).name)) at
   -- Whatever the files hold, it has changed within the bytes that were told and one more.
   pub place : (at : ℕ) → IsErrOf result (again.Changed at) → at ≤ old.told.bytes + 1

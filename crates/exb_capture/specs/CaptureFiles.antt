@@ -31,7 +31,8 @@ pub record MovesOn (id : ℕ) (given ids : ℕ → Id) : Type 0 where
   pub others : (j : ℕ) → j ≢ id → ids j ≡ given j
   pub same : (name : List ℕ) → IsReadingOf name (given id) → IsReadingOf name (ids id)
 
--- so many bytes were read straight into a reader: where the files are told, the first of these, which come next in the file
+-- so many bytes were read straight into a reader: where the files are told, the first of these, which come next in the
+-- file
 pub record HasFilled {S : Type 0} (tells : Type 0) (rest : List ℕ) (n : ℕ) (old new : Reading S) : Type 0 where
   pub piece : List ℕ
   pub there : n ≤ length piece
@@ -58,8 +59,8 @@ abbrev pub FailsBy : {S : Type 0} → ℕ → Stage S → Type 0
 FailsBy most (At s) = Unit {0}
 FailsBy most (Failed fault) = fault.at ≤ most
 
--- No more was read than may be, and what the reader holds is of what was read; so are the place where what was read last begins and
--- that of a fault.
+-- No more was read than may be, and what the reader holds is of what was read; so are the place where what was read
+-- last begins and that of a fault.
 pub record IsSound (f : CaptureFile) : Type 0 where
   pub most : f.got ≤ f.limit
   pub small : f.limit < 2 ^ 64
@@ -108,15 +109,16 @@ left_to_read f = (f.limit - f.got) + left_held f
 abbrev pub after : List Record → List ℕ → Capture → Capture
 after xs places rest = record { records = xs ++ rest.records; places = places ++ rest.places; fault = rest.fault }
 
--- Of a file of these bytes so many were read, in which these records stand. Whatever follows what was read, the records are these and
--- then what the file still gives.
+-- Of a file of these bytes so many were read, in which these records stand. Whatever follows what was read, the records
+-- are these and then what the file still gives.
 pub record HasRead (bytes : List ℕ) (xs : List Record) (f : CaptureFile) : Type 0 where
   pub within : f.got ≤ length bytes
   pub few : length xs + left_held f ≤ f.got
   pub ended : f.ended ≡ true → f.got ≡ length bytes
   pub places : List ℕ
   pub paired : length places ≡ length xs
-  pub whole : (more : List ℕ) → (f.ended ≡ true → more ≡ []) → capture_of (take f.got bytes ++ more) ≡ after xs places (coming f more)
+  pub whole : (more : List ℕ) → (f.ended ≡ true → more ≡ []) → capture_of (take f.got bytes ++ more)
+      ≡ after xs places (coming f more)
 
 -- whatever follows these bytes, this is the fault of them all
 abbrev pub Stands : List ℕ → FormatFault → Type 0
@@ -132,10 +134,11 @@ pub record IsWhole (bytes : List ℕ) (xs : List Record) (f : CaptureFile) : Typ
   pub size : f.got ≡ length bytes
   pub small : length bytes ≤ f.limit
 
--- why a file of these bytes is not read on: its first fault, which within the limit stands whatever follows; or that it is longer,
--- and no fault stands
+-- why a file of these bytes is not read on: its first fault, which within the limit stands whatever follows; or that it
+-- is longer, and no fault stands
 abbrev pub HaltsBy : List ℕ → ℕ → Halt → Type 0
 HaltsBy bytes limit Memory = ⊤
 HaltsBy bytes limit Failed = ⊤
-HaltsBy bytes limit (Broken fault) = (capture_records bytes ≡ Err fault) × (limit < length bytes → Stands (take limit bytes) fault)
+HaltsBy bytes limit (Broken fault) = (capture_records bytes ≡ Err fault)
+    × (limit < length bytes → Stands (take limit bytes) fault)
 HaltsBy bytes limit Large = (limit < length bytes) × ((fault : FormatFault) → Stands (take limit bytes) fault → ⊥)

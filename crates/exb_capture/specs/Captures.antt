@@ -25,7 +25,8 @@ first_bytes = 0x0A ∷ 0x0D ∷ 0x0D ∷ 0x0A ∷ []
 
 abbrev pub unknown_front : List ℕ → Front State
 unknown_front left =
-    if agrees first_bytes left then (if nat_lt (length left) 4 then Short (fault NotPcap 0) else mapped Blocks (block_front no_section left))
+    if agrees first_bytes left then (if nat_lt (length left) 4 then Short (fault NotPcap 0) else mapped Blocks
+    (block_front no_section left))
     else mapped Classic (classic_front Start left)
 
 -- what stands at the front of what is left of a capture
@@ -49,6 +50,7 @@ records_or_none (Err fault) = []
 
 -- a file that begins with these four bytes is read as pcapng, every other as classic pcap
 pub record EachIsRead : Type 0 where
-  pub blocks : (file : List ℕ) → agrees first_bytes file ≡ true → 4 ≤ length file → capture_records file ≡ ng_records file
+  pub blocks : (file : List ℕ) → agrees first_bytes file ≡ true → 4 ≤ length file
+      → capture_records file ≡ ng_records file
   pub classic : (file : List ℕ) → agrees first_bytes file ≡ false → capture_records file ≡ pcap_records file
   pub few : (file : List ℕ) → length file < 4 → capture_records file ≡ pcap_records file

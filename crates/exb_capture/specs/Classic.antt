@@ -61,7 +61,8 @@ abbrev pub stored_front : ClassicEncoding → Result ℕ FormatFault → List �
 stored_front f (Err x) left = Bad x
 stored_front f (Ok n) left =
     if nat_lt (length left) (16 + n) then Short (fault Cut 0)
-    else Holds (record { time = time_at f (take 16 left); bytes = take n (drop 16 (take (16 + n) left)) }) (16 + n) (Behind f)
+    else Holds (record { time = time_at f (take 16 left); bytes = take n (drop 16 (take (16 + n) left)) }) (16 + n)
+    (Behind f)
 
 -- the record at the front of what is left
 abbrev pub record_front : ClassicEncoding → List ℕ → Front ClassicFormat

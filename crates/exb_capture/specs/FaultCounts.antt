@@ -1,4 +1,5 @@
--- What calls that read a capture count at the shelf: a file that is missing, and a read that failed, each once and where it is the answer.
+-- What calls that read a capture count at the shelf: a file that is missing, and a read that failed, each once and
+-- where it is the answer.
 use Rattle.std.specs.Prelude.{Result, Ok, Err}
 use Rattle.exb_shelf.specs.Shelf.{Faults}
 use Rattle.exb_shelf.specs.FaultCounts.{missing_more, reads_more}

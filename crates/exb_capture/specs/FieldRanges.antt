@@ -71,7 +71,10 @@ told front.Nothing s held = stood.Nothing
 told (front.Short f) s held = stood.Short f
 told (front.Bad f) s held = stood.Bad f
 told (front.Over n) s held = stood.Over n s
-told (front.Holds seen n) s held = stood.Holds (record { time = seen.moment; bytes = take seen.bytes (drop seen.from held) }) n s
+told (front.Holds seen n) s held = stood.Holds (record {
+  time = seen.moment;
+  bytes = take seen.bytes (drop seen.from held);
+}) n s
 
 -- the state is kept, where more decides or there is a fault
 abbrev pub Keeps : Front → Type 0 → Type 0
@@ -95,8 +98,8 @@ IsWithin held (front.Bad f) = Unit {0}
 IsWithin held (front.Over n) = 0 < n
 IsWithin held (front.Holds seen n) = IsRecordIn held seen.moment seen.from seen.bytes n
 
--- This was found at the front of these bytes, and is what stands there. What was read is known from then on; the state is kept where
--- more decides or there is a fault; and a record lies within the bytes.
+-- This was found at the front of these bytes, and is what stands there. What was read is known from then on; the state
+-- is kept where more decides or there is a fault; and a record lies within the bytes.
 pub record Shows {S : Type 0} (stood : Stood S) (held : List ℕ) (x : Front) (old new : S) : Type 0 where
   pub value : told x new held ≡ stood
   pub same : Keeps x (new ≡ old)

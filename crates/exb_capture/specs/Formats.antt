@@ -31,7 +31,8 @@ pub data Front (S : Type 0) : Type 0 where
   -- a record, how many bytes it takes, all of which are there, and the state behind it
   Holds : Record → ℕ → S → Front S
 
--- what is read of a capture: its records up to the end or the first fault, where in the file each begins, and that fault
+-- what is read of a capture: its records up to the end or the first fault, where in the file each begins, and that
+-- fault
 pub record Capture : Type 0 where
   pub records : List Record
   pub places : List ℕ

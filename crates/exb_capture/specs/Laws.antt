@@ -46,5 +46,7 @@ pub record AnswersComeFirst : Type 0 where
 
 -- what is written is read again, at the same moments cut down to whole microseconds
 pub record WrittenIsRead : Type 0 where
-  pub classic : (sent : List Sent) → All CanBeWritten sent → pcap_records (capture_text sent) ≡ Ok (map in_microseconds sent)
-  pub either : (sent : List Sent) → All CanBeWritten sent → capture_records (capture_text sent) ≡ Ok (map in_microseconds sent)
+  pub classic : (sent : List Sent) → All CanBeWritten sent → pcap_records (capture_text sent)
+      ≡ Ok (map in_microseconds sent)
+  pub either : (sent : List Sent) → All CanBeWritten sent → capture_records (capture_text sent)
+      ≡ Ok (map in_microseconds sent)

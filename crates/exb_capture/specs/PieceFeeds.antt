@@ -22,7 +22,10 @@ begun most s file = record { reader = unread most s; rest = file }
 
 -- after a piece
 abbrev pub after_piece : {S : Type 0} → List ℕ → Feeding S → Feeding S
-after_piece piece f = record { reader = fed (fitting piece f.reader) piece f.reader; rest = drop (fitting piece f.reader) f.rest }
+after_piece piece f = record {
+  reader = fed (fitting piece f.reader) piece f.reader;
+  rest = drop (fitting piece f.reader) f.rest;
+}
 
 abbrev pub after_call : {S : Type 0} → ℕ → (S → List ℕ → Front S) → Call → Feeding S → Feeding S
 after_call most front (Feed n) f = after_piece (take n f.rest) f
@@ -82,28 +85,37 @@ IsRecordOrFault (Faulty fault) = Unit {0}
 
 -- whatever follows what was taken, this is the next answer behind those that were given
 abbrev pub Stands : {S : Type 0} → (S → List ℕ → Front S) → S → List ℕ → List Answer → Answer → Type 0
-Stands front s taken given a = (more : List ℕ) → IsBytes more → first_answers front s (length given + 1) (taken ++ more) ≡ given ++ a ∷ []
+Stands front s taken given a = (more : List ℕ) → IsBytes more → first_answers front s (length given + 1) (taken ++ more)
+    ≡ given ++ a ∷ []
 
 -- what is answered in pieces is what is read of the whole file: the records in their order, then End or the first fault
 abbrev pub PiecesAreRead : {S : Type 0} → ℕ → (S → List ℕ → Front S) → S → Type 0
 PiecesAreRead most front s = (file : List ℕ) (calls : List Call) → MayBeCalled most front calls (begun most s file)
-    → answers most front calls (begun most s file) ≡ first_answers front s (length (answers most front calls (begun most s file))) file
+    → answers most front calls (begun most s file) ≡ first_answers front s
+    (length (answers most front calls (begun most s file))) file
 
--- where it came to the end, the records that were answered are those of the grammar; where it came to a fault, that fault is
+-- where it came to the end, the records that were answered are those of the grammar; where it came to a fault, that
+-- fault is
 abbrev pub PiecesGiveTheRecords : {S : Type 0} → ℕ → (S → List ℕ → Front S) → S → Type 0
-PiecesGiveTheRecords most front s = (file : List ℕ) (calls : List Call) → MayBeCalled most front calls (begun most s file)
+PiecesGiveTheRecords most front s = (file : List ℕ) (calls : List Call)
+    → MayBeCalled most front calls (begun most s file)
     → (records : List Record) (again : List Answer)
-    → (answers most front calls (begun most s file) ≡ map Found records ++ End ∷ again → whole (reading_from front s 0 file) ≡ Ok records)
-    × ((fault : FormatFault) → answers most front calls (begun most s file) ≡ map Found records ++ Faulty fault ∷ again → whole (reading_from front s 0 file) ≡ Err fault)
+    → (answers most front calls (begun most s file) ≡ map Found records ++ End ∷ again
+    → whole (reading_from front s 0 file) ≡ Ok records)
+    × ((fault : FormatFault) → answers most front calls (begun most s file) ≡ map Found records ++ Faulty fault ∷ again
+    → whole (reading_from front s 0 file) ≡ Err fault)
 
--- what a reader answers comes first of what it still gives, whatever follows what it was fed; a record begins where the reader says
+-- what a reader answers comes first of what it still gives, whatever follows what it was fed; a record begins where the
+-- reader says
 abbrev pub AnswersAreFirst : {S : Type 0} → ℕ → (S → List ℕ → Front S) → Type 0
 AnswersAreFirst {S} most front = (ended : Bool) (r : Reading S) (more : List ℕ) → (ended ≡ true → more ≡ [])
-    → IsFirst (asked most front ended r).answer (asked most front ended r).left.begun (to_come front (asked most front ended r).left more) (to_come front r more)
+    → IsFirst (asked most front ended r).answer (asked most front ended r).left.begun
+    (to_come front (asked most front ended r).left more) (to_come front r more)
 
 -- before the end is told, More is answered exactly where no record and no fault stands whatever follows
 abbrev pub MoreIsOpen : {S : Type 0} → ℕ → (S → List ℕ → Front S) → S → Type 0
-MoreIsOpen most front s = (file : List ℕ) (calls : List Call) → All IsOpen calls → (after_calls most front calls (begun most s file)).rest ≡ []
+MoreIsOpen most front s = (file : List ℕ) (calls : List Call) → All IsOpen calls
+    → (after_calls most front calls (begun most s file)).rest ≡ []
     → ((asked most front false (after_calls most front calls (begun most s file)).reader).answer ≡ More)
     ↔ ((a : Answer) → IsRecordOrFault a → Stands front s file (answers most front calls (begun most s file)) a → ⊥)
 

@@ -8,7 +8,8 @@ use Rattle.exb_capture.specs.declared.fault.Flaw.TheVariants.{Cut}
 use Rattle.exb_capture.specs.Formats.{Front, Nothing, Short, Bad, Over, Holds, Capture, at_end, at_fault, before, fault, behind, at_place, reading_from}
 
 -- ---- what a format has to keep
--- this front of so many bytes isn't one with this flaw, and where all of them are passed over it is none of what is cut off
+-- this front of so many bytes isn't one with this flaw, and where all of them are passed over it is none of what is cut
+-- off
 abbrev pub IsOther : {S : Type 0} → Flaw → ℕ → Front S → Type 0
 IsOther flaw size Nothing = Unit {0}
 IsOther flaw size (Short f) = f.flaw ≡ flaw → ⊥
@@ -30,13 +31,15 @@ IsNotCut (Bad f) = ⊥
 IsNotCut (Over n s) = ⊥
 IsNotCut (Holds x n s) = ⊥
 
--- What stands at a front stands whatever follows, but where nothing is there or more decides; and of the bytes of a record all are there.
--- A record takes at least 16. A fault lies within what is there. A reader whose buffer has so many bytes can then hold whatever is not decided yet. Where more decides, there are bytes that decide
--- otherwise than the end.
+-- What stands at a front stands whatever follows, but where nothing is there or more decides; and of the bytes of a
+-- record all are there. A record takes at least 16. A fault lies within what is there. A reader whose buffer has so
+-- many bytes can then hold whatever is not decided yet. Where more decides, there are bytes that decide otherwise than
+-- the end.
 pub record IsFormat {S : Type 0} (most : ℕ) (front : S → List ℕ → Front S) : Type 0 where
   pub bad : (s : S) (held more : List ℕ) (f : FormatFault) → front s held ≡ Bad f → front s (held ++ more) ≡ Bad f
   pub over : (s : S) (held more : List ℕ) (n : ℕ) (t : S) → front s held ≡ Over n t → front s (held ++ more) ≡ Over n t
-  pub holds : (s : S) (held more : List ℕ) (x : Record) (n : ℕ) (t : S) → front s held ≡ Holds x n t → front s (held ++ more) ≡ Holds x n t
+  pub holds : (s : S) (held more : List ℕ) (x : Record) (n : ℕ) (t : S) → front s held ≡ Holds x n t
+      → front s (held ++ more) ≡ Holds x n t
   pub over_some : (s : S) (held : List ℕ) (n : ℕ) (t : S) → front s held ≡ Over n t → 0 < n
   pub holds_some : (s : S) (held : List ℕ) (x : Record) (n : ℕ) (t : S) → front s held ≡ Holds x n t → 16 ≤ n
   pub there : (s : S) (held : List ℕ) (x : Record) (n : ℕ) (t : S) → front s held ≡ Holds x n t → n ≤ length held
@@ -53,8 +56,9 @@ pub data Stage (S : Type 0) : Type 0 where
   At : S → Stage S
   Failed : FormatFault → Stage S
 
--- How far a reader has come: what it reads next and where that begins; the bytes that were fed and are still held; how many of those that
--- come first belong to what was read before, and where that began; and how many more bytes have room.
+-- How far a reader has come: what it reads next and where that begins; the bytes that were fed and are still held; how
+-- many of those that come first belong to what was read before, and where that began; and how many more bytes have
+-- room.
 pub record Reading (S : Type 0) : Type 0 where
   pub stage : Stage S
   pub place : ℕ
@@ -151,7 +155,8 @@ unfoldable pub asked_within : {S : Type 0} → ℕ → (S → List ℕ → Front
 asked_within most front zero ended r = record { answer = More; left = roomy most r }
 asked_within most front (suc n) ended r = settled (turn most front ended r) (asked_within most front n ended)
 
--- What comes next. A turn that goes on passes over what is held, or the next one needs more; so there are two more than bytes.
+-- What comes next. A turn that goes on passes over what is held, or the next one needs more; so there are two more than
+-- bytes.
 unfoldable pub asked : {S : Type 0} → ℕ → (S → List ℕ → Front S) → Bool → Reading S → Step S
 asked most front ended r = asked_within most front (suc (suc (length r.held))) ended r
 
@@ -169,8 +174,8 @@ to_come_at front (Failed f) r more = at_fault f
 abbrev pub to_come : {S : Type 0} → (S → List ℕ → Front S) → Reading S → List ℕ → Capture
 to_come front r more = to_come_at front r.stage r more
 
--- This answer comes first of what is to come, and that is left behind it; the end and a fault stay. A record that comes begins at this
--- place.
+-- This answer comes first of what is to come, and that is left behind it; the end and a fault stay. A record that comes
+-- begins at this place.
 abbrev pub IsFirst : Answer → ℕ → Capture → Capture → Type 0
 IsFirst (Found x) place left coming = coming ≡ before x place left
 IsFirst More place left coming = coming ≡ left

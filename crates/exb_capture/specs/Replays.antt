@@ -32,8 +32,9 @@ pub record BeginsWith (x : Record) (at : ℕ) (bytes : List ℕ) : Type 0 where
   pub further : List ℕ
   pub places : (capture_of bytes).places ≡ at ∷ further
 
--- A file of these bytes, of which this was told, is another one at this byte: it breaks the grammar there, ends there though more was
--- told, goes on there though its end was told, or has a first record there that was not told or is earlier than was told.
+-- A file of these bytes, of which this was told, is another one at this byte: it breaks the grammar there, ends there
+-- though more was told, goes on there though its end was told, or has a first record there that was not told or is
+-- earlier than was told.
 pub data Disagrees (told : Scanned) (bytes : List ℕ) (at : ℕ) : Type 0 where
   Breaks : (fault : FormatFault) → capture_records bytes ≡ Err fault → fault.at ≡ at → Disagrees told bytes at
   Ends : length bytes < told.bytes → at ≡ length bytes → Disagrees told bytes at
@@ -45,7 +46,8 @@ pub data Disagrees (told : Scanned) (bytes : List ℕ) (at : ℕ) : Type 0 where
 abbrev pub IsSince : Option ℕ → ℕ → Type 0
 IsSince told moment = (first : ℕ) × (told ≡ Some first) × (first ≤ moment)
 
--- One byte more than was told may be read, and once a record was given, no other comes before what was told of the first.
+-- One byte more than was told may be read, and once a record was given, no other comes before what was told of the
+-- first.
 pub record IsKept (r : Replay) : Type 0 where
   pub sound : IsSound r.file
   pub limit : r.file.limit ≡ r.told.bytes + 1
@@ -62,8 +64,8 @@ pub record IsAsBefore (old new : Replay) : Type 0 where
   pub least : new.least ≡ old.least
   pub fresh : new.fresh ≡ old.fresh
 
--- What comes next is a record, and this is its moment: its time, or that of the record before it if that is greater. It isn't before
--- what was told of the first.
+-- What comes next is a record, and this is its moment: its time, or that of the record before it if that is greater. It
+-- isn't before what was told of the first.
 pub record ComesAt (moment : ℕ) (r : Replay) : Type 0 where
   pub next : Record
   pub found : next_of r.file ≡ Some next

@@ -38,12 +38,14 @@ pub record IsScanned (limit : ℕ) (bytes : List ℕ) (s : Scanned) : Type 0 whe
   pub read : capture_records bytes ≡ Ok records
   pub tells : s ≡ scanned_of bytes records
 
--- What is answered of a file of these bytes: what is told of it, its first fault, or that it is too large. A fault comes first where
--- the bytes within the limit have it whatever follows them.
+-- What is answered of a file of these bytes: what is told of it, its first fault, or that it is too large. A fault
+-- comes first where the bytes within the limit have it whatever follows them.
 abbrev pub IsScanOf : ℕ → List ℕ → Result Scanned ScanFault → Type 0
 IsScanOf limit bytes (Ok s) = IsScanned limit bytes s
-IsScanOf limit bytes (Err (Fault fault)) = (capture_records bytes ≡ Err fault) × (limit < length bytes → Stands (take limit bytes) fault)
-IsScanOf limit bytes (Err (Large most)) = (most ≡ limit) × (limit < length bytes) × ((fault : Broke) → Stands (take limit bytes) fault → ⊥)
+IsScanOf limit bytes (Err (Fault fault)) = (capture_records bytes ≡ Err fault)
+    × (limit < length bytes → Stands (take limit bytes) fault)
+IsScanOf limit bytes (Err (Large most)) = (most ≡ limit) × (limit < length bytes)
+    × ((fault : Broke) → Stands (take limit bytes) fault → ⊥)
 IsScanOf limit bytes (Err Missing) = ⊥
 IsScanOf limit bytes (Err Read) = ⊤
 IsScanOf limit bytes (Err Memory) = ⊤

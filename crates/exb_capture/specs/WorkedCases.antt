@@ -58,7 +58,8 @@ snap_two = section_header ++ block 1 20 (1 ∷ 0 ∷ 0 ∷ 0 ∷ 2 ∷ 0 ∷ 0 �
 
 -- an enhanced packet of interface 0 with one byte, at this low half of a time
 abbrev pub one_byte : ℕ → List ℕ
-one_byte time = block 6 36 (0 ∷ 0 ∷ 0 ∷ 0 ∷ 0 ∷ 0 ∷ 0 ∷ 0 ∷ time ∷ 0 ∷ 0 ∷ 0 ∷ 1 ∷ 0 ∷ 0 ∷ 0 ∷ 1 ∷ 0 ∷ 0 ∷ 0 ∷ 7 ∷ 0 ∷ 0 ∷ 0 ∷ [])
+one_byte time = block 6 36 (0 ∷ 0 ∷ 0 ∷ 0 ∷ 0 ∷ 0 ∷ 0 ∷ 0 ∷ time ∷ 0 ∷ 0 ∷ 0 ∷ 1 ∷ 0 ∷ 0 ∷ 0 ∷ 1 ∷ 0 ∷ 0 ∷ 0 ∷ 7 ∷ 0 ∷ 0
+    ∷ 0 ∷ [])
 
 -- a simple packet of this original length, of which four bytes are stored
 abbrev pub simple : ℕ → List ℕ
@@ -74,11 +75,15 @@ pub record TheTable : Type 0 where
   pub short_interface : ng_records (with_block (block 1 16 (replicate 4 0))) ≡ Err (fault Length 32)
   pub option_past : ng_records (with_options 24 (9 ∷ 0 ∷ 1 ∷ 0 ∷ [])) ≡ Err (fault Length 44)
   pub option_end : ng_records (with_options 24 (0 ∷ 0 ∷ 99 ∷ 0 ∷ [])) ≡ Ok []
-  pub past_first : ng_records (with_options 32 (9 ∷ 0 ∷ 1 ∷ 0 ∷ 10 ∷ 0 ∷ 0 ∷ 0 ∷ 1 ∷ 0 ∷ 1 ∷ 0 ∷ [])) ≡ Err (fault Length 52)
+  pub past_first : ng_records (with_options 32 (9 ∷ 0 ∷ 1 ∷ 0 ∷ 10 ∷ 0 ∷ 0 ∷ 0 ∷ 1 ∷ 0 ∷ 1 ∷ 0 ∷ []))
+      ≡ Err (fault Length 52)
   pub no_power : ng_records (with_options 28 (9 ∷ 0 ∷ 1 ∷ 0 ∷ 10 ∷ 0 ∷ 0 ∷ 0 ∷ [])) ≡ Err (fault Resolution 44)
   pub in_nanos : ng_records (nanos ++ one_byte 5) ≡ Ok (record { time = 5; bytes = 7 ∷ [] } ∷ [])
-  pub in_micros : ng_records (section_header ++ an_interface ++ one_byte 5) ≡ Ok (record { time = 5_000; bytes = 7 ∷ [] } ∷ [])
+  pub in_micros : ng_records (section_header ++ an_interface ++ one_byte 5)
+      ≡ Ok (record { time = 5_000; bytes = 7 ∷ [] } ∷ [])
   pub no_interface : ng_records (with_block (simple 1)) ≡ Err (fault Interface 28)
-  pub snapped : ng_records (snap_two ++ one_byte 5 ++ simple 200) ≡ Ok (record { time = 5_000; bytes = 7 ∷ [] } ∷ record { time = 5_000; bytes = 8 ∷ 9 ∷ [] } ∷ [])
+  pub snapped : ng_records (snap_two ++ one_byte 5 ++ simple 200)
+      ≡ Ok (record { time = 5_000; bytes = 7 ∷ [] } ∷ record { time = 5_000; bytes = 8 ∷ 9 ∷ [] } ∷ [])
   pub too_long : ng_records (section_header ++ an_interface ++ simple 5) ≡ Err (fault Length 56)
-  pub new_section : ng_records (section_header ++ an_interface ++ section_header ++ one_byte 5) ≡ Err (fault Interface 84)
+  pub new_section : ng_records (section_header ++ an_interface ++ section_header ++ one_byte 5)
+      ≡ Err (fault Interface 84)

@@ -43,7 +43,8 @@ pub struct BlockHeader {
     pub size: u32,
 }
 
-/// What a block says: nothing that is read; that a section begins; an interface; or a frame of the block.
+/// What a block says: nothing that is read; that a section begins; an interface; or a frame of the
+/// block.
 #[derive(Clone, Copy)]
 pub enum BlockContent {
     Skipped,
@@ -253,7 +254,8 @@ fn simple(
     }))
 }
 
-/// What a whole block says, in a section of these interfaces, where the record before had this moment.
+/// What a whole block says, in a section of these interfaces, where the record before had this
+/// moment.
 #[tactic(auto, unfolding(crate::specs::Blocks::block_at))]
 #[inline(always)]
 pub(crate) fn whole_block(

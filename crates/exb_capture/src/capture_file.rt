@@ -37,8 +37,8 @@ impl From<ShelfFault> for Halt {
     }
 }
 
-/// A capture on a shelf that is read in pieces, at most up to a limit. It keeps no more of the file than the
-/// buffer of its reader.
+/// A capture on a shelf that is read in pieces, at most up to a limit. It keeps no more of the file
+/// than the buffer of its reader.
 pub struct CaptureFile {
     id: u32,
     pub(crate) reader: Reader<AnyFormat>,
@@ -73,7 +73,8 @@ impl CaptureFile {
         name: &str,
         limit: u64,
     ) -> Result<CaptureFile, OpenFault>
-        ensures { OpensCapture S.tells (S.file shelf.old) (S.file shelf.new) (S.ids shelf.old) (S.ids shelf.new) (S.faults shelf.old) (S.faults shelf.new) name.now limit result }
+        ensures { OpensCapture S.tells (S.file shelf.old) (S.file shelf.new) (S.ids shelf.old)
+            (S.ids shelf.new) (S.faults shelf.old) (S.faults shelf.new) name.now limit result }
     {
         let Ok(reader) = Reader::new(alloc, AnyFormat::Unknown) else {
             return Err(OpenFault::Memory);
@@ -96,7 +97,8 @@ impl CaptureFile {
         self.got
     }
 
-    /// Reads the next bytes of the file, or its end. Where no more may be read, it looks whether the file ends there.
+    /// Reads the next bytes of the file, or its end. Where no more may be read, it looks whether
+    /// the file ends there.
     #[cold]
     #[inline(never)]
     fn read_on<S: Shelf>(&mut self, shelf: &mut S) -> Result<(), Halt>
@@ -105,7 +107,8 @@ impl CaptureFile {
         requires open { self.old.ended ≡ false }
         requires unseen { self.old.next ≡ None }
         requires sound { IsSound self.old }
-        ensures { ReadsOn S.tells (S.file shelf.old) (S.file shelf.new) (S.ids shelf.old) (S.ids shelf.new) (S.faults shelf.old) (S.faults shelf.new) self.old self.new result }
+        ensures { ReadsOn S.tells (S.file shelf.old) (S.file shelf.new) (S.ids shelf.old)
+            (S.ids shelf.new) (S.faults shelf.old) (S.faults shelf.new) self.old self.new result }
     {
         if self.got == self.limit {
             let mut one = [0u8; 1];
@@ -126,13 +129,14 @@ impl CaptureFile {
         Ok(())
     }
 
-    /// Reads on until it is known what comes next, and answers the time of the record, or None at the end.
-    /// What comes next isn't taken yet.
+    /// Reads on until it is known what comes next, and answers the time of the record, or None at
+    /// the end. What comes next isn't taken yet.
     #[inline(always)]
     pub fn ahead<S: Shelf>(&mut self, shelf: &mut S) -> Result<Option<u64>, Halt>
         requires at { IsAt (S.ids shelf.old self.old.id) self.old.got }
         requires sound { IsSound self.old }
-        ensures { LooksAhead S.tells (S.file shelf.old) (S.file shelf.new) (S.ids shelf.old) (S.ids shelf.new) (S.faults shelf.old) (S.faults shelf.new) self.old self.new result }
+        ensures { LooksAhead S.tells (S.file shelf.old) (S.file shelf.new) (S.ids shelf.old)
+            (S.ids shelf.new) (S.faults shelf.old) (S.faults shelf.new) self.old self.new result }
     {
         if let Some(seen) = self.next {
             return Ok(Some(seen.moment));
@@ -150,7 +154,8 @@ impl CaptureFile {
         }
     }
 
-    /// Takes the record that comes next, and gives its bytes as a copy in this buffer, which is written anew.
+    /// Takes the record that comes next, and gives its bytes as a copy in this buffer, which is
+    /// written anew.
     #[inline(always)]
     pub fn take(&mut self, mut buffer: Vec<u8>) -> Result<Bytes, NoMemory>
         requires found { (moment : ℕ) × ComesNext moment self.old }

@@ -85,7 +85,8 @@ fn form_of(left: &[u8]) -> Option<ClassicEncoding>
 #[tactic(auto, using(crate::proofs::ClassicLemmas::record_is))]
 #[inline(always)]
 fn record_of(order: ByteOrder, resolution: Resolution, held: &[u8]) -> Front
-    ensures value { told result (ClassicFormat.Behind (form order resolution)) held.now ≡ record_front (form order resolution) held.now }
+    ensures value { told result (ClassicFormat.Behind (form order resolution)) held.now
+        ≡ record_front (form order resolution) held.now }
     ensures within { IsWithin held.now result }
 {
     if held.is_empty() {
@@ -124,7 +125,8 @@ impl ClassicFormat {
     #[inline(never)]
     fn at_start(&mut self, held: &[u8]) -> Front
         requires { self.old ≡ ClassicFormat.Start }
-        ensures { Shows (magic_front (form_of held.now) held.now) held.now result self.old self.new }
+        ensures { Shows (magic_front (form_of held.now) held.now) held.now result self.old
+            self.new }
     {
         let Some(form) = form_of(held) else {
             return Front::Bad(FormatFault::new(Flaw::NotPcap, 0));

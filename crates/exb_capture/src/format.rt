@@ -1,4 +1,5 @@
-//! What a format is to the code above it, what it finds at the front of the bytes that are held, and the two formats as one.
+//! What a format is to the code above it, what it finds at the front of the bytes that are held,
+//! and the two formats as one.
 ghost use Rattle.std.specs.Prelude.{◌≡◌, List, ℕ};
 ghost use Rattle.exb_capture.specs.Blocks.{most_held};
 ghost use Rattle.exb_capture.specs.Captures.{unknown_front};
@@ -11,8 +12,8 @@ use crate::classic::{ClassicFormat, agrees};
 use crate::fault::{Flaw, FormatFault};
 use crate::pcapng::PcapngFormat;
 
-/// A record that was looked at: its moment in nanoseconds since the epoch, below 2^32 seconds; where in what was
-/// looked at its frame begins; and how many bytes that has, at most 262,144.
+/// A record that was looked at: its moment in nanoseconds since the epoch, below 2^32 seconds;
+/// where in what was looked at its frame begins; and how many bytes that has, at most 262,144.
 #[derive(Clone, Copy)]
 pub struct RecordSpan {
     pub moment: u64,
@@ -20,9 +21,9 @@ pub struct RecordSpan {
     pub bytes: u32,
 }
 
-/// What stands at the front: nothing; what more bytes decide, with its fault where the file ends; a fault
-/// whatever follows; so many bytes that are no record and needn't all be there yet; or a record, and how many
-/// bytes the whole takes.
+/// What stands at the front: nothing; what more bytes decide, with its fault where the file ends; a
+/// fault whatever follows; so many bytes that are no record and needn't all be there yet; or a
+/// record, and how many bytes the whole takes.
 #[derive(Clone, Copy)]
 pub enum Front {
     Nothing,
@@ -33,7 +34,8 @@ pub enum Front {
 }
 
 impl Front {
-    // The same, taken from where a call left it: what stands at most fronts, for which there is no call, then stays in registers.
+    // The same, taken from where a call left it: what stands at most fronts, for which there is no
+    // call, then stays in registers.
     #[inline(always)]
     pub(crate) fn taken(self) -> Front
         ensures { result ≡ self }
@@ -48,8 +50,8 @@ impl Front {
     }
 }
 
-/// A format of captures. A value of it is how far a file was read; it says what stands at the front of what is
-/// left, and the records of a file follow from that alone.
+/// A format of captures. A value of it is how far a file was read; it says what stands at the front
+/// of what is left, and the records of a file follow from that alone.
 pub trait Format: Drop {
     /// What stands at a front.
     ghost stands: { Self → List ℕ → Stood Self };

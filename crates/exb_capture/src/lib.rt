@@ -1,8 +1,8 @@
-//! Captures of Ethernet frames: classic pcap and pcapng behind one small contract of a format, read in pieces from
-//! memory or from a shelf, and classic pcap as it is written. Upwards it promises that what is told and given of a
-//! capture is what its format reads of the whole file, however it is cut: its records in order, and then its end or
-//! its first fault at its place; and that what is written is read again. It stands on `exb_shelf`, `exb_model` and
-//! `arrayvec`.
+//! Captures of Ethernet frames: classic pcap and pcapng behind one small contract of a format, read
+//! in pieces from memory or from a shelf, and classic pcap as it is written. Upwards it promises
+//! that what is told and given of a capture is what its format reads of the whole file, however it
+//! is cut: its records in order, and then its end or its first fault at its place; and that what is
+//! written is read again. It stands on `exb_shelf`, `exb_model` and `arrayvec`.
 #![tactic(auto)]
 
 mod block;

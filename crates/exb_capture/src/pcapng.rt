@@ -10,8 +10,8 @@ use crate::format::{Format, Front};
 use arrayvec::ArrayVec;
 use std::marker::Model;
 
-/// How far a pcapng file was read: the order of bytes and the interfaces of its section, and the moment of
-/// the record before, or 0.
+/// How far a pcapng file was read: the order of bytes and the interfaces of its section, and the
+/// moment of the record before, or 0.
 #[derive(Drop)]
 pub struct PcapngFormat {
     order: Option<ByteOrder>,
@@ -19,7 +19,8 @@ pub struct PcapngFormat {
     last: u64,
 }
 
-// Whether a packet stands at the front, in a section of this order. Where it does, order and kind are known, and are asked no more.
+// Whether a packet stands at the front, in a section of this order. Where it does, order and kind
+// are known, and are asked no more.
 #[inline(always)]
 fn is_packet(order: ByteOrder, held: &[u8]) -> bool {
     held.len() >= 12 && word_at(order, held, 0) == PACKET
@@ -98,7 +99,8 @@ impl PcapngFormat {
         }
     }
 
-    // The same, apart: with that of a little-endian packet, code that isn't called would grow too large to stand in its place.
+    // The same, apart: with that of a little-endian packet, code that isn't called would grow too
+    // large to stand in its place.
     #[cold]
     #[inline(never)]
     fn stands_apart(&mut self, held: &[u8]) -> Front

@@ -34,8 +34,8 @@ fn room_for(alloc: Global, size: usize) -> Result<Vec<u8>, AllocError>
     vec![in alloc; 0u8; size]
 }
 
-/// A capture that is read while it is fed in pieces. It keeps no more of the file than one buffer, what its
-/// format knows of it and where in the file it is.
+/// A capture that is read while it is fed in pieces. It keeps no more of the file than one buffer,
+/// what its format knows of it and where in the file it is.
 #[derive(Drop)]
 pub struct Reader<F: Format> {
     format: F,
@@ -65,7 +65,8 @@ impl<F: Format> Model for Reader<F> {
       room = most_held - r.end;
     } };
 
-    ghost invariant = { λ r. (length r.buffer.items ≡ most_held) × (r.start ≤ r.end) × (r.end ≤ most_held) };
+    ghost invariant = { λ r. (length r.buffer.items ≡ most_held) × (r.start ≤ r.end)
+        × (r.end ≤ most_held) };
 }
 
 impl<F: Format> Reader<F> {
@@ -143,8 +144,8 @@ impl<F: Format> Reader<F> {
         size as u32
     }
 
-    /// Reads the next bytes of a file on a shelf straight into the buffer, at most so many, and answers how
-    /// many.
+    /// Reads the next bytes of a file on a shelf straight into the buffer, at most so many, and
+    /// answers how many.
     pub(crate) fn fill<S: Shelf>(
         &mut self,
         shelf: &mut S,
@@ -153,7 +154,9 @@ impl<F: Format> Reader<F> {
     ) -> Result<usize, ShelfFault>
         requires reading { IsReading (S.ids shelf.old id) }
         requires room { most ≤ self.old.room }
-        ensures { Fills S.tells (S.file shelf.old) (S.file shelf.new) (S.ids shelf.old) (S.ids shelf.new) (S.faults shelf.old) (S.faults shelf.new) id most self.old self.new result }
+        ensures { Fills S.tells (S.file shelf.old) (S.file shelf.new) (S.ids shelf.old)
+            (S.ids shelf.new) (S.faults shelf.old) (S.faults shelf.new) id most self.old self.new
+            result }
     {
         let to = self.end + most;
         let n = shelf.read(id, &mut self.buffer.as_mut_slice()[self.end..to])?;
@@ -229,11 +232,12 @@ impl<F: Format> Reader<F> {
         }
     }
 
-    /// What comes next, where all that was fed decides it; `ended` says that the whole file was fed. After
-    /// More there is room. After a fault it gives the same fault again.
+    /// What comes next, where all that was fed decides it; `ended` says that the whole file was
+    /// fed. After More there is room. After a fault it gives the same fault again.
     #[inline(always)]
     pub fn advance(&mut self, ended: bool) -> Result<Ahead, FormatFault>
-        ensures answer { seen result self.new.held ≡ (asked most_held F.stands ended self.old).answer }
+        ensures answer { seen result self.new.held
+            ≡ (asked most_held F.stands ended self.old).answer }
         ensures left { self.new ≡ (asked most_held F.stands ended self.old).left }
         ensures frame { IfOk result (IsAhead self.new.held) }
     {

@@ -33,8 +33,8 @@ fn comes_early(told: Option<u64>, time: u64) -> bool
     }
 }
 
-/// A capture on a shelf that was checked and is read again in pieces, with one buffer. One byte more than
-/// was told is read, so that a longer file shows.
+/// A capture on a shelf that was checked and is read again in pieces, with one buffer. One byte
+/// more than was told is read, so that a longer file shows.
 pub struct Replay {
     file: CaptureFile,
     told: Scanned,
@@ -66,7 +66,8 @@ impl Replay {
         told: Scanned,
     ) -> Result<Replay, ReplayFault>
         requires room { told.bytes + 1 < 2 ^ 64 }
-        ensures { OpensAgain S.tells (S.file shelf.old) (S.file shelf.new) (S.ids shelf.old) (S.ids shelf.new) (S.faults shelf.old) (S.faults shelf.new) name.now told result }
+        ensures { OpensAgain S.tells (S.file shelf.old) (S.file shelf.new) (S.ids shelf.old)
+            (S.ids shelf.new) (S.faults shelf.old) (S.faults shelf.new) name.now told result }
     {
         match CaptureFile::open(alloc, shelf, name, told.bytes + 1) {
             Ok(file) => Ok(Replay {
@@ -81,18 +82,20 @@ impl Replay {
         }
     }
 
-    /// At which byte a capture is another one, whose first record comes early. Where that record ends only
-    /// behind what was told, the file goes on there; and where it ends with the file, it ends too soon.
-    /// Else it is where that record begins. Where it can't be seen whether the file ends, since a read
-    /// failed or memory ran out, that is the answer.
+    /// At which byte a capture is another one, whose first record comes early. Where that record
+    /// ends only behind what was told, the file goes on there; and where it ends with the file, it
+    /// ends too soon. Else it is where that record begins. Where it can't be seen whether the file
+    /// ends, since a read failed or memory ran out, that is the answer.
     #[cold]
     #[inline(never)]
     fn early<S: Shelf>(&mut self, shelf: &mut S) -> ReplayFault
         requires at { IsAt (S.ids shelf.old self.old.file.id) self.old.file.got }
         requires kept { IsKept self.old }
         requires fresh { self.old.fresh ≡ true }
-        requires found { (time : ℕ) × (ComesNext time self.old.file) × (comes_early self.old.told.first time ≡ true) }
-        ensures { StopsEarly S.tells (S.file shelf.old) (S.file shelf.new) (S.ids shelf.old) (S.ids shelf.new) (S.faults shelf.old) (S.faults shelf.new) self.old self.new result }
+        requires found { (time : ℕ) × (ComesNext time self.old.file)
+            × (comes_early self.old.told.first time ≡ true) }
+        ensures { StopsEarly S.tells (S.file shelf.old) (S.file shelf.new) (S.ids shelf.old)
+            (S.ids shelf.new) (S.faults shelf.old) (S.faults shelf.new) self.old self.new result }
     {
         let bytes = self.told.bytes;
         let begin = self.file.reader.begun();
@@ -117,16 +120,17 @@ impl Replay {
         }
     }
 
-    /// Reads on until it is known what comes next, and answers the moment of the record, or None at the end.
-    /// What comes next isn't taken yet.
+    /// Reads on until it is known what comes next, and answers the moment of the record, or None at
+    /// the end. What comes next isn't taken yet.
     ///
-    /// Where the files are told, it is Changed at a byte only where the file disagrees there with what was
-    /// told, and None only where all was given and it agrees.
+    /// Where the files are told, it is Changed at a byte only where the file disagrees there with
+    /// what was told, and None only where all was given and it agrees.
     #[inline(always)]
     pub fn ahead<S: Shelf>(&mut self, shelf: &mut S) -> Result<Option<u64>, ReplayFault>
         requires at { IsAt (S.ids shelf.old self.old.file.id) self.old.file.got }
         requires kept { IsKept self.old }
-        ensures { LooksAgain S.tells (S.file shelf.old) (S.file shelf.new) (S.ids shelf.old) (S.ids shelf.new) (S.faults shelf.old) (S.faults shelf.new) self.old self.new result }
+        ensures { LooksAgain S.tells (S.file shelf.old) (S.file shelf.new) (S.ids shelf.old)
+            (S.ids shelf.new) (S.faults shelf.old) (S.faults shelf.new) self.old self.new result }
     {
         let bytes = self.told.bytes;
         match self.file.ahead(shelf) {
@@ -150,8 +154,8 @@ impl Replay {
         }
     }
 
-    /// Takes the record that comes next, of which the moment is known, and gives its bytes as a copy in this buffer, which is
-    /// written anew.
+    /// Takes the record that comes next, of which the moment is known, and gives its bytes as a
+    /// copy in this buffer, which is written anew.
     #[inline(always)]
     pub fn take(&mut self, moment: u64, buffer: Vec<u8>) -> Result<Bytes, NoMemory>
         requires found { ComesAt moment self.old }

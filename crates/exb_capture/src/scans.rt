@@ -16,7 +16,8 @@ pub struct Scanned {
     pub bytes: u64,
     /// How many records it has.
     pub records: u64,
-    /// The time of the first one in nanoseconds since the epoch, as it is read; None where there is none.
+    /// The time of the first one in nanoseconds since the epoch, as it is read; None where there is
+    /// none.
     pub first: Option<u64>,
 }
 
@@ -39,7 +40,8 @@ pub enum ScanFault {
 fn scan_on<S: Shelf>(shelf: &mut S, file: &mut CaptureFile) -> Result<Scanned, Halt>
     requires at { IsAt (S.ids shelf.old file.old.id) file.old.got }
     requires sound { IsSound file.old }
-    ensures { ScansOn S.tells (S.file shelf.old) (S.file shelf.new) (S.ids shelf.old) (S.ids shelf.new) (S.faults shelf.old) (S.faults shelf.new) file.old result }
+    ensures { ScansOn S.tells (S.file shelf.old) (S.file shelf.new) (S.ids shelf.old)
+        (S.ids shelf.new) (S.faults shelf.old) (S.faults shelf.new) file.old result }
 {
     let mut count = 0u64;
     let mut first: Option<u64> = None;
@@ -55,8 +57,8 @@ fn scan_on<S: Shelf>(shelf: &mut S, file: &mut CaptureFile) -> Result<Scanned, H
     })
 }
 
-/// Why a capture is refused, where it isn't read to its end. By itself, so that `scan` lets go of the file at two ends and not
-/// at five.
+/// Why a capture is refused, where it isn't read to its end. By itself, so that `scan` lets go of
+/// the file at two ends and not at five.
 fn refused(limit: u64, halt: Halt) -> ScanFault
     ensures { result ≡ refused limit halt }
 {
@@ -70,16 +72,18 @@ fn refused(limit: u64, halt: Halt) -> ScanFault
 
 /// Checks a capture of at most `limit` bytes from front to end. It is read in pieces.
 ///
-/// Where the files are told, it tells how many bytes and records it has and when the first one was captured;
-/// Missing only where there is no such file; its first fault; and Large exactly where it has more bytes than
-/// the limit, and no fault is that of every file which begins with its first `limit` bytes.
+/// Where the files are told, it tells how many bytes and records it has and when the first one was
+/// captured; Missing only where there is no such file; its first fault; and Large exactly where it
+/// has more bytes than the limit, and no fault is that of every file which begins with its first
+/// `limit` bytes.
 pub fn scan<S: Shelf>(
     alloc: Global,
     shelf: &mut S,
     name: &str,
     limit: u64,
 ) -> Result<Scanned, ScanFault>
-    ensures { IsChecked S.tells (S.file shelf.old) (S.file shelf.new) (S.ids shelf.old) (S.ids shelf.new) (S.faults shelf.old) (S.faults shelf.new) name.now limit result }
+    ensures { IsChecked S.tells (S.file shelf.old) (S.file shelf.new) (S.ids shelf.old)
+        (S.ids shelf.new) (S.faults shelf.old) (S.faults shelf.new) name.now limit result }
 {
     let mut file = match CaptureFile::open(alloc, shelf, name, limit) {
         Ok(file) => file,

@@ -9,8 +9,8 @@ const MICROSECOND: u64 = 1_000;
 /// Microseconds in a second.
 const MICROSECONDS: u64 = 1_000_000;
 
-/// The front of every output capture: classic pcap, little-endian, in microseconds, version 2.4, link
-/// type 1 (Ethernet).
+/// The front of every output capture: classic pcap, little-endian, in microseconds, version 2.4,
+/// link type 1 (Ethernet).
 pub fn header_text() -> [u8; 24]
     ensures { result ≡ capture_header }
 {
@@ -19,8 +19,8 @@ pub fn header_text() -> [u8; 24]
     ]
 }
 
-/// The whole microseconds of a moment, in nanoseconds, behind its second. They come of a difference, since of a quotient each of its
-/// bytes would be computed by itself.
+/// The whole microseconds of a moment, in nanoseconds, behind its second. They come of a
+/// difference, since of a quotient each of its bytes would be computed by itself.
 #[inline(always)]
 fn micros_of(moment: u64) -> u32
     ensures { result ≡ moment % 1_000_000_000 / 1_000 }
@@ -28,11 +28,12 @@ fn micros_of(moment: u64) -> u32
     (moment / MICROSECOND - moment / SECOND * MICROSECONDS) as u32
 }
 
-/// What stands before the bytes of a frame of this length that left at this moment, in nanoseconds. The
-/// moment is written in whole microseconds.
+/// What stands before the bytes of a frame of this length that left at this moment, in nanoseconds.
+/// The moment is written in whole microseconds.
 pub fn record_text(moment: u64, length: u32) -> [u8; 16]
     requires { moment < 2 ^ 32 * 1_000_000_000 }
-    ensures { (bytes : List ℕ) → length_of bytes ≡ length → record_of (moment, bytes) ≡ result ++ bytes }
+    ensures { (bytes : List ℕ) → length_of bytes ≡ length → record_of (moment, bytes)
+        ≡ result ++ bytes }
 {
     let seconds = ((moment / SECOND) as u32).to_le_bytes();
     let micros = micros_of(moment).to_le_bytes();

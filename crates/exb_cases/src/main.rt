@@ -1,8 +1,9 @@
-//! Whole runs, each with its files. `data/cases.txt` has a line a case: its name, which is its folder's, the status that is
-//! wanted, the words that the program is given (`""` is an empty one), a colon, and the files that it writes into the folder.
-//! Where the status is 0, each of these must be as the one of its name in the folder `expected` of the case, or absent where
-//! `!` stands before its name; otherwise none of them may be there. What the run prints stands in front of the line that
-//! tells how the case ended.
+//! Whole runs, each with its files. `data/cases.txt` has a line a case: its name, which is its
+//! folder's, the status that is wanted, the words that the program is given (`""` is an empty one),
+//! a colon, and the files that it writes into the folder. Where the status is 0, each of these must
+//! be as the one of its name in the folder `expected` of the case, or absent where `!` stands
+//! before its name; otherwise none of them may be there. What the run prints stands in front of the
+//! line that tells how the case ended.
 #![tactic(auto)]
 
 use exb_run::run_armed;

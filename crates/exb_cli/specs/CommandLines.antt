@@ -55,7 +55,8 @@ with_item i is = do
   xs ← is
   Some (x ∷ xs)
 
--- what words say, in order. Behind `--` each word is a name, and `--seed` takes the next word as its number, whatever it is
+-- what words say, in order. Behind `--` each word is a name, and `--seed` takes the next word as its number, whatever
+-- it is
 unfoldable pub items_of : List (List ℕ) → Option (List Item)
 items_of [] = Some []
 items_of (w ∷ []) = if bytes_eq w (codes "--") then Some [] else with_item (item_of w) (Some [])

@@ -9,7 +9,8 @@ SaySame is js = (f : Item → ℕ) → sum_by f is ≡ sum_by f js
 
 abbrev pub OrderIsFree : Type 0
 OrderIsFree =
-    (first : List ℕ) (ws vs : List (List ℕ)) (is js : List Item) → items_of ws ≡ Some is → items_of vs ≡ Some js → SaySame is js → words_of (first ∷ ws) ≡ words_of (first ∷ vs)
+    (first : List ℕ) (ws vs : List (List ℕ)) (is js : List Item) → items_of ws ≡ Some is → items_of vs ≡ Some js
+    → SaySame is js → words_of (first ∷ ws) ≡ words_of (first ∷ vs)
 
 -- ---- behind `--` each word is a name, whatever it is
 abbrev pub DashesEndOptions : Type 0

@@ -25,9 +25,12 @@ nothing_said = record { name = None; options = record { trace = false; counters 
 -- each is said once at most
 abbrev pub with_one : Item → Gathered → Option Gathered
 with_one (Name w) g = if is_some g.name then None else Some (record g { name = Some w })
-with_one Trace g = if g.options.trace then None else Some (record { name = g.name; options = record g.options { trace = true } })
-with_one Counters g = if g.options.counters then None else Some (record { name = g.name; options = record g.options { counters = true } })
-with_one (Seed n) g = if is_some g.options.seed then None else Some (record { name = g.name; options = record g.options { seed = Some n } })
+with_one Trace g = if g.options.trace then None else Some
+    (record { name = g.name; options = record g.options { trace = true } })
+with_one Counters g = if g.options.counters then None else Some
+    (record { name = g.name; options = record g.options { counters = true } })
+with_one (Seed n) g = if is_some g.options.seed then None else Some
+    (record { name = g.name; options = record g.options { seed = Some n } })
 
 unfoldable pub with_all : List Item → Gathered → Option Gathered
 with_all [] g = Some g
@@ -48,4 +51,5 @@ abbrev pub name_from : Gathered → Option (List ℕ)
 name_from g = if (g.options.trace || g.options.counters) || is_some g.options.seed then None else g.name
 
 abbrev pub net_from : Gathered → Option Ask
-net_from g = if g.options.trace || is_some g.options.seed then None else option_map (λ w. Net w g.options.counters) g.name
+net_from g = if g.options.trace || is_some g.options.seed then None else option_map (λ w. Net w g.options.counters)
+    g.name

@@ -9,7 +9,8 @@ use crate::parser::{ParserState, read};
 
 /// `run`: one name, and each option once at most.
 fn run(words: &[String]) -> Option<Invocation<'_>>
-    ensures { option_map ask_of result ≡ option_and_then run_of (items_of (map string_bytes words.now)) }
+    ensures { option_map ask_of result ≡ option_and_then run_of
+        (items_of (map string_bytes words.now)) }
 {
     let said = read(words)?;
     let topology = said.name?;
@@ -34,27 +35,31 @@ fn name_alone(said: ParserState<'_>) -> Option<&str>
 
 /// One name alone.
 fn only_name(words: &[String]) -> Option<&str>
-    ensures { option_map (λ w. w.now) result ≡ option_and_then name_alone (items_of (map string_bytes words.now)) }
+    ensures { option_map (λ w. w.now) result ≡ option_and_then name_alone
+        (items_of (map string_bytes words.now)) }
 {
     name_alone(read(words)?)
 }
 
 fn check(words: &[String]) -> Option<Invocation<'_>>
-    ensures { option_map ask_of result ≡ option_and_then check_of (items_of (map string_bytes words.now)) }
+    ensures { option_map ask_of result ≡ option_and_then check_of
+        (items_of (map string_bytes words.now)) }
 {
     let topology = only_name(words)?;
     Some(Invocation::Check { topology })
 }
 
 fn make(words: &[String]) -> Option<Invocation<'_>>
-    ensures { option_map ask_of result ≡ option_and_then make_of (items_of (map string_bytes words.now)) }
+    ensures { option_map ask_of result ≡ option_and_then make_of
+        (items_of (map string_bytes words.now)) }
 {
     let number = number(only_name(words)?.as_bytes())?;
     Some(Invocation::Make { number })
 }
 
 fn audit(words: &[String]) -> Option<Invocation<'_>>
-    ensures { option_map ask_of result ≡ option_and_then audit_of (items_of (map string_bytes words.now)) }
+    ensures { option_map ask_of result ≡ option_and_then audit_of
+        (items_of (map string_bytes words.now)) }
 {
     let topology = only_name(words)?;
     Some(Invocation::Audit { topology })
@@ -78,12 +83,14 @@ fn named_net(said: ParserState<'_>) -> Option<Invocation<'_>>
 
 /// `net`: one name, and counters once at most.
 fn net(words: &[String]) -> Option<Invocation<'_>>
-    ensures { option_map ask_of result ≡ option_and_then net_of (items_of (map string_bytes words.now)) }
+    ensures { option_map ask_of result ≡ option_and_then net_of
+        (items_of (map string_bytes words.now)) }
 {
     named_net(read(words)?)
 }
 
-/// What the words ask for, without the program's name before them. None exactly where they aren't accepted.
+/// What the words ask for, without the program's name before them. None exactly where they aren't
+/// accepted.
 pub fn accept(words: &[String]) -> Option<Invocation<'_>>
     ensures { option_map ask_of result ≡ words_of (map string_bytes words.now) }
 {

@@ -1,9 +1,9 @@
-//! What holds of the words that are accepted, in other words than those of their definition. Each law is a function that does
-//! nothing and ensures it.
+//! What holds of the words that are accepted, in other words than those of their definition. Each
+//! law is a function that does nothing and ensures it.
 ghost use Rattle.exb_cli.specs.Laws.{OrderIsFree, DashesEndOptions, WrittenIsRead};
 
-/// What is asked for is told by the first word, and by what the others say and how often, not by their order: options may stand
-/// anywhere around the name.
+/// What is asked for is told by the first word, and by what the others say and how often, not by
+/// their order: options may stand anywhere around the name.
 pub fn order_is_free()
     ensures { OrderIsFree }
 {}

@@ -1,6 +1,7 @@
-//! The words of the command line. `accept` says what they ask for, exactly as it is defined, or that they are none of the
-//! program's; it makes no copy of a word. `OutputKinds` says which kinds of files a run makes that was asked for so, and in which order they
-//! stand behind its captures. It stands on `exb_journal`, which names the kinds.
+//! The words of the command line. `accept` says what they ask for, exactly as it is defined, or
+//! that they are none of the program's; it makes no copy of a word. `OutputKinds` says which kinds
+//! of files a run makes that was asked for so, and in which order they stand behind its captures.
+//! It stands on `exb_journal`, which names the kinds.
 #![tactic(auto)]
 
 mod command_line;

@@ -12,7 +12,8 @@ use std::marker::Model;
 /// How many kinds there are, captures among them.
 const KINDS: usize = 4;
 
-/// What a run is asked for, with the kinds of files behind the captures that it makes, in their order.
+/// What a run is asked for, with the kinds of files behind the captures that it makes, in their
+/// order.
 #[derive(Drop)]
 pub struct OutputKinds {
     options: Options,
@@ -30,7 +31,8 @@ impl Model for OutputKinds {
 
     ghost view = { λ k. k.options };
 
-    ghost invariant = { λ k. (k.behind.items ≡ kinds_behind k.options) × ArePlaces (kinds_behind k.options) k.places };
+    ghost invariant = { λ k. (k.behind.items ≡ kinds_behind k.options)
+        × ArePlaces (kinds_behind k.options) k.places };
 }
 
 /// The number of a kind.

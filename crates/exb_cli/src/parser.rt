@@ -70,7 +70,8 @@ fn with_counters(said: ParserState<'_>) -> Option<ParserState<'_>>
 }
 
 fn with_seed<'a>(said: ParserState<'a>, word: &[u8]) -> Option<ParserState<'a>>
-    ensures { option_map gathered_of result ≡ option_and_then (λ n. with_one (Seed n) (gathered_of said.entry)) (number_in word.now) }
+    ensures { option_map gathered_of result ≡ option_and_then (λ n.
+        with_one (Seed n) (gathered_of said.entry)) (number_in word.now) }
 {
     let number = number(word)?;
     let Options {
@@ -104,7 +105,8 @@ fn is_dashed(word: &[u8]) -> bool
 /// One word more, where options are still read; neither `--` nor `--seed`.
 #[tactic(auto, unfolding(crate::specs::CommandLines::item_of))]
 fn with_word<'a>(said: ParserState<'a>, word: &'a str) -> Option<ParserState<'a>>
-    ensures { option_map gathered_of result ≡ option_and_then (λ i. with_one i (gathered_of said.entry)) (item_of word.now) }
+    ensures { option_map gathered_of result ≡ option_and_then (λ i.
+        with_one i (gathered_of said.entry)) (item_of word.now) }
 {
     if word == "--trace" {
         return with_trace(said);
@@ -126,7 +128,8 @@ fn with_word<'a>(said: ParserState<'a>, word: &'a str) -> Option<ParserState<'a>
 
 /// Names alone.
 fn with_names<'a>(mut said: ParserState<'a>, words: &'a [String]) -> Option<ParserState<'a>>
-    ensures { option_map gathered_of result ≡ with_all (map Name (map string_bytes words.now)) (gathered_of said.entry) }
+    ensures { option_map gathered_of result ≡ with_all (map Name (map string_bytes words.now))
+        (gathered_of said.entry) }
 {
     for word in words {
         said = with_name(said, word.as_str())?;

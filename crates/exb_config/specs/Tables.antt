@@ -8,7 +8,8 @@ use Rattle.exb_model.specs.Configuration.{Bridge}
 use Rattle.exb_config.specs.declared.members.Members.{Members}
 use Rattle.exb_config.specs.Rows.{member_of, rule_of}
 
--- the present ports, the members of each VLAN that has any at the place of its number, a rule for each port, and the static entries
+-- the present ports, the members of each VLAN that has any at the place of its number, a rule for each port, and the
+-- static entries
 pub record Tables : Type 0 where
   pub present : PortSet
   pub vlans : List (Option Members)

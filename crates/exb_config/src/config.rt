@@ -56,12 +56,17 @@ impl Model for Config {
 
     ghost Value = { Tables };
 
-    ghost view = { λ c. record { present = c.present; vlans = c.vlans; rules = c.rules; statics = c.statics } };
+    ghost view = { λ c. record {
+      present = c.present;
+      vlans = c.vlans;
+      rules = c.rules;
+      statics = c.statics;
+    } };
 }
 
 impl Config {
-    /// Exactly these ports are present; PVID 1, all types, no filtering, no port isolated, no member and no
-    /// entry.
+    /// Exactly these ports are present; PVID 1, all types, no filtering, no port isolated, no
+    /// member and no entry.
     pub fn new(alloc: Global, present: &PortSet) -> Result<Config, NoMemory>
         ensures { IfOk result (λ made. bridge_of made ≡ empty_bridge (port_in present.now)) }
     {
@@ -169,7 +174,8 @@ impl Config {
 
     /// The members of a VLAN, present or not; None exactly where the VLAN isn't in the table.
     pub fn members(&self, vid: Vid) -> Option<&Members>
-        ensures kinds { (q : ℕ) → kind_by (option_copied result) q ≡ (bridge_of self.now).member vid q }
+        ensures kinds { (q : ℕ) → kind_by (option_copied result) q
+            ≡ (bridge_of self.now).member vid q }
         ensures known { is_some (option_copied result) ≡ is_known (bridge_of self.now) vid }
     {
         self.vlans.row(vid)
@@ -188,7 +194,8 @@ impl Config {
     #[tactic(auto, unfolding(crate::specs::Tables::bridge_of))]
     pub fn isolated_mask(&self, device: u8) -> u64
         requires { device < 65 }
-        ensures { result ≡ bits_of (λ j. ((bridge_of self.now).rule (64 * device + j)).isolated) 64 }
+        ensures { result ≡ bits_of (λ j. ((bridge_of self.now).rule (64 * device + j)).isolated)
+            64 }
     {
         self.rules.isolated_mask(device)
     }
@@ -201,15 +208,18 @@ impl Config {
         self.rules.isolated()
     }
 
-    /// The ports of the static entry for an address in a VLAN; None exactly where there is no such entry.
+    /// The ports of the static entry for an address in a VLAN; None exactly where there is no such
+    /// entry.
     #[tactic(auto, unfolding(crate::specs::Tables::bridge_of))]
     pub fn entry(&self, vid: Vid, address: Mac) -> Option<&PortSet>
-        ensures { option_copied result ≡ option_map (λ e. e.ports) (static_for (bridge_of self.now).statics vid address.0) }
+        ensures { option_copied result ≡ option_map (λ e. e.ports)
+            (static_for (bridge_of self.now).statics vid address.0) }
     {
         self.statics.find(vid, address)
     }
 
-    /// The static entry at a place in their order, counted from 0; None exactly where there is none at it.
+    /// The static entry at a place in their order, counted from 0; None exactly where there is none
+    /// at it.
     #[tactic(auto, unfolding(crate::specs::Tables::bridge_of))]
     pub fn static_at(&self, at: u64) -> Option<StaticAt>
         ensures { result ≡ slice_get (bridge_of self.now).statics at }
@@ -217,7 +227,8 @@ impl Config {
         self.statics.at(at as usize)
     }
 
-    /// The VLAN of the static entry at a place in their order, counted from 0; None exactly where there is none at it.
+    /// The VLAN of the static entry at a place in their order, counted from 0; None exactly where
+    /// there is none at it.
     #[tactic(auto, unfolding(crate::specs::Tables::bridge_of))]
     #[inline(always)]
     pub fn static_vid(&self, at: u64) -> Option<Vid>
@@ -229,7 +240,8 @@ impl Config {
     /// The present members of a VLAN in a kind, among some ports.
     #[tactic(auto, unfolding(crate::specs::Tables::bridge_of))]
     pub fn part(&self, vid: Vid, among: &PortSet, kind: Kind) -> PortSet
-        ensures { (q : ℕ) → port_in result q ≡ ((bridge_of self.now).present q && port_in among.now q
+        ensures { (q : ℕ) → port_in result q
+            ≡ ((bridge_of self.now).present q && port_in among.now q
             && is_kind kind ((bridge_of self.now).member vid q)) }
     {
         let members = self.vlans.members(vid).of_kind(kind);
@@ -237,14 +249,16 @@ impl Config {
     }
 
     fn set_vlan(&mut self, vid: Vid, tagged: PortSet, untagged: PortSet) -> Result<(), NoMemory>
-        ensures ok { OnOk result (bridge_of self.new ≡ after (Command.Vlan vid tagged untagged) (bridge_of self.old)) }
+        ensures ok { OnOk result (bridge_of self.new ≡ after (Command.Vlan vid tagged untagged)
+            (bridge_of self.old)) }
         ensures err { OnErr result (self.new ≡ self.old) }
     {
         self.vlans.put(vid, Members { tagged, untagged })
     }
 
     fn set_member(&mut self, vid: Vid, port: PortId, kind: Kind) -> Result<(), NoMemory>
-        ensures ok { OnOk result (bridge_of self.new ≡ after (Command.Member vid port kind) (bridge_of self.old)) }
+        ensures ok { OnOk result (bridge_of self.new ≡ after (Command.Member vid port kind)
+            (bridge_of self.old)) }
         ensures err { OnErr result (self.new ≡ self.old) }
     {
         let members = self.vlans.members(vid).with(port, kind);
@@ -252,7 +266,8 @@ impl Config {
     }
 
     fn unset_member(&mut self, vid: Vid, port: PortId) -> Result<(), NoMemory>
-        ensures ok { OnOk result (bridge_of self.new ≡ after (Command.Unmember vid port) (bridge_of self.old)) }
+        ensures ok { OnOk result (bridge_of self.new ≡ after (Command.Unmember vid port)
+            (bridge_of self.old)) }
         ensures err { OnErr result (self.new ≡ self.old) }
     {
         let members = self.vlans.members(vid).without(port);
@@ -293,7 +308,8 @@ impl Config {
 
     #[tactic(auto, unfolding(crate::specs::Tables::bridge_of))]
     fn set_static(&mut self, entry: StaticAt) -> Result<(), NoMemory>
-        ensures ok { OnOk result (bridge_of self.new ≡ after (Command.Static entry.vid entry.address entry.ports) (bridge_of self.old)) }
+        ensures ok { OnOk result (bridge_of self.new
+            ≡ after (Command.Static entry.vid entry.address entry.ports) (bridge_of self.old)) }
         ensures err { OnErr result (self.new ≡ self.old) }
     {
         self.statics.put(entry)

@@ -15,7 +15,8 @@ use std::alloc::Global;
 /// Does commands in order.
 fn apply_all(config: &mut Config, commands: &[Command]) -> Result<(), NoMemory>
     requires { HasPvids (bridge_of config.old) }
-    ensures config { OnOk result (bridge_of config.new ≡ fold (λ k c. after c k) (bridge_of config.old) commands.now) }
+    ensures config { OnOk result (bridge_of config.new
+        ≡ fold (λ k c. after c k) (bridge_of config.old) commands.now) }
     ensures pvids { OnOk result (HasPvids (bridge_of config.new)) }
 {
     for command in commands {
@@ -25,8 +26,8 @@ fn apply_all(config: &mut Config, commands: &[Command]) -> Result<(), NoMemory>
 }
 
 impl Config {
-    /// The configuration with which the bridge of a setup begins, where this is the setup's tree: the bridge's
-    /// own external ports are present, and the commands of the start are done.
+    /// The configuration with which the bridge of a setup begins, where this is the setup's tree:
+    /// the bridge's own external ports are present, and the commands of the start are done.
     #[tactic(auto, unfolding(exb_model::specs::Setup::start_of))]
     pub fn first(alloc: Global, tree: &Tree, setup: &Setup) -> Result<Config, NoMemory>
         requires { tree.now ≡ shape_of setup.now }

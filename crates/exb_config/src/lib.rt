@@ -1,7 +1,8 @@
-//! The configuration of the bridge (IEEE 802.1Q): which ports are present, the members of each VLAN, the
-//! rules of each port, and the static entries in their order. Upwards it promises that it is the
-//! configuration that the commands leave, and that each look-up answers by it, without a walk through other
-//! VLANs, ports or entries. It stands on `exb_model`, and on `indexmap` for its tables.
+//! The configuration of the bridge (IEEE 802.1Q): which ports are present, the members of each
+//! VLAN, the rules of each port, and the static entries in their order. Upwards it promises that it
+//! is the configuration that the commands leave, and that each look-up answers by it, without a
+//! walk through other VLANs, ports or entries. It stands on `exb_model`, and on `indexmap` for its
+//! tables.
 #![tactic(auto)]
 
 pub mod config;

@@ -75,7 +75,8 @@ impl Members {
 
     /// The ports that are members of a kind.
     pub fn of_kind(&self, kind: Kind) -> PortSet
-        ensures { (q : ℕ) → port_in result q ≡ is_kind kind (kind_in self.now.tagged self.now.untagged q) }
+        ensures { (q : ℕ) → port_in result q
+            ≡ is_kind kind (kind_in self.now.tagged self.now.untagged q) }
     {
         match kind {
             Kind::Tagged => self.tagged.except(&self.untagged),
@@ -86,7 +87,8 @@ impl Members {
     /// The members of a kind that a device has, 0 for the bridge: bit k - 1 is its port k.
     pub fn mask(&self, kind: Kind, device: u8) -> u64
         requires { device < 65 }
-        ensures { result ≡ bits_of (λ j. is_kind kind (kind_in self.now.tagged self.now.untagged (64 * device + j))) 64 }
+        ensures { result ≡ bits_of (λ j.
+            is_kind kind (kind_in self.now.tagged self.now.untagged (64 * device + j))) 64 }
     {
         let untagged = self.untagged.mask(device);
         match kind {
@@ -95,10 +97,12 @@ impl Members {
         }
     }
 
-    /// Whether a device may have a member, 0 for the bridge. Where it is false, no port of the device is a member.
+    /// Whether a device may have a member, 0 for the bridge. Where it is false, no port of the
+    /// device is a member.
     pub fn is_on(&self, device: u8) -> bool
         requires { device < 65 }
-        ensures { result ≡ false → (q : ℕ) → q / 64 ≡ device → kind_in self.now.tagged self.now.untagged q ≡ None }
+        ensures { result ≡ false → (q : ℕ) → q / 64 ≡ device
+            → kind_in self.now.tagged self.now.untagged q ≡ None }
     {
         self.tagged.words[device as usize] != 0 || self.untagged.words[device as usize] != 0
     }

@@ -51,7 +51,8 @@ impl StaticEntries {
 
     /// The ports of the entry for an address in a VLAN.
     pub fn find(&self, vid: Vid, address: Mac) -> Option<&PortSet>
-        ensures { option_copied result ≡ option_map (λ e. e.ports) (static_for self.now vid address.0) }
+        ensures { option_copied result ≡ option_map (λ e. e.ports)
+            (static_for self.now vid address.0) }
     {
         // Most configurations have no entry, and then nothing is hashed.
         if self.entries.is_empty() {

@@ -15,11 +15,11 @@ use std::marker::Model;
 /// The members of a VLAN, if it has any.
 #[derive(Drop)]
 pub struct VlanRow {
-    /// The devices that may have a member, by their bits: at a device without one a port is looked up, in VLAN after VLAN, with no look
-    /// at their members.
+    /// The devices that may have a member, by their bits: at a device without one a port is looked
+    /// up, in VLAN after VLAN, with no look at their members.
     spread: u64,
-    /// The places at which some device may have a member, by their bits: so a port of a device that is marked is mostly looked up without
-    /// a look at the members too.
+    /// The places at which some device may have a member, by their bits: so a port of a device that
+    /// is marked is mostly looked up without a look at the members too.
     places: u64,
     members: Option<Box<Members>>,
 }
@@ -34,7 +34,8 @@ impl Model for VlanRow {
 
     ghost view = { λ r. boxed r.members };
 
-    ghost invariant = { λ r. IsKnownBy (boxed r.members) × IsSpread r.spread (boxed r.members) × IsPlaced r.places (boxed r.members) };
+    ghost invariant = { λ r. IsKnownBy (boxed r.members) × IsSpread r.spread (boxed r.members)
+        × IsPlaced r.places (boxed r.members) };
 }
 
 /// Marks a device; 0 and 64 have the same bit.
@@ -54,7 +55,8 @@ fn is_marked(spread: u64, device: u8) -> bool
 
 /// The devices that have a member.
 fn spread_of(members: &Members) -> u64
-    ensures { (q : ℕ) → is_marked result (q / 64) ≡ false → kind_in members.now.tagged members.now.untagged q ≡ None }
+    ensures { (q : ℕ) → is_marked result (q / 64) ≡ false
+        → kind_in members.now.tagged members.now.untagged q ≡ None }
 {
     let mut spread = 0;
     for device in 0..65u8 {
@@ -67,7 +69,8 @@ fn spread_of(members: &Members) -> u64
 
 /// The places at which a device has a member.
 fn places_of(members: &Members) -> u64
-    ensures { (q : ℕ) → is_marked result (q % 64) ≡ false → kind_in members.now.tagged members.now.untagged q ≡ None }
+    ensures { (q : ℕ) → is_marked result (q % 64) ≡ false
+        → kind_in members.now.tagged members.now.untagged q ≡ None }
 {
     let mut places = 0;
     for device in 0..65usize {
@@ -90,7 +93,8 @@ impl VlanRow {
 
     /// The row of a VLAN with these members.
     pub fn new(alloc: Global, members: &Members) -> Result<VlanRow, NoMemory>
-        ensures { IfOk result (λ row. (q : ℕ) → kind_by row q ≡ kind_in members.now.tagged members.now.untagged q) }
+        ensures { IfOk result (λ row. (q : ℕ) → kind_by row q
+            ≡ kind_in members.now.tagged members.now.untagged q) }
     {
         if members.is_empty() {
             return Ok(VlanRow::none());
@@ -128,7 +132,8 @@ impl VlanRow {
     /// The members; None exactly where there is none.
     pub fn members(&self) -> Option<&Members>
         ensures row { option_copied result ≡ self.now }
-        ensures known { is_some (option_copied result) ≡ list_any (λ q. is_some (kind_by self.now q)) all_ports }
+        ensures known { is_some (option_copied result)
+            ≡ list_any (λ q. is_some (kind_by self.now q)) all_ports }
     {
         match &self.members {
             Some(members) => Some(members.as_ref()),

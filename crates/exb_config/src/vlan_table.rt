@@ -69,7 +69,8 @@ impl VlanTable {
     /// The row of a VLAN; None exactly where it has no member.
     pub fn row(&self, vid: Vid) -> Option<&Members>
         ensures kinds { (q : ℕ) → kind_by (option_copied result) q ≡ member_of self.now vid q }
-        ensures known { is_some (option_copied result) ≡ list_any (λ q. is_some (member_of self.now vid q)) all_ports }
+        ensures known { is_some (option_copied result)
+            ≡ list_any (λ q. is_some (member_of self.now vid q)) all_ports }
     {
         self.rows[vid.number() as usize].members()
     }
@@ -101,7 +102,8 @@ impl VlanTable {
     /// Sets the members of a VLAN. It has a row exactly while it has a member.
     pub fn put(&mut self, vid: Vid, members: Members) -> Result<(), NoMemory>
         ensures ok { OnOk result ((w q : ℕ) → member_of self.new w q
-            ≡ (if w == vid then kind_in members.tagged members.untagged q else member_of self.old w q)) }
+            ≡ (if w == vid then kind_in members.tagged members.untagged q else member_of self.old w
+            q)) }
         ensures err { OnErr result (self.new ≡ self.old) }
     {
         let row = VlanRow::new(*self.rows.allocator(), &members)?;

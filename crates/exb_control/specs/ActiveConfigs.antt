@@ -27,7 +27,13 @@ pub record ActiveConfig : Type 0 where
 
 abbrev pub active_config_of : Shape → ℕ → ℕ → Tables → Spaces → Stage → ActiveConfig
 active_config_of t channels groups config spaces stage =
-    record { shape = t; limits = record { channels = channels; groups = groups }; config = config; spaces = spaces; stage = stage }
+    record {
+      shape = t;
+      limits = record { channels = channels; groups = groups };
+      config = config;
+      spaces = spaces;
+      stage = stage;
+    }
 
 -- ---- what is in force
 abbrev pub bridge_in : ActiveConfig → Bridge

@@ -110,7 +110,8 @@ after_beat (Some a) askers = put a.extender (beaten (askers a.extender)).0 asker
 
 abbrev pub messages_at_beat : Option AskAt → (ℕ → AskerState) → List Asked
 messages_at_beat None askers = []
-messages_at_beat (Some a) askers = messages_due a.extender (beaten (askers a.extender)).1 (message_again (askers a.extender))
+messages_at_beat (Some a) askers = messages_due a.extender (beaten (askers a.extender)).1
+    (message_again (askers a.extender))
 
 -- the message that a beat gives
 abbrev pub due : Bool → Option Message → Option Message

@@ -30,8 +30,8 @@ use std::marker::Model;
 use std::mem;
 use std::rc::Rc;
 
-/// The controlling bridge's configuration, the channels and groups that it holds for its extenders, and the
-/// change at work, if there is one.
+/// The controlling bridge's configuration, the channels and groups that it holds for its extenders,
+/// and the change at work, if there is one.
 pub struct ActiveConfig {
     alloc: Global,
     /// Copies share it.
@@ -43,7 +43,8 @@ pub struct ActiveConfig {
     /// The configuration in force.
     config: Config,
     spaces: Spaces,
-    /// How often the set of each group is a part of the configuration at the end of the change at work.
+    /// How often the set of each group is a part of the configuration at the end of the change at
+    /// work.
     uses: GroupUses,
     stage: Stage,
 }
@@ -69,9 +70,11 @@ impl Model for ActiveConfig {
 
     ghost Value = { ActiveConfig };
 
-    ghost view = { λ f. active_config_of f.tree.value f.channels f.groups f.config f.spaces f.stage };
+    ghost view = { λ f. active_config_of f.tree.value f.channels f.groups f.config f.spaces
+        f.stage };
 
-    ghost invariant = { λ f. IsKept (active_config_of f.tree.value f.channels f.groups f.config f.spaces f.stage) f.uses };
+    ghost invariant = { λ f. IsKept (active_config_of f.tree.value f.channels f.groups f.config
+        f.spaces f.stage) f.uses };
 }
 
 // A tree that copies share.
@@ -87,7 +90,8 @@ fn shared(alloc: Global, tree: Tree) -> Result<Rc<Tree>, NoMemory>
 // Does what a job does to the configuration.
 fn apply_job(config: &mut Config, job: &Job) -> Result<(), NoMemory>
     requires { HasPvids (bridge_of config.old) }
-    ensures config { OnOk result (bridge_of config.new ≡ bridge_after job.now (bridge_of config.old)) }
+    ensures config { OnOk result (bridge_of config.new
+        ≡ bridge_after job.now (bridge_of config.old)) }
     ensures pvids { HasPvids (bridge_of config.new) }
     ensures err { OnErr result (config.new ≡ config.old) }
 {
@@ -101,7 +105,8 @@ fn apply_job(config: &mut Config, job: &Job) -> Result<(), NoMemory>
 // Lets the change at work take effect, if it hasn't yet.
 fn take_effect(stage: &Stage, config: &mut Config) -> Result<(), NoMemory>
     requires { HasPvids (bridge_of config.old) }
-    ensures config { OnOk result (bridge_of config.new ≡ bridge_at_end stage.now (bridge_of config.old)) }
+    ensures config { OnOk result (bridge_of config.new
+        ≡ bridge_at_end stage.now (bridge_of config.old)) }
     ensures pvids { HasPvids (bridge_of config.new) }
     ensures err { OnErr result (config.new ≡ config.old) }
 {
@@ -114,7 +119,8 @@ fn take_effect(stage: &Stage, config: &mut Config) -> Result<(), NoMemory>
 // A copy of the configuration, in which the change at work has taken effect.
 fn config_at_end(stage: &Stage, config: &Config) -> Result<Config, NoMemory>
     requires { HasPvids (bridge_of config.now) }
-    ensures config { IfOk result (λ made. bridge_of made ≡ bridge_at_end stage.now (bridge_of config.now)) }
+    ensures config { IfOk result (λ made. bridge_of made
+        ≡ bridge_at_end stage.now (bridge_of config.now)) }
     ensures pvids { IfOk result (λ made. HasPvids (bridge_of made)) }
 {
     let mut made = config.copy()?;
@@ -125,7 +131,8 @@ fn config_at_end(stage: &Stage, config: &Config) -> Result<Config, NoMemory>
 // Frees the numbers of the change at work, if there is one.
 fn free_numbers(stage: &Stage, tree: &Tree, spaces: &mut Spaces)
     requires { (l : Limits) × HasSpaces tree.now l spaces.old }
-    ensures held { in_spaces tree.now (held_by spaces.new) ≡ held_at_end stage.now (in_spaces tree.now (held_by spaces.old)) }
+    ensures held { in_spaces tree.now (held_by spaces.new)
+        ≡ held_at_end stage.now (in_spaces tree.now (held_by spaces.old)) }
     ensures alike { IsAlike spaces.old spaces.new }
 {
     match stage {
@@ -139,14 +146,15 @@ impl ActiveConfig {
     ghost use Rattle.exb_control.specs.ActiveConfigs.{IsActiveConfig, IsPrepared, IsInForce, bridge_in, held_in, stage_of, cause_of, held_after};
     ghost use Rattle.exb_control_spec.specs.JobsOfTree.{Fits};
 
-    /// The bridge of a setup: its local external ports are present, and the commands of its start are applied. The
-    /// cascade ports of its extenders have channels, in port order.
+    /// The bridge of a setup: its local external ports are present, and the commands of its start
+    /// are applied. The cascade ports of its extenders have channels, in port order.
     pub fn new(alloc: Global, setup: &Setup) -> Result<ActiveConfig, NoMemory>
         requires { IsValid setup.now }
         ensures shape { IfOk result (λ made. made.shape ≡ shape_of setup.now) }
         ensures limits { IfOk result (λ made. made.limits ≡ limits_of setup.now) }
         ensures config { IfOk result (λ made. bridge_in made ≡ start_of setup.now) }
-        ensures held { IfOk result (λ made. held_in made ≡ first_held (shape_of setup.now) (limits_of setup.now)) }
+        ensures held { IfOk result (λ made. held_in made ≡ first_held (shape_of setup.now)
+            (limits_of setup.now)) }
         ensures stage { IfOk result (λ made. made.stage ≡ Stage.AtRest) }
     {
         let tree = shared(alloc, Tree::new(alloc, setup)?)?;
@@ -165,14 +173,20 @@ impl ActiveConfig {
         })
     }
 
-    /// Decides a job whose turn has come: says why it is refused, or claims the numbers of its change, which is then at
-    /// work. Refused or out of memory nothing changes.
+    /// Decides a job whose turn has come: says why it is refused, or claims the numbers of its
+    /// change, which is then at work. Refused or out of memory nothing changes.
     pub fn start(&mut self, job: &Job) -> Result<Option<Cause>, NoMemory>
         requires rest { self.old.stage ≡ Stage.AtRest }
         requires fits { Fits self.old.shape job.now }
-        ensures cause { IfOk result (λ made. made ≡ cause_of (decide self.old.shape self.old.limits (bridge_in self.old) (held_in self.old) job.now)) }
-        ensures held { OnOk result (held_in self.new ≡ held_after (decide self.old.shape self.old.limits (bridge_in self.old) (held_in self.old) job.now) (held_in self.old)) }
-        ensures stage { OnOk result (self.new.stage ≡ stage_of job.now (decide self.old.shape self.old.limits (bridge_in self.old) (held_in self.old) job.now)) }
+        ensures cause { IfOk result (λ made. made
+            ≡ cause_of (decide self.old.shape self.old.limits (bridge_in self.old)
+            (held_in self.old) job.now)) }
+        ensures held { OnOk result (held_in self.new
+            ≡ held_after (decide self.old.shape self.old.limits (bridge_in self.old)
+            (held_in self.old) job.now) (held_in self.old)) }
+        ensures stage { OnOk result (self.new.stage
+            ≡ stage_of job.now (decide self.old.shape self.old.limits (bridge_in self.old)
+            (held_in self.old) job.now)) }
         ensures config { self.new.config ≡ self.old.config }
         ensures err_held { OnErr result (held_in self.new ≡ held_in self.old) }
         ensures err_stage { OnErr result (self.new.stage ≡ Stage.AtRest) }
@@ -199,8 +213,10 @@ impl ActiveConfig {
     /// The change takes effect. Out of memory nothing changes.
     pub fn commit(&mut self) -> Result<(), NoMemory>
         requires { IsPrepared self.old.stage }
-        ensures stage { OnOk result ((j : Job) (x : Change) → self.old.stage ≡ Stage.Prepared j x → self.new.stage ≡ Stage.InForce j x) }
-        ensures config { OnOk result ((j : Job) (x : Change) → self.old.stage ≡ Stage.Prepared j x → bridge_in self.new ≡ bridge_after j (bridge_in self.old)) }
+        ensures stage { OnOk result ((j : Job) (x : Change) → self.old.stage ≡ Stage.Prepared j x
+            → self.new.stage ≡ Stage.InForce j x) }
+        ensures config { OnOk result ((j : Job) (x : Change) → self.old.stage ≡ Stage.Prepared j x
+            → bridge_in self.new ≡ bridge_after j (bridge_in self.old)) }
         ensures held { held_in self.new ≡ held_in self.old }
         ensures err { OnErr result (self.new ≡ self.old) }
         ensures shape { self.new.shape ≡ self.old.shape }
@@ -214,7 +230,8 @@ impl ActiveConfig {
     /// All is answered: the numbers that are no longer needed are free.
     pub fn finish(&mut self)
         requires { IsInForce self.old.stage }
-        ensures held { (j : Job) (x : Change) → self.old.stage ≡ Stage.InForce j x → held_in self.new ≡ release x (held_in self.old) }
+        ensures held { (j : Job) (x : Change) → self.old.stage ≡ Stage.InForce j x
+            → held_in self.new ≡ release x (held_in self.old) }
         ensures stage { self.new.stage ≡ Stage.AtRest }
         ensures config { self.new.config ≡ self.old.config }
         ensures shape { self.new.shape ≡ self.old.shape }
@@ -257,8 +274,10 @@ impl ActiveConfig {
         ensures shape { IfOk result (λ made. made.shape ≡ self.now.shape) }
         ensures limits { IfOk result (λ made. made.limits ≡ self.now.limits) }
         ensures stage { IfOk result (λ made. made.stage ≡ Stage.AtRest) }
-        ensures config { IfOk result (λ made. bridge_in made ≡ bridge_at_end self.now.stage (bridge_in self.now)) }
-        ensures held { IfOk result (λ made. held_in made ≡ held_at_end self.now.stage (held_in self.now)) }
+        ensures config { IfOk result (λ made. bridge_in made
+            ≡ bridge_at_end self.now.stage (bridge_in self.now)) }
+        ensures held { IfOk result (λ made. held_in made ≡ held_at_end self.now.stage
+            (held_in self.now)) }
     {
         let tree = self.tree.clone()?;
         let uses = self.uses.copy()?;

@@ -20,8 +20,8 @@ use exb_model::list::List;
 use exb_model::memory::NoMemory;
 use exb_model::port::PortId;
 
-/// The configuration with the change at work, the place of the outstanding request among those of its phase, and
-/// the sessions.
+/// The configuration with the change at work, the place of the outstanding request among those of
+/// its phase, and the sessions.
 #[derive(Drop)]
 pub(crate) struct ChangeExecutor {
     pub(crate) active: ActiveConfig,
@@ -81,8 +81,10 @@ fn ask_at(
 ) -> Result<bool, NoMemory>
     requires { CanAsk (ask_at active.now.stage place) (askers_of sessions.old) }
     ensures asked { IfOk result (λ done. done ≡ is_some (ask_at active.now.stage place)) }
-    ensures sessions { OnOk result (askers_of sessions.new ≡ after_ask (ask_at active.now.stage place) (askers_of sessions.old)) }
-    ensures asks { OnOk result (asks.new ≡ asks.old ++ messages_for (ask_at active.now.stage place) (askers_of sessions.old)) }
+    ensures sessions { OnOk result (askers_of sessions.new
+        ≡ after_ask (ask_at active.now.stage place) (askers_of sessions.old)) }
+    ensures asks { OnOk result (asks.new ≡ asks.old ++ messages_for (ask_at active.now.stage place)
+        (askers_of sessions.old)) }
 {
     match outstanding(active, place) {
         None => Ok(false),
@@ -139,9 +141,11 @@ fn tell_refusal(job: &Job, cause: Cause, events: &mut List<Event>) -> Result<(),
 
 /// The change at work takes effect: its event, and the port that it makes go down.
 fn tell(stage: &Stage, out: &mut Outbox) -> Result<(), NoMemory>
-    ensures events { OnOk result ((j : Job) (x : Change) → stage.now ≡ Stage.InForce j x → out.new.events ≡ out.old.events ++ committed j) }
+    ensures events { OnOk result ((j : Job) (x : Change) → stage.now ≡ Stage.InForce j x
+        → out.new.events ≡ out.old.events ++ committed j) }
     ensures asks { out.new.asks ≡ out.old.asks }
-    ensures downs { OnOk result ((j : Job) (x : Change) → stage.now ≡ Stage.InForce j x → out.new.downs ≡ out.old.downs ++ downs_of j) }
+    ensures downs { OnOk result ((j : Job) (x : Change) → stage.now ≡ Stage.InForce j x
+        → out.new.downs ≡ out.old.downs ++ downs_of j) }
 {
     match stage {
         Stage::InForce { job, change: _ } => tell_commit(job, out),
@@ -156,7 +160,8 @@ fn clean(core: &mut ChangeExecutor, asks: &mut List<Asked>) -> Result<(), NoMemo
     requires may { MayAsk (length (asks_in core.old.active.stage)) (askers_of core.old.sessions) }
     ensures reached { OnOk result ((f : Front) (events : List Event) (downs : List ℕ) →
         reached (state_in f core.new) events asks.new downs
-        ≡ reached_by (advances core.old.active.stage (asks_in core.old.active.stage) (rest_of f core.old)) events asks.old downs) }
+        ≡ reached_by (advances core.old.active.stage (asks_in core.old.active.stage)
+        (rest_of f core.old)) events asks.old downs) }
     ensures rests { OnOk result (AsksOrRests core.new) }
     ensures shape { core.new.active.shape ≡ core.old.active.shape }
     ensures limits { core.new.active.limits ≡ core.old.active.limits }
@@ -173,10 +178,12 @@ fn clean(core: &mut ChangeExecutor, asks: &mut List<Asked>) -> Result<(), NoMemo
 fn commit(core: &mut ChangeExecutor, out: &mut Outbox) -> Result<(), NoMemory>
     requires stage { IsPrepared core.old.active.stage }
     requires known { AreKnown (asks_after core.old.active.stage) }
-    requires may { MayAsk (length (asks_after core.old.active.stage)) (askers_of core.old.sessions) }
+    requires may { MayAsk (length (asks_after core.old.active.stage))
+        (askers_of core.old.sessions) }
     ensures reached { OnOk result ((f : Front) →
         reached (state_in f core.new) out.new.events out.new.asks out.new.downs
-        ≡ reached_by (commits_at core.old.active.stage (rest_of f core.old)) out.old.events out.old.asks out.old.downs) }
+        ≡ reached_by (commits_at core.old.active.stage (rest_of f core.old)) out.old.events
+        out.old.asks out.old.downs) }
     ensures rests { OnOk result (AsksOrRests core.new) }
     ensures shape { core.new.active.shape ≡ core.old.active.shape }
     ensures limits { core.new.active.limits ≡ core.old.active.limits }
@@ -190,10 +197,12 @@ fn commit(core: &mut ChangeExecutor, out: &mut Outbox) -> Result<(), NoMemory>
 fn end_phase(core: &mut ChangeExecutor, out: &mut Outbox) -> Result<(), NoMemory>
     requires busy { is_at_rest core.old.active.stage ≡ false }
     requires known { AreKnown (asks_after core.old.active.stage) }
-    requires may { MayAsk (length (asks_after core.old.active.stage)) (askers_of core.old.sessions) }
+    requires may { MayAsk (length (asks_after core.old.active.stage))
+        (askers_of core.old.sessions) }
     ensures reached { OnOk result ((f : Front) →
         reached (state_in f core.new) out.new.events out.new.asks out.new.downs
-        ≡ reached_by (advances core.old.active.stage [] (rest_of f core.old)) out.old.events out.old.asks out.old.downs) }
+        ≡ reached_by (advances core.old.active.stage [] (rest_of f core.old)) out.old.events
+        out.old.asks out.old.downs) }
     ensures rests { OnOk result (AsksOrRests core.new) }
     ensures shape { core.new.active.shape ≡ core.old.active.shape }
     ensures limits { core.new.active.limits ≡ core.old.active.limits }
@@ -210,12 +219,15 @@ pub(crate) fn proceed(core: &mut ChangeExecutor, out: &mut Outbox) -> Result<(),
     requires busy { is_at_rest core.old.active.stage ≡ false }
     requires known { AreKnown (drop core.old.place (asks_in core.old.active.stage)) }
     requires after { AreKnown (asks_after core.old.active.stage) }
-    requires may { MayAsk (left_at core.old.active.stage core.old.place) (askers_of core.old.sessions) }
+    requires may { MayAsk (left_at core.old.active.stage core.old.place)
+        (askers_of core.old.sessions) }
     ensures reached { OnOk result ((f : Front) →
         reached (state_in f core.new) out.new.events out.new.asks out.new.downs
-        ≡ reached_by (advances core.old.active.stage (drop core.old.place (asks_in core.old.active.stage)) (rest_of f core.old))
+        ≡ reached_by (advances core.old.active.stage
+        (drop core.old.place (asks_in core.old.active.stage)) (rest_of f core.old))
         out.old.events out.old.asks out.old.downs) }
-    ensures steady { OnOk result ((k : ℕ) → MayAsk (left_at core.old.active.stage core.old.place + k) (askers_of core.old.sessions) →
+    ensures steady { OnOk result ((k : ℕ)
+        → MayAsk (left_at core.old.active.stage core.old.place + k) (askers_of core.old.sessions) →
         IsSteady k (work_at core.new.active.stage core.new.place) (askers_of core.new.sessions)) }
     ensures rests { OnOk result (AsksOrRests core.new) }
     ensures shape { core.new.active.shape ≡ core.old.active.shape }
@@ -234,7 +246,8 @@ pub(crate) fn start(core: &mut ChangeExecutor, job: &Job, out: &mut Outbox) -> R
     requires may { MayAsk (2 ^ 21) (askers_of core.old.sessions) }
     ensures reached { OnOk result ((f : Front) →
         reached (state_in f core.new) out.new.events out.new.asks out.new.downs
-        ≡ reached_by (starts job.now (decide_of core.old.active (bridge_in core.old.active) (held_in core.old.active) job.now) (rest_of f core.old))
+        ≡ reached_by (starts job.now (decide_of core.old.active (bridge_in core.old.active)
+        (held_in core.old.active) job.now) (rest_of f core.old))
         out.old.events out.old.asks out.old.downs) }
     ensures steady { OnOk result ((k : ℕ) → MayAsk (2 ^ 21 + k) (askers_of core.old.sessions) →
         IsSteady k (work_at core.new.active.stage core.new.place) (askers_of core.new.sessions)) }
@@ -254,9 +267,12 @@ pub(crate) fn start(core: &mut ChangeExecutor, job: &Job, out: &mut Outbox) -> R
 
 /// A beat of waiting: at each sixteenth the outstanding request goes out again.
 pub(crate) fn beat(core: &mut ChangeExecutor, asks: &mut List<Asked>) -> Result<(), NoMemory>
-    requires { (a : AskAt) → ask_at core.old.active.stage core.old.place ≡ Some a → a.extender < 65 }
-    ensures sessions { askers_of core.new.sessions ≡ after_beat (ask_at core.old.active.stage core.old.place) (askers_of core.old.sessions) }
-    ensures asks { OnOk result (asks.new ≡ asks.old ++ messages_at_beat (ask_at core.old.active.stage core.old.place) (askers_of core.old.sessions)) }
+    requires { (a : AskAt) → ask_at core.old.active.stage core.old.place ≡ Some a
+        → a.extender < 65 }
+    ensures sessions { askers_of core.new.sessions
+        ≡ after_beat (ask_at core.old.active.stage core.old.place) (askers_of core.old.sessions) }
+    ensures asks { OnOk result (asks.new ≡ asks.old ++ messages_at_beat
+        (ask_at core.old.active.stage core.old.place) (askers_of core.old.sessions)) }
     ensures rest { core.new ≡ record core.old { sessions = core.new.sessions } }
 {
     if let Some(ask) = outstanding(&core.active, core.place) {

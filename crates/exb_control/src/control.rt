@@ -34,8 +34,9 @@ pub enum ControlFault {
     Failed,
 }
 
-/// The controlling bridge's control. A call in which memory runs out leaves it failed, with the tree and the limits that it
-/// had; each later call that can answer so then says that it has failed, and changes nothing.
+/// The controlling bridge's control. A call in which memory runs out leaves it failed, with the
+/// tree and the limits that it had; each later call that can answer so then says that it has
+/// failed, and changes nothing.
 pub struct Control {
     core: ChangeExecutor,
     queue: Queue<Job>,
@@ -89,7 +90,8 @@ impl Control {
         let active = ActiveConfig::new(alloc, setup)?;
         let begun = first_jobs(active.tree(), &mut queue);
         if begun.is_err() {
-            // By a call, since an early end is far longer to prove where it lets an active configuration go.
+            // By a call, since an early end is far longer to prove where it lets an active
+            // configuration go.
             drop(active);
             return Err(NoMemory);
         }
@@ -111,7 +113,8 @@ impl Control {
     pub fn command(&mut self, command: &Command, out: &mut Outbox) -> Result<(), ControlFault>
         requires few { self.old.given < 65536 }
         requires names { NamesExternal self.old.active.shape command.now }
-        ensures ok { OnOk result (IsMoved (ordered (decide_of self.old.active) command.now (state_of self.old)) self.old self.new out.new) }
+        ensures ok { OnOk result (IsMoved (ordered (decide_of self.old.active) command.now
+            (state_of self.old)) self.old self.new out.new) }
         ensures spelled { OnOk result (All (CanBeSpelled self.old.active.shape) out.new.asks) }
         ensures failed { (result ≡ Err ControlFault.Failed) ↔ (self.old.failed ≡ true) }
         ensures memory { OnErr result (self.new.failed ≡ true) }
@@ -143,7 +146,8 @@ impl Control {
     /// An extender is heard.
     pub fn heard(&mut self, extender: u8, out: &mut Outbox) -> Result<(), ControlFault>
         requires { is_extender self.old.active.shape extender ≡ true }
-        ensures ok { OnOk result (IsMoved (heard (decide_of self.old.active) extender (state_of self.old)) self.old self.new out.new) }
+        ensures ok { OnOk result (IsMoved (heard (decide_of self.old.active) extender
+            (state_of self.old)) self.old self.new out.new) }
         ensures spelled { OnOk result (All (CanBeSpelled self.old.active.shape) out.new.asks) }
         ensures failed { (result ≡ Err ControlFault.Failed) ↔ (self.old.failed ≡ true) }
         ensures memory { OnErr result (self.new.failed ≡ true) }
@@ -165,7 +169,8 @@ impl Control {
         Ok(())
     }
 
-    /// A message of the control protocol comes from an extender; says what it is to the session with it.
+    /// A message of the control protocol comes from an extender; says what it is to the session
+    /// with it.
     pub fn answered(
         &mut self,
         extender: u8,
@@ -173,9 +178,11 @@ impl Control {
         out: &mut Outbox,
     ) -> Result<Taken, ControlFault>
         requires { is_extender self.old.active.shape extender ≡ true }
-        ensures ok { OnOk result (IsMoved (answered (decide_of self.old.active) extender message.now (state_of self.old)) self.old self.new out.new) }
+        ensures ok { OnOk result (IsMoved (answered (decide_of self.old.active) extender message.now
+            (state_of self.old)) self.old self.new out.new) }
         ensures spelled { OnOk result (All (CanBeSpelled self.old.active.shape) out.new.asks) }
-        ensures taken { IfOk result (λ taken. taken ≡ (took ((state_of self.old).askers extender) message.now).1) }
+        ensures taken { IfOk result (λ taken. taken
+            ≡ (took ((state_of self.old).askers extender) message.now).1) }
         ensures failed { (result ≡ Err ControlFault.Failed) ↔ (self.old.failed ≡ true) }
         ensures memory { OnErr result (self.new.failed ≡ true) }
         ensures still { self.old.failed ≡ true → IsStill self.old self.new out.new }
@@ -249,10 +256,12 @@ impl Control {
         port_of(&self.core.active, bridge_port, channel)
     }
 
-    /// How many requests and announcements are still to come before all jobs are done: requests that aren't answered,
-    /// and extenders that weren't heard. Where no job waits it needs no memory.
+    /// How many requests and announcements are still to come before all jobs are done: requests
+    /// that aren't answered, and extenders that weren't heard. Where no job waits it needs no
+    /// memory.
     pub fn planned(&self) -> Result<u64, NoMemory>
-        ensures count { IfOk result (λ count. count ≡ planned self.now.active.shape (decide_of self.now.active) (state_of self.now)) }
+        ensures count { IfOk result (λ count. count ≡ planned self.now.active.shape
+            (decide_of self.now.active) (state_of self.now)) }
         ensures none { self.now.failed ≡ false → self.now.queue ≡ [] → is_err result ≡ false }
     {
         if self.failed {
@@ -283,10 +292,11 @@ impl Control {
         self.given
     }
 
-    /// That the serials of all requests stay below 2 to the power of 40, however many changes come, as a fact for
-    /// whoever calls it. It does nothing.
+    /// That the serials of all requests stay below 2 to the power of 40, however many changes come,
+    /// as a fact for whoever calls it. It does nothing.
     pub fn has_low_serials(&self)
-        ensures { self.now.failed ≡ false → (n : ℕ) → ((state_of self.now).askers n).serial < 2 ^ 40 }
+        ensures { self.now.failed ≡ false → (n : ℕ) → ((state_of self.now).askers n).serial
+            < 2 ^ 40 }
     {
         let _ = &self.core;
     }

@@ -92,8 +92,8 @@ fn opening_change(
     })
 }
 
-/// Decides a job: says why it is refused, or claims the numbers of its change. The uses are then those after the job.
-/// Refused or out of memory nothing is claimed, and no use changes.
+/// Decides a job: says why it is refused, or claims the numbers of its change. The uses are then
+/// those after the job. Refused or out of memory nothing is claimed, and no use changes.
 pub(crate) fn decide(
     alloc: Global,
     tree: &Tree,
@@ -103,17 +103,24 @@ pub(crate) fn decide(
     job: &Job,
 ) -> Result<Decision, NoMemory>
     requires limits { (l : Limits) × HasSpaces tree.now l spaces.old × (l.groups ≤ 12288) }
-    requires rows { (k : ℕ) → k < 64 → is_cascade tree.now k ≡ true → length (slice_index_or uses.old k []) ≡ (groups_at spaces.old k).limit }
+    requires rows { (k : ℕ) → k < 64 → is_cascade tree.now k ≡ true
+        → length (slice_index_or uses.old k []) ≡ (groups_at spaces.old k).limit }
     requires held { HoldsNeeded tree.now (bridge_of config.now) (held_by spaces.old) }
     requires counted { IsCounted tree.now (bridge_of config.now) (held_by spaces.old) uses.old }
     requires fits { Fits tree.now job.now }
     ensures decision { (l : Limits) → HasSpaces tree.now l spaces.old
-        → IfOk result (λ made. made ≡ decision_of (decide tree.now l (bridge_of config.now) (held_by spaces.old) job.now)) }
+        → IfOk result (λ made. made ≡ decision_of (decide tree.now l (bridge_of config.now)
+        (held_by spaces.old) job.now)) }
     ensures claimed { (l : Limits) → HasSpaces tree.now l spaces.old
-        → OnOk result (held_by spaces.new ≡ held_after (decide tree.now l (bridge_of config.now) (held_by spaces.old) job.now) (held_by spaces.old)) }
+        → OnOk result (held_by spaces.new
+        ≡ held_after (decide tree.now l (bridge_of config.now) (held_by spaces.old) job.now)
+        (held_by spaces.old)) }
     ensures no_memory { OnErr result (held_by spaces.new ≡ held_by spaces.old) }
-    ensures spaces { (l : Limits) → HasSpaces tree.now l spaces.old → HasSpaces tree.now l spaces.new }
-    ensures counted { IfOk result (λ made. IfDecided made (uses.new ≡ uses.old) (IsCounted tree.now (bridge_after job.now (bridge_of config.now)) (held_by spaces.new) uses.new)) }
+    ensures spaces { (l : Limits) → HasSpaces tree.now l spaces.old
+        → HasSpaces tree.now l spaces.new }
+    ensures counted { IfOk result (λ made. IfDecided made (uses.new ≡ uses.old)
+        (IsCounted tree.now (bridge_after job.now (bridge_of config.now)) (held_by spaces.new)
+        uses.new)) }
     ensures unchanged { OnErr result (uses.new ≡ uses.old) }
     ensures rows { HaveRowsOf uses.old uses.new }
 {

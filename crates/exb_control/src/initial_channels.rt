@@ -16,7 +16,8 @@ use exb_model::tree::Tree;
 use exb_numbers::Spaces;
 use std::alloc::Global;
 
-/// The spaces of the cascade ports of the bridge, in which the cascade ports of extenders have channels.
+/// The spaces of the cascade ports of the bridge, in which the cascade ports of extenders have
+/// channels.
 pub(crate) fn first_spaces(
     alloc: Global,
     tree: &Tree,
@@ -25,8 +26,10 @@ pub(crate) fn first_spaces(
 ) -> Result<Spaces, NoMemory>
     requires channels { HasChannels tree.now (record { channels = channels; groups = groups }) }
     requires groups { groups ≤ 12288 }
-    ensures spaces { IfOk result (λ made. HasSpaces tree.now (record { channels = channels; groups = groups }) made) }
-    ensures held { IfOk result (λ made. in_spaces tree.now (held_by made) ≡ first_held tree.now (record { channels = channels; groups = groups })) }
+    ensures spaces { IfOk result (λ made.
+        HasSpaces tree.now (record { channels = channels; groups = groups }) made) }
+    ensures held { IfOk result (λ made. in_spaces tree.now (held_by made)
+        ≡ first_held tree.now (record { channels = channels; groups = groups })) }
     ensures first { IfOk result (λ made. HoldsFirst tree.now (held_by made)) }
 {
     let mut spaces = Spaces::new(alloc, tree, channels, groups)?;
@@ -34,12 +37,13 @@ pub(crate) fn first_spaces(
     Ok(spaces)
 }
 
-// Gives each cascade port of an extender the lowest free channel of its trunk, in port order. No number is in
-// use before.
+// Gives each cascade port of an extender the lowest free channel of its trunk, in port order. No
+// number is in use before.
 fn claim_all(tree: &Tree, spaces: &mut Spaces)
     requires limits { (l : Limits) × HasSpaces tree.now l spaces.old × HasChannels tree.now l }
     requires none { in_spaces tree.now (held_by spaces.old) ≡ nothing_held }
-    ensures held { (l : Limits) → HasSpaces tree.now l spaces.old → in_spaces tree.now (held_by spaces.new) ≡ first_held tree.now l }
+    ensures held { (l : Limits) → HasSpaces tree.now l spaces.old
+        → in_spaces tree.now (held_by spaces.new) ≡ first_held tree.now l }
     ensures first { HoldsFirst tree.now (held_by spaces.new) }
     ensures alike { IsAlike spaces.old spaces.new }
 {
@@ -70,7 +74,8 @@ fn is_deep(tree: &Tree, port: PortId) -> bool
 fn claim(tree: &Tree, spaces: &mut Spaces, port: PortId)
     requires { CanClaimChannel tree.now spaces.old port }
     ensures held { held_by spaces.new ≡ give_channel tree.now port
-        (free_channel (channel_limit spaces.old (trunk tree.now (port / 64))) (held_by spaces.old) (trunk tree.now (port / 64))) (held_by spaces.old) }
+        (free_channel (channel_limit spaces.old (trunk tree.now (port / 64))) (held_by spaces.old)
+        (trunk tree.now (port / 64))) (held_by spaces.old) }
     ensures alike { IsAlike spaces.old spaces.new }
 {
     let trunk = tree.trunk(port.device());

@@ -13,7 +13,8 @@ use exb_model::tree::Tree;
 /// Puts the automatic ups of an extender at the end of the queue, in port order.
 fn put_ups(tree: &Tree, extender: u8, queue: &mut Queue<Job>) -> Result<(), NoMemory>
     requires { extender < 65 }
-    ensures { OnOk result (queue.new ≡ queue.old ++ map (λ p. Job.AutomaticUp p) (externals_of tree.now extender)) }
+    ensures { OnOk result (queue.new ≡ queue.old ++ map (λ p. Job.AutomaticUp p)
+        (externals_of tree.now extender)) }
 {
     for place in 0..64u8 {
         put_up(tree, PortId::at(extender, place), queue)?;
@@ -32,8 +33,8 @@ fn put_up(tree: &Tree, port: PortId, queue: &mut Queue<Job>) -> Result<(), NoMem
     }
 }
 
-/// The jobs to begin with: for each extender, by depth and number, its opening and then the automatic ups of its
-/// external ports.
+/// The jobs to begin with: for each extender, by depth and number, its opening and then the
+/// automatic ups of its external ports.
 pub(crate) fn first_jobs(tree: &Tree, queue: &mut Queue<Job>) -> Result<(), NoMemory>
     requires { queue.old ≡ [] }
     ensures { OnOk result (queue.new ≡ first_jobs tree.now) }

@@ -1,4 +1,5 @@
-//! Whose turn it is: jobs are started until a request is outstanding, an opening waits, or none is left.
+//! Whose turn it is: jobs are started until a request is outstanding, an opening waits, or none is
+//! left.
 ghost use Rattle.std.specs.Prelude.{◌≡◌, ◌++◌, ◌∷◌, [], ◌+◌, ◌*◌, ◌<◌, ◌^◌, ℕ, OnOk, IfOk, true, false, length};
 ghost use Rattle.exb_model.specs.Setup.{NamesExternal};
 ghost use Rattle.exb_csp.specs.Sessions.AskingEnd.{took};
@@ -29,13 +30,19 @@ fn turn(
     requires fit { AreFit core.old.active.shape queue.old }
     requires may { MayAsk (2 ^ 21 * length queue.old) (askers_of core.old.sessions) }
     ensures ends { IfOk result (λ goes. goes ≡ false → (f : Front) → f.heard ≡ heard.now →
-        reached (state_in (with_queue queue.new f) core.new) out.new.events out.new.asks out.new.downs
-        ≡ reached_by (goes_on (decide_of core.old.active) queue.old (rest_of f core.old)) out.old.events out.old.asks out.old.downs) }
+        reached (state_in (with_queue queue.new f) core.new) out.new.events out.new.asks
+        out.new.downs
+        ≡ reached_by (goes_on (decide_of core.old.active) queue.old (rest_of f core.old))
+        out.old.events out.old.asks out.old.downs) }
     ensures goes { IfOk result (λ goes. goes ≡ true → (f : Front) → f.heard ≡ heard.now →
-        reached_by (goes_on (decide_of core.old.active) queue.new (rest_of f core.new)) out.new.events out.new.asks out.new.downs
-        ≡ reached_by (goes_on (decide_of core.old.active) queue.old (rest_of f core.old)) out.old.events out.old.asks out.old.downs) }
-    ensures steady { OnOk result ((k : ℕ) → MayAsk (2 ^ 21 * length queue.old + k) (askers_of core.old.sessions) →
-        IsSteady (2 ^ 21 * length queue.new + k) (work_at core.new.active.stage core.new.place) (askers_of core.new.sessions)) }
+        reached_by (goes_on (decide_of core.old.active) queue.new (rest_of f core.new))
+        out.new.events out.new.asks out.new.downs
+        ≡ reached_by (goes_on (decide_of core.old.active) queue.old (rest_of f core.old))
+        out.old.events out.old.asks out.old.downs) }
+    ensures steady { OnOk result ((k : ℕ) → MayAsk (2 ^ 21 * length queue.old + k)
+        (askers_of core.old.sessions) →
+        IsSteady (2 ^ 21 * length queue.new + k) (work_at core.new.active.stage core.new.place)
+        (askers_of core.new.sessions)) }
     ensures rests { OnOk result (AsksOrRests core.new) }
     ensures stage { IfOk result (λ goes. goes ≡ true → core.new.active.stage ≡ Stage.AtRest) }
     ensures fit { OnOk result (AreFit core.old.active.shape queue.new) }
@@ -65,10 +72,14 @@ pub(crate) fn go_on(
     requires fit { AreFit core.old.active.shape queue.old }
     requires may { MayAsk (2 ^ 21 * length queue.old) (askers_of core.old.sessions) }
     ensures reached { OnOk result ((f : Front) → f.heard ≡ heard.now →
-        reached (state_in (with_queue queue.new f) core.new) out.new.events out.new.asks out.new.downs
-        ≡ reached_by (goes_on (decide_of core.old.active) queue.old (rest_of f core.old)) out.old.events out.old.asks out.old.downs) }
-    ensures steady { OnOk result ((k : ℕ) → MayAsk (2 ^ 21 * length queue.old + k) (askers_of core.old.sessions) →
-        IsSteady (2 ^ 21 * length queue.new + k) (work_at core.new.active.stage core.new.place) (askers_of core.new.sessions)) }
+        reached (state_in (with_queue queue.new f) core.new) out.new.events out.new.asks
+        out.new.downs
+        ≡ reached_by (goes_on (decide_of core.old.active) queue.old (rest_of f core.old))
+        out.old.events out.old.asks out.old.downs) }
+    ensures steady { OnOk result ((k : ℕ) → MayAsk (2 ^ 21 * length queue.old + k)
+        (askers_of core.old.sessions) →
+        IsSteady (2 ^ 21 * length queue.new + k) (work_at core.new.active.stage core.new.place)
+        (askers_of core.new.sessions)) }
     ensures rests { OnOk result (AsksOrRests core.new) }
     ensures fit { OnOk result (AreFit core.old.active.shape queue.new) }
     ensures shape { core.new.active.shape ≡ core.old.active.shape }
@@ -90,12 +101,17 @@ pub(crate) fn wake(
 ) -> Result<(), NoMemory>
     requires rests { AsksOrRests core.old }
     requires fit { AreFit core.old.active.shape queue.old }
-    requires steady { IsSteady (2 ^ 21 * length queue.old) (work_at core.old.active.stage core.old.place) (askers_of core.old.sessions) }
+    requires steady { IsSteady (2 ^ 21 * length queue.old)
+        (work_at core.old.active.stage core.old.place) (askers_of core.old.sessions) }
     ensures reached { OnOk result ((f : Front) → f.heard ≡ heard.now → f.queue ≡ queue.old →
-        reached (state_in (with_queue queue.new f) core.new) out.new.events out.new.asks out.new.downs
-        ≡ reached_by (wakes (decide_of core.old.active) (state_in f core.old)) out.old.events out.old.asks out.old.downs) }
-    ensures steady { OnOk result ((k : ℕ) → IsSteady (2 ^ 21 * length queue.old + k) (work_at core.old.active.stage core.old.place) (askers_of core.old.sessions) →
-        IsSteady (2 ^ 21 * length queue.new + k) (work_at core.new.active.stage core.new.place) (askers_of core.new.sessions)) }
+        reached (state_in (with_queue queue.new f) core.new) out.new.events out.new.asks
+        out.new.downs
+        ≡ reached_by (wakes (decide_of core.old.active) (state_in f core.old)) out.old.events
+        out.old.asks out.old.downs) }
+    ensures steady { OnOk result ((k : ℕ) → IsSteady (2 ^ 21 * length queue.old + k)
+        (work_at core.old.active.stage core.old.place) (askers_of core.old.sessions) →
+        IsSteady (2 ^ 21 * length queue.new + k) (work_at core.new.active.stage core.new.place)
+        (askers_of core.new.sessions)) }
     ensures rests { OnOk result (AsksOrRests core.new) }
     ensures fit { OnOk result (AreFit core.old.active.shape queue.new) }
     ensures shape { core.new.active.shape ≡ core.old.active.shape }
@@ -120,12 +136,18 @@ pub(crate) fn give(
     requires rests { AsksOrRests core.old }
     requires names { NamesExternal core.old.active.shape command.now }
     requires fit { AreFit core.old.active.shape queue.old }
-    requires steady { IsSteady (2 ^ 21 * (length queue.old + 1)) (work_at core.old.active.stage core.old.place) (askers_of core.old.sessions) }
-    ensures reached { OnOk result ((f : Front) → f.heard ≡ heard.now → f.queue ≡ queue.old ++ Job.Ordered number command.now ∷ [] →
-        reached (state_in (with_queue queue.new f) core.new) out.new.events out.new.asks out.new.downs
-        ≡ reached_by (wakes (decide_of core.old.active) (state_in f core.old)) out.old.events out.old.asks out.old.downs) }
-    ensures steady { OnOk result ((k : ℕ) → IsSteady (2 ^ 21 * (length queue.old + 1) + k) (work_at core.old.active.stage core.old.place) (askers_of core.old.sessions) →
-        IsSteady (2 ^ 21 * length queue.new + k) (work_at core.new.active.stage core.new.place) (askers_of core.new.sessions)) }
+    requires steady { IsSteady (2 ^ 21 * (length queue.old + 1))
+        (work_at core.old.active.stage core.old.place) (askers_of core.old.sessions) }
+    ensures reached { OnOk result ((f : Front) → f.heard ≡ heard.now
+        → f.queue ≡ queue.old ++ Job.Ordered number command.now ∷ [] →
+        reached (state_in (with_queue queue.new f) core.new) out.new.events out.new.asks
+        out.new.downs
+        ≡ reached_by (wakes (decide_of core.old.active) (state_in f core.old)) out.old.events
+        out.old.asks out.old.downs) }
+    ensures steady { OnOk result ((k : ℕ) → IsSteady (2 ^ 21 * (length queue.old + 1) + k)
+        (work_at core.old.active.stage core.old.place) (askers_of core.old.sessions) →
+        IsSteady (2 ^ 21 * length queue.new + k) (work_at core.new.active.stage core.new.place)
+        (askers_of core.new.sessions)) }
     ensures rests { OnOk result (AsksOrRests core.new) }
     ensures fit { OnOk result (AreFit core.old.active.shape queue.new) }
     ensures shape { core.new.active.shape ≡ core.old.active.shape }
@@ -138,7 +160,8 @@ pub(crate) fn give(
     wake(heard, queue, core, out)
 }
 
-/// A message comes from an extender. If it is the answer that is waited for, the change at work goes on.
+/// A message comes from an extender. If it is the answer that is waited for, the change at work
+/// goes on.
 pub(crate) fn take(
     extender: u8,
     message: &Message,
@@ -150,13 +173,19 @@ pub(crate) fn take(
     requires known { extender < 65 }
     requires rests { AsksOrRests core.old }
     requires fit { AreFit core.old.active.shape queue.old }
-    requires steady { IsSteady (2 ^ 21 * length queue.old) (work_at core.old.active.stage core.old.place) (askers_of core.old.sessions) }
-    ensures taken { IfOk result (λ taken. taken ≡ (took (askers_of core.old.sessions extender) message.now).1) }
+    requires steady { IsSteady (2 ^ 21 * length queue.old)
+        (work_at core.old.active.stage core.old.place) (askers_of core.old.sessions) }
+    ensures taken { IfOk result (λ taken. taken
+        ≡ (took (askers_of core.old.sessions extender) message.now).1) }
     ensures reached { OnOk result ((f : Front) → f.heard ≡ heard.now → f.queue ≡ queue.old →
-        reached (state_in (with_queue queue.new f) core.new) out.new.events out.new.asks out.new.downs
-        ≡ reached_by (answered (decide_of core.old.active) extender message.now (state_in f core.old)) out.old.events out.old.asks out.old.downs) }
-    ensures steady { OnOk result ((k : ℕ) → IsSteady (2 ^ 21 * length queue.old + k) (work_at core.old.active.stage core.old.place) (askers_of core.old.sessions) →
-        IsSteady (2 ^ 21 * length queue.new + k) (work_at core.new.active.stage core.new.place) (askers_of core.new.sessions)) }
+        reached (state_in (with_queue queue.new f) core.new) out.new.events out.new.asks
+        out.new.downs
+        ≡ reached_by (answered (decide_of core.old.active) extender message.now
+        (state_in f core.old)) out.old.events out.old.asks out.old.downs) }
+    ensures steady { OnOk result ((k : ℕ) → IsSteady (2 ^ 21 * length queue.old + k)
+        (work_at core.old.active.stage core.old.place) (askers_of core.old.sessions) →
+        IsSteady (2 ^ 21 * length queue.new + k) (work_at core.new.active.stage core.new.place)
+        (askers_of core.new.sessions)) }
     ensures rests { OnOk result (AsksOrRests core.new) }
     ensures fit { OnOk result (AreFit core.old.active.shape queue.new) }
     ensures shape { core.new.active.shape ≡ core.old.active.shape }

@@ -1,9 +1,11 @@
-//! The controlling bridge's control (after IEEE 802.1BR; the protocol is this project's own). Its `ActiveConfig` is the
-//! configuration in force with its numbers and the change at work, and decides and does each change as the machine of
-//! `exb_control_spec` says. The control opens each extender once that was heard, lets ports go up, carries out commands one
-//! after another. Upwards it promises that each call is exactly a step of the machine of changes, with its events and
-//! messages and the ports that went down. Of frames it knows nothing: `exb_bridge` relays them by the configuration that
-//! this lends. It stands on `exb_control_spec`, `exb_plan`, `exb_csp` and what these stand on.
+//! The controlling bridge's control (after IEEE 802.1BR; the protocol is this project's own). Its
+//! `ActiveConfig` is the configuration in force with its numbers and the change at work, and
+//! decides and does each change as the machine of `exb_control_spec` says. The control opens each
+//! extender once that was heard, lets ports go up, carries out commands one after another. Upwards
+//! it promises that each call is exactly a step of the machine of changes, with its events and
+//! messages and the ports that went down. Of frames it knows nothing: `exb_bridge` relays them by
+//! the configuration that this lends. It stands on `exb_control_spec`, `exb_plan`, `exb_csp` and
+//! what these stand on.
 #![tactic(auto)]
 
 pub mod active_config;

@@ -7,8 +7,8 @@ use exb_model::list::List;
 use exb_model::port::PortId;
 use std::alloc::Global;
 
-/// What happened in a call, the messages that go out to extenders, and the ports that commands made go down, of which what was
-/// learned at them is to be forgotten. Each call fills it anew.
+/// What happened in a call, the messages that go out to extenders, and the ports that commands made
+/// go down, of which what was learned at them is to be forgotten. Each call fills it anew.
 #[derive(Drop)]
 pub struct Outbox {
     pub events: List<Event>,

@@ -19,10 +19,15 @@ use exb_model::memory::NoMemory;
 fn run(active: &mut ActiveConfig, job: &Job) -> Result<u64, NoMemory>
     requires stage { active.old.stage ≡ Stage.AtRest }
     requires fits { Fits active.old.shape job.now }
-    ensures count { IfOk result (λ count. count ≡ requests_of (decide_of active.old (bridge_in active.old) (held_in active.old) job.now)) }
+    ensures count { IfOk result (λ count. count
+        ≡ requests_of (decide_of active.old (bridge_in active.old) (held_in active.old) job.now)) }
     ensures few { IfOk result (λ count. count ≤ 2 ^ 21) }
-    ensures bridge { OnOk result (bridge_in active.new ≡ bridge_left job.now (decide_of active.old (bridge_in active.old) (held_in active.old) job.now) (bridge_in active.old)) }
-    ensures held { OnOk result (held_in active.new ≡ held_left (decide_of active.old (bridge_in active.old) (held_in active.old) job.now) (held_in active.old)) }
+    ensures bridge { OnOk result (bridge_in active.new
+        ≡ bridge_left job.now (decide_of active.old (bridge_in active.old) (held_in active.old)
+        job.now) (bridge_in active.old)) }
+    ensures held { OnOk result (held_in active.new
+        ≡ held_left (decide_of active.old (bridge_in active.old) (held_in active.old) job.now)
+        (held_in active.old)) }
     ensures stage { OnOk result (active.new.stage ≡ Stage.AtRest) }
     ensures shape { active.new.shape ≡ active.old.shape }
     ensures limits { active.new.limits ≡ active.old.limits }
@@ -52,7 +57,8 @@ fn count_jobs(active: &mut ActiveConfig, queue: &Queue<Job>) -> Result<u64, NoMe
     requires stage { active.old.stage ≡ Stage.AtRest }
     requires fit { AreFit active.old.shape queue.now }
     requires few { 2 ^ 21 * length queue.now < 2 ^ 63 }
-    ensures count { IfOk result (λ count. count ≡ requests_in (decide_of active.old) (bridge_in active.old) (held_in active.old) queue.now) }
+    ensures count { IfOk result (λ count. count ≡ requests_in (decide_of active.old)
+        (bridge_in active.old) (held_in active.old) queue.now) }
     ensures few { IfOk result (λ count. count ≤ 2 ^ 21 * length queue.now) }
 {
     let mut count = 0;
@@ -62,13 +68,14 @@ fn count_jobs(active: &mut ActiveConfig, queue: &Queue<Job>) -> Result<u64, NoMe
     Ok(count)
 }
 
-/// The requests of the jobs that wait, run in order once the change at work is done. The active configuration is copied only
-/// where a job waits.
+/// The requests of the jobs that wait, run in order once the change at work is done. The active
+/// configuration is copied only where a job waits.
 fn waiting(active: &ActiveConfig, queue: &Queue<Job>) -> Result<u64, NoMemory>
     requires fit { AreFit active.now.shape queue.now }
     requires few { 2 ^ 21 * length queue.now < 2 ^ 63 }
     ensures count { IfOk result (λ count. count ≡ requests_in (decide_of active.now)
-        (bridge_at_end active.now.stage (bridge_in active.now)) (held_at_end active.now.stage (held_in active.now)) queue.now) }
+        (bridge_at_end active.now.stage (bridge_in active.now))
+        (held_at_end active.now.stage (held_in active.now)) queue.now) }
     ensures few { IfOk result (λ count. count ≤ 2 ^ 21 * length queue.now) }
     ensures none { queue.now ≡ [] → result ≡ Ok 0 }
 {
@@ -77,7 +84,8 @@ fn waiting(active: &ActiveConfig, queue: &Queue<Job>) -> Result<u64, NoMemory>
     }
     let mut trial = active.copy_at_rest()?;
     let count = count_jobs(&mut trial, queue);
-    // By a call, since a block's end is far longer to prove where it lets an active configuration go.
+    // By a call, since a block's end is far longer to prove where it lets an active configuration
+    // go.
     drop(trial);
     count
 }

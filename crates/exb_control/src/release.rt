@@ -29,7 +29,8 @@ pub(crate) fn is_place(tree: &Tree, bridge_port: u8) -> bool
 // Frees a channel, if it is in use.
 fn release_channel(tree: &Tree, spaces: &mut Spaces, number: &Number)
     requires { (l : Limits) × HasSpaces tree.now l spaces.old }
-    ensures held { in_spaces tree.now (held_by spaces.new) ≡ without_channel number.now (in_spaces tree.now (held_by spaces.old)) }
+    ensures held { in_spaces tree.now (held_by spaces.new)
+        ≡ without_channel number.now (in_spaces tree.now (held_by spaces.old)) }
     ensures alike { IsAlike spaces.old spaces.new }
 {
     if !is_place(tree, number.bridge_port) {
@@ -49,7 +50,8 @@ fn release_channel(tree: &Tree, spaces: &mut Spaces, number: &Number)
 // Frees a group, if it is in use.
 fn release_group(tree: &Tree, spaces: &mut Spaces, number: &Number)
     requires { (l : Limits) × HasSpaces tree.now l spaces.old }
-    ensures held { in_spaces tree.now (held_by spaces.new) ≡ without_group number.now (in_spaces tree.now (held_by spaces.old)) }
+    ensures held { in_spaces tree.now (held_by spaces.new)
+        ≡ without_group number.now (in_spaces tree.now (held_by spaces.old)) }
     ensures alike { IsAlike spaces.old spaces.new }
 {
     if !is_place(tree, number.bridge_port) {
@@ -67,7 +69,8 @@ fn release_group(tree: &Tree, spaces: &mut Spaces, number: &Number)
 /// Frees the numbers of a change, those that are in use.
 pub(crate) fn release(tree: &Tree, spaces: &mut Spaces, change: &Change)
     requires { (l : Limits) × HasSpaces tree.now l spaces.old }
-    ensures held { in_spaces tree.now (held_by spaces.new) ≡ release change.now (in_spaces tree.now (held_by spaces.old)) }
+    ensures held { in_spaces tree.now (held_by spaces.new)
+        ≡ release change.now (in_spaces tree.now (held_by spaces.old)) }
     ensures alike { IsAlike spaces.old spaces.new }
 {
     let channels = change.channels.as_slice();

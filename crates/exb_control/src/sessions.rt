@@ -45,7 +45,8 @@ impl Sessions {
         requires known { extender < 65 }
         requires idle { (askers_of self.old extender).waiting ≡ None }
         requires room { (askers_of self.old extender).serial < 2 ^ 63 }
-        ensures state { askers_of self.new ≡ put extender (asked (askers_of self.old extender) request).0 (askers_of self.old) }
+        ensures state { askers_of self.new
+            ≡ put extender (asked (askers_of self.old extender) request).0 (askers_of self.old) }
         ensures message { result ≡ (asked (askers_of self.old extender) request).1 }
     {
         let asker = &mut self.askers[extender as usize];
@@ -55,7 +56,8 @@ impl Sessions {
     /// Takes a message of an extender.
     pub(crate) fn take(&mut self, extender: u8, message: &Message) -> Taken
         requires { extender < 65 }
-        ensures state { askers_of self.new ≡ put extender (took (askers_of self.old extender) message.now).0 (askers_of self.old) }
+        ensures state { askers_of self.new
+            ≡ put extender (took (askers_of self.old extender) message.now).0 (askers_of self.old) }
         ensures taken { result ≡ (took (askers_of self.old extender) message.now).1 }
     {
         let asker = &mut self.askers[extender as usize];
@@ -65,8 +67,10 @@ impl Sessions {
     /// Counts a beat of waiting for an extender; at each sixteenth it gives the message once more.
     pub(crate) fn beat(&mut self, extender: u8) -> Option<Message>
         requires { extender < 65 }
-        ensures state { askers_of self.new ≡ put extender (beaten (askers_of self.old extender)).0 (askers_of self.old) }
-        ensures due { result ≡ due (beaten (askers_of self.old extender)).1 (message_again (askers_of self.old extender)) }
+        ensures state { askers_of self.new ≡ put extender (beaten (askers_of self.old extender)).0
+            (askers_of self.old) }
+        ensures due { result ≡ due (beaten (askers_of self.old extender)).1
+            (message_again (askers_of self.old extender)) }
     {
         let asker = &mut self.askers[extender as usize];
         again_if_due(asker)

@@ -15,7 +15,10 @@ fn copy_space(spaces: &Spaces, bridge_port: u8, made: &mut Spaces) -> Result<(),
     requires from1 { 1 ≤ bridge_port }
     requires there { has_space spaces.now (bridge_port - 1) ≡ true }
     requires place { has_space made.old (bridge_port - 1) ≡ true }
-    ensures { OnOk result (made.new ≡ with_groups (with_channels made.old (bridge_port - 1) (channels_at spaces.now (bridge_port - 1))) (bridge_port - 1) (groups_at spaces.now (bridge_port - 1))) }
+    ensures { OnOk result (made.new
+        ≡ with_groups (with_channels made.old (bridge_port - 1)
+        (channels_at spaces.now (bridge_port - 1))) (bridge_port - 1)
+        (groups_at spaces.now (bridge_port - 1))) }
 {
     let channels = spaces.channels(bridge_port).copy()?;
     let groups = spaces.groups(bridge_port).copy()?;
@@ -34,9 +37,12 @@ pub(crate) fn copy_spaces(
 ) -> Result<Spaces, NoMemory>
     requires channels { channels ≤ 4094 }
     requires groups { groups ≤ 12288 }
-    requires spaces { HasSpaces tree.now (record { channels = channels; groups = groups }) spaces.now }
-    ensures spaces { IfOk result (λ made. HasSpaces tree.now (record { channels = channels; groups = groups }) made) }
-    ensures held { IfOk result (λ made. in_spaces tree.now (held_by made) ≡ in_spaces tree.now (held_by spaces.now)) }
+    requires spaces { HasSpaces tree.now (record { channels = channels; groups = groups })
+        spaces.now }
+    ensures spaces { IfOk result (λ made.
+        HasSpaces tree.now (record { channels = channels; groups = groups }) made) }
+    ensures held { IfOk result (λ made. in_spaces tree.now (held_by made)
+        ≡ in_spaces tree.now (held_by spaces.now)) }
 {
     let mut made = Spaces::new(alloc, tree, channels, groups)?;
     for bridge_port in 1..65u8 {

@@ -60,7 +60,8 @@ outcome_by None change h = Ready change h
 
 -- a change from one configuration to another
 abbrev pub outcome_between : Shape → Limits → Bridge → Bridge → Held → Outcome
-outcome_between t l old new h = outcome_by (refusal_between t l old new) (change_of t l old new h) (claimed t l old new h)
+outcome_between t l old new h = outcome_by (refusal_between t l old new) (change_of t l old new h)
+    (claimed t l old new h)
 
 unfoldable pub decide : Shape → Limits → Decide
 decide t l b h (job.Opening n) = Ready (opening_change t n h) h

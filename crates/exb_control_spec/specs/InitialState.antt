@@ -40,7 +40,15 @@ first_jobs t = flat_map (jobs_of t) (by_depth t)
 -- the state to begin with, over a configuration
 abbrev pub first_state : Shape → Limits → Bridge → State
 first_state t l b =
-    record { queue = first_jobs t; work = None; bridge = b; held = first_held t l; heard = λ n. false; askers = λ n. begun; given = 0 }
+    record {
+      queue = first_jobs t;
+      work = None;
+      bridge = b;
+      held = first_held t l;
+      heard = λ n. false;
+      askers = λ n. begun;
+      given = 0;
+    }
 
 -- ---- what the code begins with
 -- The cascade ports of extenders suffice for the channels.

@@ -51,7 +51,12 @@ still s = record { state = s; events = []; asks = []; downs = [] }
 
 -- what happened before comes first
 abbrev pub followed_by : Moved → Moved → Moved
-followed_by m n = record { state = n.state; events = m.events ++ n.events; asks = m.asks ++ n.asks; downs = m.downs ++ n.downs }
+followed_by m n = record {
+  state = n.state;
+  events = m.events ++ n.events;
+  asks = m.asks ++ n.asks;
+  downs = m.downs ++ n.downs;
+}
 
 -- ---- events
 abbrev pub committed : Job → List Event
@@ -81,9 +86,11 @@ with_asker n a s = record s { askers = λ m. if m == n then a else s.askers m }
 abbrev pub asking : Work → State → Moved
 asking w s =
     record {
-      state = record (with_asker w.first.extender (asked (s.askers w.first.extender) w.first.request).0 s) { work = Some w };
+      state = record (with_asker w.first.extender (asked (s.askers w.first.extender) w.first.request).0 s)
+          { work = Some w };
       events = [];
-      asks = record { extender = w.first.extender; message = (asked (s.askers w.first.extender) w.first.request).1 } ∷ [];
+      asks = record { extender = w.first.extender; message = (asked (s.askers w.first.extender) w.first.request).1 }
+          ∷ [];
       downs = [];
     }
 
@@ -102,7 +109,8 @@ cleans j x (first ∷ rest) s = works j x Cleaning first rest s
 -- the change takes effect, and its cleanup begins
 abbrev pub commits : Job → Change → State → Moved
 commits j x s =
-    followed_by (record { state = s; events = committed j; asks = []; downs = downs_of j }) (cleans j x x.cleanup (record s { bridge = bridge_after j s.bridge }))
+    followed_by (record { state = s; events = committed j; asks = []; downs = downs_of j })
+    (cleans j x x.cleanup (record s { bridge = bridge_after j s.bridge }))
 
 abbrev pub prepares : Job → Change → List AskAt → State → Moved
 prepares j x [] s = commits j x s
@@ -145,7 +153,8 @@ wakes decide s = wakes_by decide s.work s
 -- the last request of a phase is answered
 abbrev pub phase_ends : Decide → Work → Phase → State → Moved
 phase_ends decide w Preparing s =
-    followed_by (commits w.job w.change (record s { work = None })) (wakes decide (commits w.job w.change (record s { work = None })).state)
+    followed_by (commits w.job w.change (record s { work = None }))
+    (wakes decide (commits w.job w.change (record s { work = None })).state)
 phase_ends decide w Cleaning s = wakes decide (ends w.change s)
 
 -- the outstanding request is answered: the next one goes out
@@ -166,7 +175,10 @@ answered_where decide taken.NotOurs s = still s
 -- ---- the steps
 -- a command is given
 abbrev pub ordered : Decide → Command → State → Moved
-ordered decide c s = wakes decide (record s { queue = s.queue ++ job.Ordered (s.given + 1) c ∷ []; given = s.given + 1 })
+ordered decide c s = wakes decide (record s {
+  queue = s.queue ++ job.Ordered (s.given + 1) c ∷ [];
+  given = s.given + 1;
+})
 
 -- extender n is heard
 abbrev pub heard : Decide → ℕ → State → Moved
@@ -188,7 +200,8 @@ beats_in (Some w) s =
     record {
       state = with_asker w.first.extender (beaten (s.askers w.first.extender)).0 s;
       events = [];
-      asks = messages_due w.first.extender (beaten (s.askers w.first.extender)).1 (message_again (s.askers w.first.extender));
+      asks = messages_due w.first.extender (beaten (s.askers w.first.extender)).1
+          (message_again (s.askers w.first.extender));
       downs = [];
     }
 

@@ -27,7 +27,8 @@ held_left (Ready x claimed) h = release x claimed
 -- the requests of jobs that are run in order
 unfoldable pub requests_in : Decide → Bridge → Held → List Job → ℕ
 requests_in decide b h [] = 0
-requests_in decide b h (j ∷ js) = requests_of (decide b h j) + requests_in decide (bridge_left j (decide b h j) b) (held_left (decide b h j) h) js
+requests_in decide b h (j ∷ js) = requests_of (decide b h j) + requests_in decide (bridge_left j (decide b h j) b)
+    (held_left (decide b h j) h) js
 
 -- those of the change at work that aren't answered yet
 abbrev pub requests_left : Phase → Work → ℕ
@@ -41,7 +42,8 @@ bridge_in Cleaning w b = b
 
 abbrev pub requests_by : Decide → Option Work → State → ℕ
 requests_by decide None s = requests_in decide s.bridge s.held s.queue
-requests_by decide (Some w) s = requests_left w.phase w + requests_in decide (bridge_in w.phase w s.bridge) (release w.change s.held) s.queue
+requests_by decide (Some w) s = requests_left w.phase w + requests_in decide (bridge_in w.phase w s.bridge)
+    (release w.change s.held) s.queue
 
 -- the extenders that weren't heard yet
 abbrev pub unheard : Shape → State → ℕ

@@ -60,4 +60,5 @@ pub record IsKnown (t : Shape) (x : Change) : Type 0 where
 
 -- So do those of each change that is decided.
 abbrev pub PlansAreKnown : Type 0
-PlansAreKnown = (t : Shape) (l : Limits) (b : Bridge) (h : Held) (j : Job) (x : Change) (claimed : Held) → Fits t j → decide t l b h j ≡ Ready x claimed → IsKnown t x
+PlansAreKnown = (t : Shape) (l : Limits) (b : Bridge) (h : Held) (j : Job) (x : Change) (claimed : Held) → Fits t j
+    → decide t l b h j ≡ Ready x claimed → IsKnown t x

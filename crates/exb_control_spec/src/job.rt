@@ -5,7 +5,8 @@ use exb_model::port::PortId;
 /// A job in the queue of changes.
 #[derive(Clone, Copy)]
 pub enum Job {
-    /// Opens an extender once it was heard: it is asked to begin its session, and its cascade ports are created.
+    /// Opens an extender once it was heard: it is asked to begin its session, and its cascade ports
+    /// are created.
     Opening { extender: u8 },
     /// Lets an external port of an opened extender go up.
     AutomaticUp { port: PortId },

@@ -1,4 +1,5 @@
-//! What a plan has and decides: rows of sets, sets and groups below a bridge port, and what is asked.
+//! What a plan has and decides: rows of sets, sets and groups below a bridge port, and what is
+//! asked.
 
 pub mod change;
 pub mod group_at;

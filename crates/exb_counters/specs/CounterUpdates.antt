@@ -25,7 +25,8 @@ pub record FitsCounts (c : Counts5) : Type 0 where
   pub left : c.left < 2 ^ 64
   pub octets : c.octets < 2 ^ 64
 
--- Port p has these counts now, where there are counts of it; all other ports have theirs, and there are counts of the same ports.
+-- Port p has these counts now, where there are counts of it; all other ports have theirs, and there are counts of the
+-- same ports.
 pub record SameButAt (p : ℕ) (counts : Counts5) (old new : Table) : Type 0 where
   pub ports : length new.counts.items ≡ length old.counts.items
   pub here : HasPort old p → counts_at new p ≡ counts
@@ -33,13 +34,31 @@ pub record SameButAt (p : ℕ) (counts : Counts5) (old new : Table) : Type 0 whe
 
 -- ---- what calls add
 abbrev pub with_relay : Bool → Counts5 → Counts5
-with_relay passed c = record { relayed = c.relayed + 1; dropped = if passed then c.dropped else c.dropped + 1; ignored = c.ignored; left = c.left; octets = c.octets }
+with_relay passed c = record {
+  relayed = c.relayed + 1;
+  dropped = if passed then c.dropped else c.dropped + 1;
+  ignored = c.ignored;
+  left = c.left;
+  octets = c.octets;
+}
 
 abbrev pub with_ignored : Counts5 → Counts5
-with_ignored c = record { relayed = c.relayed; dropped = c.dropped; ignored = c.ignored + 1; left = c.left; octets = c.octets }
+with_ignored c = record {
+  relayed = c.relayed;
+  dropped = c.dropped;
+  ignored = c.ignored + 1;
+  left = c.left;
+  octets = c.octets;
+}
 
 abbrev pub with_left : ℕ → Counts5 → Counts5
-with_left octets c = record { relayed = c.relayed; dropped = c.dropped; ignored = c.ignored; left = c.left + 1; octets = c.octets + octets }
+with_left octets c = record {
+  relayed = c.relayed;
+  dropped = c.dropped;
+  ignored = c.ignored;
+  left = c.left + 1;
+  octets = c.octets + octets;
+}
 
 -- ---- events, with what is said of the Relays among them
 abbrev pub first_or_true : List Bool → Bool
@@ -68,7 +87,13 @@ drops_in (e ∷ es) said q = drop_in e said q + drops_in es (rest_after e said) 
 -- what an event adds at port q
 abbrev pub plus_event : Event → List Bool → ℕ → Counts5 → Counts5
 plus_event e said q c =
-    record { relayed = c.relayed + relayed_by e q; dropped = c.dropped + drop_in e said q; ignored = c.ignored + ignored_by e q; left = c.left; octets = c.octets }
+    record {
+      relayed = c.relayed + relayed_by e q;
+      dropped = c.dropped + drop_in e said q;
+      ignored = c.ignored + ignored_by e q;
+      left = c.left;
+      octets = c.octets;
+    }
 
 -- and events
 abbrev pub plus_events : List Event → List Bool → ℕ → Counts5 → Counts5

@@ -43,7 +43,8 @@ ignored_at (e ∷ h) q = ignored_at h q + ignored_by e q
 abbrev pub octets_of : List Sent → ℕ
 octets_of xs = sum_by (λ (x : Sent). length x.1) xs
 
--- of port q: its Relays, those of them that pass nowhere, its Ignored, and the frames that left it with their total length
+-- of port q: its Relays, those of them that pass nowhere, its Ignored, and the frames that left it with their total
+-- length
 abbrev pub port_counts : Basis → History → ℕ → Counts5
 port_counts i h q =
     record {

@@ -24,10 +24,11 @@ abbrev pub ComeIn : Shape → History → Type 0
 ComeIn t [] = Unit {0}
 ComeIn t (e ∷ h) = ComesIn t e × ComeIn t h
 
--- Over all external ports: what was relayed and what was ignored are the summary's arrivals, each by itself too, and what left is what
--- the summary says that it left.
+-- Over all external ports: what was relayed and what was ignored are the summary's arrivals, each by itself too, and
+-- what left is what the summary says that it left.
 pub record AreSummed (t : Shape) (i : Basis) (h : History) : Type 0 where
-  pub arrivals : sum_by (λ q. (port_counts i h q).relayed + (port_counts i h q).ignored) (external_ports t) ≡ (counts t i h).relayed + (counts t i h).ignored
+  pub arrivals : sum_by (λ q. (port_counts i h q).relayed + (port_counts i h q).ignored) (external_ports t)
+      ≡ (counts t i h).relayed + (counts t i h).ignored
   pub relayed : sum_by (λ q. (port_counts i h q).relayed) (external_ports t) ≡ (counts t i h).relayed
   pub ignored : sum_by (λ q. (port_counts i h q).ignored) (external_ports t) ≡ (counts t i h).ignored
   pub left : sum_by (λ q. (port_counts i h q).left) (external_ports t) ≡ (counts t i h).left
@@ -41,4 +42,5 @@ IsOfExternal i = (p : ℕ) → is_external (tree_of i) p ≡ false → i.records
 
 -- So of every history that an input allows whose records are of external ports.
 abbrev pub CountsOfInputsAreTheSummary : Type 0
-CountsOfInputsAreTheSummary = (m : Mode) (i : Input) (h : History) → IsOfExternal i → Legal m i h → AreSummed (tree_of i) (basis_of i) h
+CountsOfInputsAreTheSummary = (m : Mode) (i : Input) (h : History) → IsOfExternal i → Legal m i h
+    → AreSummed (tree_of i) (basis_of i) h

@@ -116,7 +116,8 @@ impl Counters {
     /// Nothing is counted yet. There are counts for each external port of a setup.
     pub fn new(alloc: Global, setup: &Setup) -> Result<Counters, NoMemory>
         requires { IsValid setup.now }
-        ensures ports { IfOk result (λ made. (q : ℕ) → q < 4160 → is_external (shape_of setup.now) q ≡ true → HasPort made q) }
+        ensures ports { IfOk result (λ made. (q : ℕ) → q < 4160 → is_external (shape_of setup.now) q
+            ≡ true → HasPort made q) }
         ensures counts { IfOk result (λ made. (q : ℕ) → counts_at made q ≡ nothing) }
     {
         let tree = Tree::new(alloc, setup)?;
@@ -173,7 +174,8 @@ impl Counters {
 
     /// Counts a frame that came in at a port and was relayed, where there are counts of it.
     fn relayed_there(&mut self, port: PortId, passed: bool)
-        requires { HasPort self.old port → FitsCounts (with_relay passed (counts_at self.old port)) }
+        requires { HasPort self.old port
+            → FitsCounts (with_relay passed (counts_at self.old port)) }
         ensures { SameButAt port (with_relay passed (counts_at self.old port)) self.old self.new }
     {
         if (port.number() as usize) < self.counts.len() {
@@ -191,11 +193,14 @@ impl Counters {
         }
     }
 
-    /// Counts an event; where it is a Relay, by the first of what was said of Relays. What was said of others is answered.
+    /// Counts an event; where it is a Relay, by the first of what was said of Relays. What was said
+    /// of others is answered.
     fn event<'a>(&mut self, event: &Event, said: &'a [bool]) -> &'a [bool]
-        requires { (q : ℕ) → HasPort self.old q → FitsCounts (plus_event event.now said.now q (counts_at self.old q)) }
+        requires { (q : ℕ) → HasPort self.old q
+            → FitsCounts (plus_event event.now said.now q (counts_at self.old q)) }
         ensures ports { length self.new.counts.items ≡ length self.old.counts.items }
-        ensures counts { (q : ℕ) → HasPort self.old q → counts_at self.new q ≡ plus_event event.now said.now q (counts_at self.old q) }
+        ensures counts { (q : ℕ) → HasPort self.old q → counts_at self.new q
+            ≡ plus_event event.now said.now q (counts_at self.old q) }
         ensures rest { result.now ≡ rest_after event.now said.now }
     {
         match event {
@@ -217,12 +222,14 @@ impl Counters {
         }
     }
 
-    /// Counts events, with what was said of the Relays among them: whether each passed, in order. An event of a port of which there
-    /// are no counts is passed by.
+    /// Counts events, with what was said of the Relays among them: whether each passed, in order.
+    /// An event of a port of which there are no counts is passed by.
     pub fn events(&mut self, events: &[Event], said: &[bool])
-        requires { (q : ℕ) → HasPort self.old q → FitsCounts (plus_events events.now said.now q (counts_at self.old q)) }
+        requires { (q : ℕ) → HasPort self.old q
+            → FitsCounts (plus_events events.now said.now q (counts_at self.old q)) }
         ensures ports { length self.new.counts.items ≡ length self.old.counts.items }
-        ensures counts { (q : ℕ) → HasPort self.old q → counts_at self.new q ≡ plus_events events.now said.now q (counts_at self.old q) }
+        ensures counts { (q : ℕ) → HasPort self.old q → counts_at self.new q
+            ≡ plus_events events.now said.now q (counts_at self.old q) }
     {
         let mut rest = said;
         for event in events {

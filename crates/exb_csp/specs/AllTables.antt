@@ -57,7 +57,8 @@ done_at n (UnregisterMany ecids) t = record t { pair = λ e q. t.pair e q && not
 -- executing the requests in order gives code 0 each time, and these tables at the end
 abbrev pub RunsAt : (ℕ → ExtenderTables) → List AskAt → (ℕ → ExtenderTables) → Type 0
 RunsAt all [] end = all ≡ end
-RunsAt all (a ∷ more) end = (code_of (all a.extender) a.request ≡ 0) × RunsAt (executes_at a.extender a.request all) more end
+RunsAt all (a ∷ more) end = (code_of (all a.extender) a.request ≡ 0)
+    × RunsAt (executes_at a.extender a.request all) more end
 
 -- ports of one extender, bit k - 1 being port k
 pub record MaskAt : Type 0 where

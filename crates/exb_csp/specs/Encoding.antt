@@ -46,7 +46,8 @@ body_bytes (body.Answer answer) = answer_bytes answer.to answer.code answer.port
 
 -- type, serial, length of the body, body
 unfoldable pub message_bytes : Message → List ℕ
-message_bytes m = type_of (form_in m.body) ∷ (to_be_bytes w64 m.serial ++ (to_be_bytes w16 (length (body_bytes m.body)) ++ body_bytes m.body))
+message_bytes m = type_of (form_in m.body) ∷ (to_be_bytes w64 m.serial
+    ++ (to_be_bytes w16 (length (body_bytes m.body)) ++ body_bytes m.body))
 
 -- a list of a message for many
 abbrev pub IsMany : {A : Type 0} → List A → Type 0

@@ -64,7 +64,8 @@ row_code t earlier ecid mask =
 unfoldable pub rows_code : ExtenderTables → List GroupRow → List GroupRow → ℕ
 rows_code t earlier [] = 0
 rows_code t earlier (row ∷ rows) =
-    if row_code t earlier row.ecid row.mask == 0 then rows_code t (earlier ++ row ∷ []) rows else row_code t earlier row.ecid row.mask
+    if row_code t earlier row.ecid row.mask == 0 then rows_code t (earlier ++ row ∷ []) rows else row_code t earlier
+    row.ecid row.mask
 
 abbrev pub clear_code : ℕ → ℕ
 clear_code ecid = if is_ecid ecid then 0 else 2

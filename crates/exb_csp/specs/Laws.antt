@@ -15,11 +15,13 @@ WrittenIsRead = (m : Message) → HasSpelling m → Fits m → read_message (mes
 
 -- What is read is spelled by the bytes that were read, so a message has one spelling.
 abbrev pub ReadIsSpelled : Type 0
-ReadIsSpelled = (bytes : List ℕ) (m : Message) → IsBytes bytes → read_message bytes ≡ Ok m → HasSpelling m × (bytes ≡ message_bytes m)
+ReadIsSpelled = (bytes : List ℕ) (m : Message) → IsBytes bytes → read_message bytes ≡ Ok m
+    → HasSpelling m × (bytes ≡ message_bytes m)
 
 -- A message has 11 bytes before its body, and at most 651 bytes.
 abbrev pub MessagesAreShort : Type 0
-MessagesAreShort = (m : Message) → HasSpelling m → (length (message_bytes m) ≡ 11 + length (body_bytes m.body)) × (length (message_bytes m) ≤ 651)
+MessagesAreShort = (m : Message) → HasSpelling m → (length (message_bytes m) ≡ 11 + length (body_bytes m.body))
+    × (length (message_bytes m) ≤ 651)
 
 -- A code other than 0 leaves the tables.
 abbrev pub RefusedChangesNothing : Type 0

@@ -44,7 +44,8 @@ type_of (Answer k) = 128 + number_of k
 
 -- what a type names
 abbrev pub form_of : ℕ → Option MessageKind
-form_of number = if nat_lt number 128 then option_map Ask (kind_numbered number) else option_map Answer (kind_numbered (number - 128))
+form_of number = if nat_lt number 128 then option_map Ask (kind_numbered number) else option_map Answer
+    (kind_numbered (number - 128))
 
 -- the lengths that a body may have
 abbrev pub is_length : MessageKind → ℕ → Bool

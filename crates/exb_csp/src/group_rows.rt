@@ -9,7 +9,8 @@ use std::marker::Model;
 /// The ports of an extender that get the frames of one E-CID.
 #[derive(Clone, Copy, Debug, Default)]
 pub struct GroupRow {
-    /// The E-CID. An extender takes 1 to 4094, which name one port's E-channel, and 0x1000 to 0x3FFF.
+    /// The E-CID. An extender takes 1 to 4094, which name one port's E-channel, and 0x1000 to
+    /// 0x3FFF.
     pub ecid: u16,
     /// Bit k - 1 is port k.
     pub mask: u64,

@@ -55,8 +55,8 @@ pub fn some_bit_exactly()
     ensures { SomeBitExactly }
 {}
 
-/// A request that is answered with code 0 does at each port what it asks, and changes nothing else in the
-/// tables of all extenders.
+/// A request that is answered with code 0 does at each port what it asks, and changes nothing else
+/// in the tables of all extenders.
 pub fn done_at_each_port()
     ensures { DoneAtEachPort }
 {}
@@ -71,37 +71,39 @@ pub fn runs_lay_rows()
     ensures { RunsLayRows }
 {}
 
-/// Over every list of asks, and of deliveries of any message sent so far, in any order and number: what
-/// is executed is a front of what was asked, each once and in order, and what the asker took as answers
-/// is a front of the stored responses, in order.
+/// Over every list of asks, and of deliveries of any message sent so far, in any order and number:
+/// what is executed is a front of what was asked, each once and in order, and what the asker took
+/// as answers is a front of the stored responses, in order.
 pub fn each_request_once()
     ensures { EachRequestOnce }
 {}
 
-/// Where nothing is lost, a request is executed when it comes, and the response that is stored, if it
-/// is one to such a request, is taken as its answer.
+/// Where nothing is lost, a request is executed when it comes, and the response that is stored, if
+/// it is one to such a request, is taken as its answer.
 pub fn requests_are_answered()
     ensures { RequestsAreAnswered }
 {}
 
-/// Over every list of asks and deliveries, a request that was sent under serial k is the k-th that was
-/// asked, and an answer under serial k is the k-th response that was stored.
+/// Over every list of asks and deliveries, a request that was sent under serial k is the k-th that
+/// was asked, and an answer under serial k is the k-th response that was stored.
 pub fn messages_are_numbered()
     ensures { MessagesAreNumbered }
 {}
 
-/// Where each request that is asked and each response that is stored can be spelled, so can each message.
+/// Where each request that is asked and each response that is stored can be spelled, so can each
+/// message.
 pub fn messages_are_spelled()
     ensures { MessagesAreSpelled }
 {}
 
-/// Whatever an asker asks, takes and counts, it counts fewer than sixteen beats, and what it waits for has
-/// a serial.
+/// Whatever an asker asks, takes and counts, it counts fewer than sixteen beats, and what it waits
+/// for has a serial.
 pub fn asker_stays_sound()
     ensures { StaysSound }
 {}
 
-/// What an asker asks has a spelling where its request can be spelled, the first time and once more.
+/// What an asker asks has a spelling where its request can be spelled, the first time and once
+/// more.
 pub fn asks_are_spelled()
     ensures { AsksAreSpelled }
 {}

@@ -6,8 +6,9 @@ ghost use Rattle.exb_csp.specs.RequestKinds.{kind_of};
 use crate::ecids::Ecids;
 use crate::group_rows::GroupRows;
 
-/// What the controlling bridge asks of an extender. Ports are counted from 1, and bit k - 1 of a mask
-/// is port k. A request may hold any numbers: the extender decides on them, and answers a code.
+/// What the controlling bridge asks of an extender. Ports are counted from 1, and bit k - 1 of a
+/// mask is port k. A request may hold any numbers: the extender decides on them, and answers a
+/// code.
 #[derive(Drop)]
 pub enum Request {
     /// Begins the session: announcements stop.
@@ -58,8 +59,8 @@ pub enum RequestKind {
 pub struct Response {
     /// The kind of the request that is answered.
     pub to: RequestKind,
-    /// 0: done. 1: a port isn't there, or has no channel. 2: a channel or E-CID is out of its range. 3: the
-    /// port has a channel already, or the E-CID a pair.
+    /// 0: done. 1: a port isn't there, or has no channel. 2: a channel or E-CID is out of its
+    /// range. 3: the port has a channel already, or the E-CID a pair.
     pub code: u8,
     /// The port count in the answer to Open, else 0.
     pub ports: u8,

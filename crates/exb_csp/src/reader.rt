@@ -181,9 +181,9 @@ fn message_in(bytes: &[u8]) -> Result<Message, CspFault>
     Ok(Message { serial, body })
 }
 
-/// The message that the bytes spell, or the first thing that is wrong with them: a header cut short,
-/// an unknown type, a length that isn't the type's, a body cut short, bytes after it, and last a
-/// serial, kind, code or port count out of its range.
+/// The message that the bytes spell, or the first thing that is wrong with them: a header cut
+/// short, an unknown type, a length that isn't the type's, a body cut short, bytes after it, and
+/// last a serial, kind, code or port count out of its range.
 pub fn read(bytes: &[u8]) -> Result<Message, CspFault>
     ensures exact { result ≡ read_message bytes.now }
 

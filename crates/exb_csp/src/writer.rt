@@ -86,7 +86,8 @@ fn append_request(out: &mut ControlBuf, request: &Request)
 
 // The length of an answer's body.
 fn answer_length(response: &Response) -> u16
-    ensures length { result ≡ length (answer_bytes response.now.to response.now.code response.now.ports) }
+    ensures length { result ≡ length (answer_bytes response.now.to response.now.code
+        response.now.ports) }
     ensures few { result ≤ 2 }
 {
     match response.to {
@@ -97,7 +98,8 @@ fn answer_length(response: &Response) -> u16
 
 fn append_answer(out: &mut ControlBuf, response: &Response)
     requires { array_vec_len out.old + 2 ≤ 1100 }
-    ensures { out.new.items ≡ out.old.items ++ answer_bytes response.now.to response.now.code response.now.ports }
+    ensures { out.new.items ≡ out.old.items ++ answer_bytes response.now.to response.now.code
+        response.now.ports }
 {
     match response.to {
         RequestKind::Open => append(out, &[response.code, response.ports]),
@@ -115,9 +117,9 @@ fn append_header(out: &mut ControlBuf, kind: u8, serial: u64, length: u16)
     append(out, &length.to_be_bytes());
 }
 
-/// The one spelling of a message, in place of what was in `out`. The condition holds of every message
-/// that is read: a serial above 0, 2 to 64 members in a list of many, a code of at most 3, and a port
-/// count of 1 to 64 in the answer to Open and else 0. A message has at most 651 bytes.
+/// The one spelling of a message, in place of what was in `out`. The condition holds of every
+/// message that is read: a serial above 0, 2 to 64 members in a list of many, a code of at most 3,
+/// and a port count of 1 to 64 in the answer to Open and else 0. A message has at most 651 bytes.
 #[tactic(auto, unfolding(crate::specs::Encoding::message_bytes), using(crate::proofs::RoundTrip::are_short))]
 pub fn write(message: &Message, out: &mut ControlBuf)
     requires { HasSpelling message.now }

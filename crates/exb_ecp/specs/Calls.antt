@@ -1,4 +1,5 @@
--- What an end sends after any list of calls, told by its last submit and the calls since. A list has its newest call first.
+-- What an end sends after any list of calls, told by its last submit and the calls since. A list has its newest call
+-- first.
 use Rattle.std.specs.Prelude.{◌≡◌, ℕ, suc, ◌+◌, ◌%◌, ◌<◌, ◌≤◌, ◌==◌, ◌||◌, Bool, true, false, List, [], ◌∷◌, length, Option, Some, None, nat_le, if◌then◌else◌, ⊤}
 use Rattle.std.specs.List.{list_any}
 use Rattle.exb_ecp.specs.declared.stop_and_wait.Beat.{Beat as Due}
@@ -55,7 +56,11 @@ pub record Submitted : Type 0 where
 
 -- of a call after some others, the last submit of which is this
 abbrev pub submit_at : Call → List Call → Option Submitted → Option Submitted
-submit_at (Submit payload) before last = Some (record { number = suc (times is_submit before); payload = payload; since = [] })
+submit_at (Submit payload) before last = Some (record {
+  number = suc (times is_submit before);
+  payload = payload;
+  since = [];
+})
 submit_at _ before None = None
 submit_at c before (Some u) = Some (record { number = u.number; payload = u.payload; since = c ∷ u.since })
 
@@ -75,7 +80,11 @@ is_over u = list_any (ends (sequence_of u.number)) u.since || nat_le 12 (times i
 abbrev pub still_sent : Option Submitted → Option Sending
 still_sent None = None
 still_sent (Some u) =
-    if is_over u then None else Some (record { sequence = sequence_of u.number; beats = times is_beat u.since; payload = u.payload })
+    if is_over u then None else Some (record {
+      sequence = sequence_of u.number;
+      beats = times is_beat u.since;
+      payload = u.payload;
+    })
 
 -- what a further beat answers: `SendAgain` at the third, sixth and ninth since the submit, `GaveUp` at the twelfth
 abbrev pub due_after : Option Submitted → Due

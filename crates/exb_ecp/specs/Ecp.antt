@@ -9,7 +9,11 @@ sending_of latest payload None = None
 sending_of latest payload (Some beats) = Some (record { sequence = latest; beats = beats; payload = payload })
 
 abbrev pub state_of : Inside → State
-state_of e = record { next = after e.latest; sending = sending_of e.latest e.payload.items e.beats; received = e.received }
+state_of e = record {
+  next = after e.latest;
+  sending = sending_of e.latest e.payload.items e.beats;
+  received = e.received;
+}
 
 -- what holds of the fields
 pub record IsKept (e : Inside) : Type 0 where

@@ -22,13 +22,20 @@ abbrev pub subtype : List ℕ → ℕ
 subtype frame = number_at frame 14 % 1024
 
 abbrev pub header_in : List ℕ → Pdu
-header_in frame = record { acknowledgement = operation frame == 1; subtype = subtype frame; sequence = number_at frame 16; payload_at = 18 }
+header_in frame = record {
+  acknowledgement = operation frame == 1;
+  subtype = subtype frame;
+  sequence = number_at frame 16;
+  payload_at = 18;
+}
 
 -- what the header of a frame says, or its first fault
 abbrev pub pdu_in : List ℕ → Result Pdu EcpFault
 pdu_in frame =
     if is_ecp frame
-    then (if nat_lt (length frame) 18 then Err Cut else (if version frame == 1 then (if nat_lt 1 (operation frame) then Err Operation else Ok (header_in frame)) else Err Version))
+    then (if nat_lt (length frame) 18 then Err Cut
+    else (if version frame == 1 then (if nat_lt 1 (operation frame) then Err Operation else Ok (header_in frame))
+    else Err Version))
     else Err NotEcp
 
 -- what can be written
@@ -47,7 +54,8 @@ header_word p = 4096 + (if p.acknowledgement then 1 else 0) * 1024 + p.subtype
 
 abbrev pub spelling : Mac → Pdu → List ℕ → List ℕ
 spelling source p payload =
-    control_address ++ source.0 ++ two_bytes 0x8940 ++ two_bytes (header_word p) ++ two_bytes p.sequence ++ carried p payload
+    control_address ++ source.0 ++ two_bytes 0x8940 ++ two_bytes (header_word p) ++ two_bytes p.sequence
+    ++ carried p payload
 
 -- a frame that is written is read again, as the header and the payload that it carries
 pub record IsReadAgain (source : Mac) (p : Pdu) (payload : List ℕ) : Type 0 where
@@ -57,4 +65,5 @@ pub record IsReadAgain (source : Mac) (p : Pdu) (payload : List ℕ) : Type 0 wh
 
 -- Whatever can be written is read again. An address has six bytes.
 abbrev pub WrittenIsRead : Type 0
-WrittenIsRead = (source : Mac) (p : Pdu) (payload : List ℕ) → length source.0 ≡ 6 → CanBeWritten p payload → IsReadAgain source p payload
+WrittenIsRead = (source : Mac) (p : Pdu) (payload : List ℕ) → length source.0 ≡ 6 → CanBeWritten p payload
+    → IsReadAgain source p payload

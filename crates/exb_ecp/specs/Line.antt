@@ -38,7 +38,8 @@ pub data Step : Type 0 where
   -- likewise the acknowledgements on their way to the sender
   Hear : Bool → Step
   LoseAcknowledgement : ℕ → Step
-  -- meanwhile, for the opposite way: a request comes to the sender's end, and the receiver's end makes a call for what it sends
+  -- meanwhile, for the opposite way: a request comes to the sender's end, and the receiver's end makes a call for what
+  -- it sends
   OtherRequest : ℕ → Step
   OtherCall : Call → Step
 
@@ -117,7 +118,15 @@ stepped (OtherRequest sequence) l = record l { sender = heard sequence l.sender 
 stepped (OtherCall c) l = record l { receiver = sending_call c l.receiver }
 
 abbrev pub new_line : Line
-new_line = record { sender = new_state; receiver = new_state; requests = []; acknowledgements = []; submitted = []; handed = []; dropped = false }
+new_line = record {
+  sender = new_state;
+  receiver = new_state;
+  requests = [];
+  acknowledgements = [];
+  submitted = [];
+  handed = [];
+  dropped = false;
+}
 
 -- the line after steps, of which the first comes first
 abbrev pub run : Line → List Step → Line

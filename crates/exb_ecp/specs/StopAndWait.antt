@@ -55,7 +55,11 @@ is_fresh sequence s = not (is_last s.received sequence)
 -- what is sent ends at the twelfth beat
 abbrev pub aged : Option Sending → Option Sending
 aged None = None
-aged (Some x) = if x.beats + 1 == 12 then None else Some (record { sequence = x.sequence; beats = x.beats + 1; payload = x.payload })
+aged (Some x) = if x.beats + 1 == 12 then None else Some (record {
+  sequence = x.sequence;
+  beats = x.beats + 1;
+  payload = x.payload;
+})
 
 abbrev pub beaten : State → State
 beaten s = record { next = s.next; sending = aged s.sending; received = s.received }

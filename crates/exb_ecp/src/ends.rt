@@ -56,7 +56,9 @@ impl Ends {
     pub fn submit(&mut self, extender: u8, payload: &[u8]) -> u16
         requires known { IsNumber extender }
         requires fits { length payload.now ≤ 1024 }
-        ensures state { near_of self.new ≡ at extender (submitted payload.now (stopped (near_of self.old extender))) (near_of self.old) }
+        ensures state { near_of self.new
+            ≡ at extender (submitted payload.now (stopped (near_of self.old extender)))
+            (near_of self.old) }
         ensures sequence { result ≡ (near_of self.old extender).next }
     {
         let end = &mut self.ends[extender as usize];
@@ -70,7 +72,8 @@ impl Ends {
     /// Ends what is sent to an extender.
     pub fn stop(&mut self, extender: u8)
         requires { IsNumber extender }
-        ensures { near_of self.new ≡ at extender (stopped (near_of self.old extender)) (near_of self.old) }
+        ensures { near_of self.new ≡ at extender (stopped (near_of self.old extender))
+            (near_of self.old) }
     {
         let end = &mut self.ends[extender as usize];
         end.stop();
@@ -81,7 +84,8 @@ impl Ends {
     /// Takes an acknowledgement of an extender.
     pub fn acked(&mut self, extender: u8, sequence: u16)
         requires { IsNumber extender }
-        ensures { near_of self.new ≡ at extender (acknowledged sequence (near_of self.old extender)) (near_of self.old) }
+        ensures { near_of self.new ≡ at extender (acknowledged sequence (near_of self.old extender))
+            (near_of self.old) }
     {
         let end = &mut self.ends[extender as usize];
         end.acked(sequence);
@@ -92,7 +96,8 @@ impl Ends {
     /// Whether a request of an extender has another sequence than the last one, which it then is.
     pub fn received(&mut self, extender: u8, sequence: u16) -> bool
         requires { IsNumber extender }
-        ensures state { near_of self.new ≡ at extender (heard sequence (near_of self.old extender)) (near_of self.old) }
+        ensures state { near_of self.new ≡ at extender (heard sequence (near_of self.old extender))
+            (near_of self.old) }
         ensures fresh { result ≡ is_fresh sequence (near_of self.old extender) }
     {
         let end = &mut self.ends[extender as usize];
@@ -105,7 +110,8 @@ impl Ends {
     /// A beat passes at the end with an extender.
     pub fn beat(&mut self, extender: u8) -> Beat
         requires { IsNumber extender }
-        ensures state { near_of self.new ≡ at extender (beaten (near_of self.old extender)) (near_of self.old) }
+        ensures state { near_of self.new ≡ at extender (beaten (near_of self.old extender))
+            (near_of self.old) }
         ensures due { result ≡ beat_of (near_of self.old extender).sending }
     {
         let end = &mut self.ends[extender as usize];
@@ -117,7 +123,8 @@ impl Ends {
 
     /// Whether an end with one of these extenders sends something.
     pub fn are_sending(&self, among: u64) -> bool
-        ensures { (result ≡ false) ↔ ((n : ℕ) → number_in among n ≡ 1 → (near_of self.now n).sending ≡ None) }
+        ensures { (result ≡ false) ↔ ((n : ℕ) → number_in among n ≡ 1 → (near_of self.now n).sending
+            ≡ None) }
     {
         meet(self.sending, among)
     }

@@ -1,5 +1,5 @@
-//! Frames: destination, source and EtherType 8940; 16 bits of version (4), operation (2) and subtype (10);
-//! 16 bits of sequence; and the payload.
+//! Frames: destination, source and EtherType 8940; 16 bits of version (4), operation (2) and
+//! subtype (10); 16 bits of sequence; and the payload.
 ghost use Rattle.std.specs.Prelude.{◌≡◌, ◌+◌, ◌≤◌, ◌++◌, drop, length, Ok};
 ghost use Rattle.arrayvec.specs.ArrayVec.{array_vec_len};
 ghost use Rattle.exb_ecp.specs.Frames.{is_ecp, pdu_in, spelling, carried, CanBeWritten};

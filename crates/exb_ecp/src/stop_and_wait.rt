@@ -1,5 +1,5 @@
-//! The machine of one end: it sends one payload until it is acknowledged, stopped or given up, and tells a
-//! request that is new from one that came before.
+//! The machine of one end: it sends one payload until it is acknowledged, stopped or given up, and
+//! tells a request that is new from one that came before.
 ghost use Rattle.std.specs.Prelude.{◌≡◌, ◌≤◌, length, None, IfSome, IsTrue, ◌↔◌};
 ghost use Rattle.exb_ecp.specs.StopAndWait.{after};
 
@@ -16,8 +16,8 @@ pub enum Beat {
     GaveUp,
 }
 
-/// One end of ECP: what it sends, which sequence comes next, and which was received last. A payload is sent
-/// again at the third, sixth and ninth beat after its submit, and given up at the twelfth.
+/// One end of ECP: what it sends, which sequence comes next, and which was received last. A payload
+/// is sent again at the third, sixth and ninth beat after its submit, and given up at the twelfth.
 #[derive(Drop)]
 pub struct Ecp {
     /// The sequence of the latest submit, 0 before the first.
@@ -67,7 +67,8 @@ impl Ecp {
         }
     }
 
-    /// Begins to send a payload of at most 1,024 bytes, and answers its sequence. The caller sends it now.
+    /// Begins to send a payload of at most 1,024 bytes, and answers its sequence. The caller sends
+    /// it now.
     pub fn submit(&mut self, payload: &[u8]) -> u16
         requires idle { self.old.sending ≡ None }
         requires fits { length payload.now ≤ 1024 }
@@ -97,8 +98,8 @@ impl Ecp {
         }
     }
 
-    /// A request came, which the caller acknowledges whatever the answer is: true where it is to be handed
-    /// up, false where its sequence is the last received one.
+    /// A request came, which the caller acknowledges whatever the answer is: true where it is to be
+    /// handed up, false where its sequence is the last received one.
     pub fn received(&mut self, sequence: u16) -> bool
         ensures step { self.new ≡ heard sequence self.old }
         ensures fresh { result ≡ is_fresh sequence self.old }

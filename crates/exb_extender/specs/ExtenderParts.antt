@@ -7,7 +7,14 @@ use Rattle.exb_extender.specs.Fields.{Fields}
 use Rattle.exb_extender.specs.Tables.{tables_of}
 
 abbrev pub state_with : ExtenderTables → ControlState → ExtenderState
-state_with t c = record { number = c.number; tables = t; session = c.session; ecp = c.ecp; beats = c.beats; opened = c.opened }
+state_with t c = record {
+  number = c.number;
+  tables = t;
+  session = c.session;
+  ecp = c.ecp;
+  beats = c.beats;
+  opened = c.opened;
+}
 
 abbrev pub state_in : ForwardingTables → ControlState → ExtenderState
 state_in t c = state_with (tables_of t) c

@@ -7,8 +7,8 @@ use Rattle.exb_extender.specs.Machine.{ExtenderState, at_power_on, beats}
 use Rattle.exb_extender.specs.IdleExtender.{rests, rested}
 use Rattle.exb_model.specs.DeviceSets.{number_in}
 
--- By device, how many ports it has, and the extender, where it is one. And how many beats, modulo 16, have passed at those
--- that rest and aren't counted in them yet.
+-- By device, how many ports it has, and the extender, where it is one. And how many beats, modulo 16, have passed at
+-- those that rest and aren't counted in them yet.
 pub record Devices : Type 0 where
   pub ports : List ℕ
   pub extenders : List (Option Fields)
@@ -62,8 +62,8 @@ waits_at (Some (Some f)) = if rests (state_of f) then 0 else 1
 waits_at (Some None) = 0
 waits_at None = 0
 
--- There is a place for each device. Exactly those that send something are noted by their bits, and exactly those that don't
--- rest; and beats are counted modulo 16.
+-- There is a place for each device. Exactly those that send something are noted by their bits, and exactly those that
+-- don't rest; and beats are counted modulo 16.
 pub record AreNoted (extenders : List (Option Fields)) (sending waiting passed : ℕ) : Type 0 where
   pub few : length extenders ≡ 65
   pub noted : (n : ℕ) → (number_in sending n ≡ 0) ↔ (sent_at (slice_get extenders n) ≡ None)

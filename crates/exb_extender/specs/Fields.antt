@@ -5,7 +5,8 @@ use Rattle.exb_csp.specs.Sessions.AnsweringEnd.{AnswererState}
 use Rattle.exb_extender.specs.Machine.{ExtenderState}
 use Rattle.exb_extender.specs.TableRows.{tables_in}
 
--- a channel and a kind for each port, from 1, with place 0 empty; a row of ports for each E-CID; and the rest of the state
+-- a channel and a kind for each port, from 1, with place 0 empty; a row of ports for each E-CID; and the rest of the
+-- state
 pub record Fields : Type 0 where
   pub number : ℕ
   pub ports : ℕ
@@ -18,4 +19,11 @@ pub record Fields : Type 0 where
   pub opened : Bool
 
 abbrev pub state_of : Fields → ExtenderState
-state_of f = record { number = f.number; tables = tables_in f.ports f.own f.cascade f.rows; session = f.session; ecp = f.ecp; beats = f.beats; opened = f.opened }
+state_of f = record {
+  number = f.number;
+  tables = tables_in f.ports f.own f.cascade f.rows;
+  session = f.session;
+  ecp = f.ecp;
+  beats = f.beats;
+  opened = f.opened;
+}

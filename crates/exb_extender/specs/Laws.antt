@@ -34,12 +34,14 @@ HasPair t e = (port : ℕ) × (0 < port) × (port ≤ 64) × (t.pair e port ≡ 
 
 -- a bit's port is above the count or has no channel
 abbrev pub HasStray : ExtenderTables → ℕ → Type 0
-HasStray t mask = (port : ℕ) × (0 < port) × (port ≤ 64) × (in_mask mask port ≡ true) × ((t.ports < port) ⊎ (t.own port ≡ 0))
+HasStray t mask = (port : ℕ) × (0 < port) × (port ≤ 64) × (in_mask mask port ≡ true)
+    × ((t.ports < port) ⊎ (t.own port ≡ 0))
 
 pub record CreateCodes (t : ExtenderTables) (port : ℕ) (kind : Bool) (channel : ℕ) : Type 0 where
   pub one : (code_of t (PortCreate port kind channel) ≡ 1) ↔ (¬ IsPortOf t port)
   pub two : (code_of t (PortCreate port kind channel) ≡ 2) ↔ (IsPortOf t port × (¬ IsChannel channel))
-  pub three : (code_of t (PortCreate port kind channel) ≡ 3) ↔ (IsPortOf t port × IsChannel channel × ((0 < t.own port) ⊎ HasPair t channel))
+  pub three : (code_of t (PortCreate port kind channel) ≡ 3)
+      ↔ (IsPortOf t port × IsChannel channel × ((0 < t.own port) ⊎ HasPair t channel))
 
 pub record DeleteCodes (t : ExtenderTables) (port : ℕ) : Type 0 where
   pub one : (code_of t (PortDelete port) ≡ 1) ↔ (¬ IsPortOf t port)
@@ -62,16 +64,19 @@ pub record CodesExactly : Type 0 where
   pub unregister : (t : ExtenderTables) (ecid : ℕ) → UnregisterCodes t ecid
 
 -- the first row with another code than 0, after rows with code 0
-pub record IsFirstBad (t : ExtenderTables) (rows before after : List GroupRow) (row : GroupRow) (code : ℕ) : Type 0 where
+pub record IsFirstBad (t : ExtenderTables) (rows before after : List GroupRow) (row : GroupRow)
+    (code : ℕ) : Type 0 where
   pub split : rows ≡ before ++ row ∷ after
   pub good : code_of t (RegisterMany before) ≡ 0
   pub bad : row_code t before row.ecid row.mask ≡ code
 
--- RegisterMany has another code than 0 exactly where a first row has it; the E-CIDs of the rows before it count as ones that have a pair.
+-- RegisterMany has another code than 0 exactly where a first row has it; the E-CIDs of the rows before it count as ones
+-- that have a pair.
 abbrev pub ManyCodes : Type 0
 ManyCodes =
     (t : ExtenderTables) (rows : List GroupRow) (code : ℕ) → code ≢ 0
-    → (code_of t (RegisterMany rows) ≡ code) ↔ ((before : List GroupRow) × (row : GroupRow) × (after : List GroupRow) × IsFirstBad t rows before after row code)
+    → (code_of t (RegisterMany rows) ≡ code) ↔ ((before : List GroupRow) × (row : GroupRow) × (after : List GroupRow)
+    × IsFirstBad t rows before after row code)
 
 -- ---- the machine
 
@@ -82,7 +87,8 @@ IsInput Beats = Unit {0}
 
 -- What holds of an extender at power-on, and is kept by each reaction; its number and its ports stay.
 pub record StaysExtender : Type 0 where
-  pub begins : (number ports : ℕ) → 1 ≤ number → number ≤ 64 → 1 ≤ ports → ports ≤ 64 → IsExtender (at_power_on number ports)
+  pub begins : (number ports : ℕ) → 1 ≤ number → number ≤ 64 → 1 ≤ ports → ports ≤ 64
+      → IsExtender (at_power_on number ports)
   pub keeps : (i : Input) (s : ExtenderState) → IsInput i → IsExtender s → IsExtender (react i s).0
   pub device : (i : Input) (s : ExtenderState) → IsSameDevice s (react i s).0
 

@@ -39,7 +39,14 @@ pub record ExtenderState : Type 0 where
   pub opened : Bool
 
 abbrev pub at_power_on : ℕ → ℕ → ExtenderState
-at_power_on number ports = record { number = number; tables = powered_on ports; session = fresh; ecp = new_state; beats = 0; opened = false }
+at_power_on number ports = record {
+  number = number;
+  tables = powered_on ports;
+  session = fresh;
+  ecp = new_state;
+  beats = 0;
+  opened = false;
+}
 
 -- the state, and what is sent, in order
 abbrev pub Reaction : Type 0
@@ -57,7 +64,12 @@ address_of number = record { 0 = 2 ∷ 69 ∷ 66 ∷ 1 ∷ 0 ∷ number ∷ [] }
 
 -- the subtype of control messages is 2
 abbrev pub control_pdu : Bool → ℕ → Pdu
-control_pdu acknowledgement sequence = record { acknowledgement = acknowledgement; subtype = 2; sequence = sequence; payload_at = 18 }
+control_pdu acknowledgement sequence = record {
+  acknowledgement = acknowledgement;
+  subtype = 2;
+  sequence = sequence;
+  payload_at = 18;
+}
 
 abbrev pub acknowledgement_frame : ℕ → ℕ → List ℕ
 acknowledgement_frame number sequence = spelling (address_of number) (control_pdu true sequence) []
@@ -73,7 +85,10 @@ announcement_frame number ports = announcement (record { chassis = address_of nu
 -- a message is submitted, in place of what is sent, and goes up
 abbrev pub submits : Option Message → ExtenderState → Reaction
 submits None s = nothing s
-submits (Some m) s = (record s { ecp = submitted (message_bytes m) s.ecp }, up (request_frame s.number s.ecp.next (message_bytes m)) ∷ [])
+submits (Some m) s = (
+  record s { ecp = submitted (message_bytes m) s.ecp },
+  up (request_frame s.number s.ecp.next (message_bytes m)) ∷ [],
+)
 
 -- the stored answer is submitted, and goes up
 abbrev pub answers : ExtenderState → Reaction
@@ -120,13 +135,15 @@ after_sending bytes r = (r.0, up bytes ∷ r.1)
 abbrev pub hears_request : ℕ → List ℕ → ExtenderState → Reaction
 hears_request sequence payload s =
     after_sending (acknowledgement_frame s.number sequence)
-    (if is_fresh sequence s.ecp then takes_message (read_message payload) (record s { ecp = heard sequence s.ecp }) else nothing s)
+    (if is_fresh sequence s.ecp then takes_message (read_message payload) (record s { ecp = heard sequence s.ecp })
+    else nothing s)
 
 abbrev pub hears_pdu : Result Pdu EcpFault → List ℕ → ExtenderState → Reaction
 hears_pdu (Err fault) f s = nothing s
 hears_pdu (Ok pdu) f s =
     if pdu.subtype == 2
-    then (if pdu.acknowledgement then nothing (record s { ecp = acknowledged pdu.sequence s.ecp }) else hears_request pdu.sequence (drop 18 f) s)
+    then (if pdu.acknowledgement then nothing (record s { ecp = acknowledged pdu.sequence s.ecp }) else hears_request
+    pdu.sequence (drop 18 f) s)
     else nothing s
 
 -- a control frame without an E-TAG comes from upstream

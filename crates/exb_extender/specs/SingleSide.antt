@@ -17,8 +17,8 @@ pub record GoesAt (t : ExtenderTables) (tag : Tag) (out : Out) : Type 0 where
   pub only : outs_where (t.pair tag.ecid) t tag ≡ out ∷ []
   pub low : IsLow out.to
 
--- A frame from a side goes to one side, in one form that it can be given, and nothing else comes of it, whatever the extender keeps
--- beside these tables.
+-- A frame from a side goes to one side, in one form that it can be given, and nothing else comes of it, whatever the
+-- extender keeps beside these tables.
 pub record GoesTo (t : ExtenderTables) (from : Side) (f : List ℕ) (out : Out) : Type 0 where
   pub reacts : (s : ExtenderState) → s.tables ≡ t → react (Arrives from f) s ≡ (s, out_sent f out ∷ [])
   pub given : CanBeGiven f out.form

@@ -6,4 +6,9 @@ use Rattle.exb_csp.specs.Execution.{ExtenderTables, in_mask}
 -- the tables that these are: the channel and the kind of each port, and the ports of each E-CID
 abbrev pub tables_in : ℕ → List ℕ → List Bool → List ℕ → ExtenderTables
 tables_in count own cascade rows =
-    record { ports = count; own = slice_index own; cascade = λ q. slice_index_or cascade q false; pair = λ e q. in_mask (row_of rows e) q }
+    record {
+      ports = count;
+      own = slice_index own;
+      cascade = λ q. slice_index_or cascade q false;
+      pair = λ e q. in_mask (row_of rows e) q;
+    }

@@ -38,7 +38,13 @@ impl Model for ExtenderControl {
 
     ghost Value = { ControlState };
 
-    ghost view = { λ c. record { number = c.number; session = c.session; ecp = c.ecp; beats = c.beats; opened = c.opened } };
+    ghost view = { λ c. record {
+      number = c.number;
+      session = c.session;
+      ecp = c.ecp;
+      beats = c.beats;
+      opened = c.opened;
+    } };
 
     ghost invariant = { λ c. IsInOrder c.number c.session c.ecp c.beats };
 }
@@ -81,7 +87,8 @@ fn write_request(number: u8, sequence: u16, payload: &[u8], out: &mut ControlBuf
 fn announce(number: u8, ports: u8, opened: bool, count: u8, out: &mut ControlBuf)
     requires ports { (1 ≤ ports) × (ports ≤ 64) }
     requires empty { out.old.items ≡ [] }
-    ensures { own_sent out.new.items ≡ (if not opened && (count == 1) then up (announcement_frame number ports) ∷ [] else []) }
+    ensures { own_sent out.new.items
+        ≡ (if not opened && (count == 1) then up (announcement_frame number ports) ∷ [] else []) }
 {
     if opened {
         return;
@@ -101,7 +108,8 @@ fn beat_at(number: u8, ecp: &mut Ecp, out: &mut ControlBuf)
     requires sound { IsSound ecp.old }
     requires empty { out.old.items ≡ [] }
     ensures state { ecp.new ≡ beaten ecp.old }
-    ensures sends { own_sent out.new.items ≡ sends_again (beat_of ecp.old.sending) number ecp.old.sending }
+    ensures sends { own_sent out.new.items ≡ sends_again (beat_of ecp.old.sending) number
+        ecp.old.sending }
 {
     match ecp.beat() {
         Beat::SendAgain => write_request(number, ecp.sequence(), ecp.payload(), out),
@@ -136,7 +144,14 @@ impl ExtenderControl {
     pub(crate) fn new(number: u8) -> ExtenderControl
         requires { (1 ≤ number) × (number ≤ 64) }
         ensures { (t : ExtenderTables) → state_with t result
-            ≡ record { number = number; tables = t; session = fresh; ecp = new_state; beats = 0; opened = false } }
+            ≡ record {
+              number = number;
+              tables = t;
+              session = fresh;
+              ecp = new_state;
+              beats = 0;
+              opened = false;
+            } }
     {
         ExtenderControl {
             number,
@@ -150,8 +165,10 @@ impl ExtenderControl {
     // Submits the stored answer, in the place of what is sent, and writes it.
     fn answer(&mut self, out: &mut ControlBuf)
         requires { out.old.items ≡ [] }
-        ensures state { (t : ExtenderTables) → state_with t self.new ≡ (answers (state_with t self.old)).0 }
-        ensures sends { (t : ExtenderTables) → own_sent out.new.items ≡ (answers (state_with t self.old)).1 }
+        ensures state { (t : ExtenderTables) → state_with t self.new
+            ≡ (answers (state_with t self.old)).0 }
+        ensures sends { (t : ExtenderTables) → own_sent out.new.items
+            ≡ (answers (state_with t self.old)).1 }
     {
         let Some(message) = self.session.stored() else {
             return;
@@ -167,10 +184,12 @@ impl ExtenderControl {
     pub(crate) fn beat(&mut self, ports: u8, sends: &mut Sends)
         requires ports { (1 ≤ ports) × (ports ≤ 64) }
         requires empty { IsNothing sends.old }
-        ensures state { (t : ExtenderTables) → state_with t self.new ≡ (beats (state_with t self.old)).0 }
+        ensures state { (t : ExtenderTables) → state_with t self.new
+            ≡ (beats (state_with t self.old)).0 }
         ensures frames { sends.new.frames ≡ sends.old.frames }
         ensures sends { (t : ExtenderTables) → t.ports ≡ ports
-            → own_sent sends.new.first.items ++ own_sent sends.new.second.items ≡ (beats (state_with t self.old)).1 }
+            → own_sent sends.new.first.items ++ own_sent sends.new.second.items
+            ≡ (beats (state_with t self.old)).1 }
     {
         self.beats = next_count(self.beats);
         announce(
@@ -201,7 +220,8 @@ impl ExtenderControl {
     /// So many beats pass where it rests; else it stays as it is.
     pub(crate) fn pass(&mut self, beats: u8)
         requires { beats ≤ 16 }
-        ensures { (t : ExtenderTables) → state_with t self.new ≡ rested beats (state_with t self.old) }
+        ensures { (t : ExtenderTables) → state_with t self.new
+            ≡ rested beats (state_with t self.old) }
     {
         if self.rests() {
             self.beats = (self.beats + beats) % 16;
@@ -217,8 +237,10 @@ impl ExtenderControl {
         out: &mut ControlBuf,
     )
         requires { out.old.items ≡ [] }
-        ensures state { state_in tables.new self.new ≡ (takes_request serial request (state_in tables.old self.old)).0 }
-        ensures sends { own_sent out.new.items ≡ (takes_request serial request (state_in tables.old self.old)).1 }
+        ensures state { state_in tables.new self.new
+            ≡ (takes_request serial request (state_in tables.old self.old)).0 }
+        ensures sends { own_sent out.new.items
+            ≡ (takes_request serial request (state_in tables.old self.old)).1 }
     {
         match self.session.take(serial, request) {
             Due::Execute(request) => {
@@ -234,8 +256,10 @@ impl ExtenderControl {
 
     fn take_payload(&mut self, tables: &mut ForwardingTables, payload: &[u8], out: &mut ControlBuf)
         requires { out.old.items ≡ [] }
-        ensures state { state_in tables.new self.new ≡ (takes_message (read_message payload.now) (state_in tables.old self.old)).0 }
-        ensures sends { own_sent out.new.items ≡ (takes_message (read_message payload.now) (state_in tables.old self.old)).1 }
+        ensures state { state_in tables.new self.new
+            ≡ (takes_message (read_message payload.now) (state_in tables.old self.old)).0 }
+        ensures sends { own_sent out.new.items
+            ≡ (takes_message (read_message payload.now) (state_in tables.old self.old)).1 }
     {
         let Ok(message) = exb_csp::read(payload) else {
             return;
@@ -256,7 +280,8 @@ impl ExtenderControl {
         sends: &mut Sends,
     )
         requires { IsNothing sends.old }
-        ensures state { state_in tables.new self.new ≡ (hears_request sequence payload.now (state_in tables.old self.old)).0 }
+        ensures state { state_in tables.new self.new
+            ≡ (hears_request sequence payload.now (state_in tables.old self.old)).0 }
         ensures frames { sends.new.frames ≡ sends.old.frames }
         ensures sends { own_sent sends.new.first.items ++ own_sent sends.new.second.items
             ≡ (hears_request sequence payload.now (state_in tables.old self.old)).1 }
@@ -276,7 +301,8 @@ impl ExtenderControl {
     )
         requires long { 18 ≤ length frame.now }
         requires empty { IsNothing sends.old }
-        ensures state { state_in tables.new self.new ≡ (hears_pdu (Ok pdu.now) frame.now (state_in tables.old self.old)).0 }
+        ensures state { state_in tables.new self.new
+            ≡ (hears_pdu (Ok pdu.now) frame.now (state_in tables.old self.old)).0 }
         ensures frames { sends.new.frames ≡ sends.old.frames }
         ensures sends { own_sent sends.new.first.items ++ own_sent sends.new.second.items
             ≡ (hears_pdu (Ok pdu.now) frame.now (state_in tables.old self.old)).1 }
@@ -295,7 +321,8 @@ impl ExtenderControl {
     /// Hears a control frame that comes from upstream without an E-TAG.
     pub(crate) fn hear(&mut self, tables: &mut ForwardingTables, frame: &[u8], sends: &mut Sends)
         requires { IsNothing sends.old }
-        ensures state { state_in tables.new self.new ≡ (hears frame.now (state_in tables.old self.old)).0 }
+        ensures state { state_in tables.new self.new
+            ≡ (hears frame.now (state_in tables.old self.old)).0 }
         ensures frames { sends.new.frames ≡ sends.old.frames }
         ensures sends { own_sent sends.new.first.items ++ own_sent sends.new.second.items
             ≡ (hears frame.now (state_in tables.old self.old)).1 }

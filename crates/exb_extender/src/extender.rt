@@ -16,9 +16,9 @@ use exb_model::memory::NoMemory;
 use std::alloc::Global;
 use std::marker::Model;
 
-/// A port extender of 1 to 64 ports. It forwards frames by its tables, which the controlling bridge sets by
-/// requests; it acknowledges and answers these, sends an answer again until it is acknowledged, and
-/// announces itself until it is opened.
+/// A port extender of 1 to 64 ports. It forwards frames by its tables, which the controlling bridge
+/// sets by requests; it acknowledges and answers these, sends an answer again until it is
+/// acknowledged, and announces itself until it is opened.
 pub struct Extender {
     tables: ForwardingTables,
     control: ExtenderControl,
@@ -47,7 +47,8 @@ impl Model for Extender {
 fn send_up(form: Option<Form>, sends: &mut Sends)
     requires { IsNothing sends.old }
     ensures sends { (f : List ℕ) → sent_by f sends.new ≡ form_sent f form }
-    ensures given { (f : List ℕ) → IfSome form (CanBeGiven f) → All (λ out. CanBeGiven f out.form) sends.new.frames.items }
+    ensures given { (f : List ℕ) → IfSome form (CanBeGiven f)
+        → All (λ out. CanBeGiven f out.form) sends.new.frames.items }
 {
     if let Some(form) = form {
         sends.frames.push(Out { to: Side::Up, form });
@@ -58,8 +59,10 @@ fn send_up(form: Option<Form>, sends: &mut Sends)
 fn take_up(tables: &ForwardingTables, port: u8, frame: &[u8], sends: &mut Sends)
     requires empty { IsNothing sends.old }
     requires port { port ≤ 64 }
-    requires cascade { ((tables_of tables.now).cascade port ≡ true) ⊎ ((tables_of tables.now).own port ≡ 0) }
-    ensures sends { sent_by frame.now sends.new ≡ emitted (tables_of tables.now) (Side.Port port) frame.now }
+    requires cascade { ((tables_of tables.now).cascade port ≡ true)
+        ⊎ ((tables_of tables.now).own port ≡ 0) }
+    ensures sends { sent_by frame.now sends.new ≡ emitted (tables_of tables.now)
+        (Side.Port port) frame.now }
     ensures given { All (λ out. CanBeGiven frame.now out.form) sends.new.frames.items }
 {
     if tables.cascade(port) {
@@ -75,8 +78,10 @@ fn take_down(
     sends: &mut Sends,
 )
     requires { IsNothing sends.old }
-    ensures state { state_in tables.new control.new ≡ (comes Side.Up frame.now (state_in tables.old control.old)).0 }
-    ensures sends { sent_by frame.now sends.new ≡ (comes Side.Up frame.now (state_in tables.old control.old)).1 }
+    ensures state { state_in tables.new control.new
+        ≡ (comes Side.Up frame.now (state_in tables.old control.old)).0 }
+    ensures sends { sent_by frame.now sends.new
+        ≡ (comes Side.Up frame.now (state_in tables.old control.old)).1 }
     ensures given { All (λ out. CanBeGiven frame.now out.form) sends.new.frames.items }
 {
     if is_bare_control(frame) {
@@ -92,8 +97,8 @@ impl Extender {
     ghost use Rattle.exb_extender.specs.SingleSide.{GoesTo};
     ghost use Rattle.exb_extender.specs.IdleExtender.{rests, rested};
 
-    /// Extender `number` at power-on: each port is external and without a channel. This call alone takes
-    /// memory.
+    /// Extender `number` at power-on: each port is external and without a channel. This call alone
+    /// takes memory.
     pub fn new(alloc: Global, number: u8, ports: u8) -> Result<Extender, NoMemory>
         requires numbered { (1 ≤ number) × (number ≤ 64) }
         requires ports { (1 ≤ ports) × (ports ≤ 64) }
@@ -105,12 +110,13 @@ impl Extender {
         Ok(Extender { tables, control })
     }
 
-    /// Takes a frame from upstream, or from a port that is a cascade port or has no channel. What is in
-    /// `sends` is replaced; an acknowledgement stands there before an answer.
+    /// Takes a frame from upstream, or from a port that is a cascade port or has no channel. What
+    /// is in `sends` is replaced; an acknowledgement stands there before an answer.
     pub fn take(&mut self, from: Side, frame: &[u8], sends: &mut Sends)
         requires { CanTake (state_of self.old) from }
         ensures state { state_of self.new ≡ (react (Arrives from frame.now) (state_of self.old)).0 }
-        ensures sends { sent_by frame.now sends.new ≡ (react (Arrives from frame.now) (state_of self.old)).1 }
+        ensures sends { sent_by frame.now sends.new
+            ≡ (react (Arrives from frame.now) (state_of self.old)).1 }
         ensures given { All (λ out. CanBeGiven frame.now out.form) sends.new.frames.items }
         ensures device { IsSameDevice (state_of self.old) (state_of self.new) }
     {
@@ -121,8 +127,9 @@ impl Extender {
         }
     }
 
-    /// The one side to which a frame from upstream, or from a port as `take` has it, goes on, and its form there, where nothing else
-    /// comes of it: mostly so, and it need not be taken then. None says nothing.
+    /// The one side to which a frame from upstream, or from a port as `take` has it, goes on, and
+    /// its form there, where nothing else comes of it: mostly so, and it need not be taken then.
+    /// None says nothing.
     #[inline(always)]
     pub fn only_out(&self, from: Side, frame: &[u8]) -> Option<Out>
         requires { CanTake (state_of self.now) from }
@@ -134,27 +141,32 @@ impl Extender {
         }
     }
 
-    /// The form in which a frame goes up that arrives at a port that is no cascade port; None where it is ignored. It need not be
-    /// taken then: nothing else comes of it.
+    /// The form in which a frame goes up that arrives at a port that is no cascade port; None where
+    /// it is ignored. It need not be taken then: nothing else comes of it.
     #[inline(always)]
     pub fn form_in(&self, port: u8, frame: &[u8]) -> Option<Form>
         requires port { IsPort (state_of self.now) port }
         requires external { (state_of self.now).tables.cascade port ≡ false }
-        ensures sends { form_sent frame.now result ≡ emitted (state_of self.now).tables (Side.Port port) frame.now }
+        ensures sends { form_sent frame.now result ≡ emitted (state_of self.now).tables
+            (Side.Port port) frame.now }
         ensures given { IfSome result (CanBeGiven frame.now) }
-        ensures ignored { is_none result ≡ is_ignored ((state_of self.now).tables.own port) frame.now }
+        ensures ignored { is_none result ≡ is_ignored ((state_of self.now).tables.own port)
+            frame.now }
     {
         form_from_external(self.tables.channel(port), frame)
     }
 
-    /// Takes a frame that arrives at a port that is no cascade port. What is in `sends` is replaced.
+    /// Takes a frame that arrives at a port that is no cascade port. What is in `sends` is
+    /// replaced.
     pub fn arrive(&mut self, port: u8, frame: &[u8], sends: &mut Sends) -> Entry
         requires port { IsPort (state_of self.old) port }
         requires external { (state_of self.old).tables.cascade port ≡ false }
         ensures state { self.new ≡ self.old }
-        ensures sends { sent_by frame.now sends.new ≡ (react (Arrives (Side.Port port) frame.now) (state_of self.old)).1 }
+        ensures sends { sent_by frame.now sends.new
+            ≡ (react (Arrives (Side.Port port) frame.now) (state_of self.old)).1 }
         ensures given { All (λ out. CanBeGiven frame.now out.form) sends.new.frames.items }
-        ensures ignored { (result ≡ Entry.Ignored) ↔ IsTrue (is_ignored ((state_of self.old).tables.own port) frame.now) }
+        ensures ignored { (result ≡ Entry.Ignored)
+            ↔ IsTrue (is_ignored ((state_of self.old).tables.own port) frame.now) }
     {
         sends.clear();
         let form = form_from_external(self.tables.channel(port), frame);
@@ -184,15 +196,16 @@ impl Extender {
         self.control.idle()
     }
 
-    /// Whether it rests: it was opened, and sends nothing that waits for an acknowledgement. A beat then changes
-    /// its count alone.
+    /// Whether it rests: it was opened, and sends nothing that waits for an acknowledgement. A beat
+    /// then changes its count alone.
     pub fn rests(&self) -> bool
         ensures { result ≡ rests (state_of self.now) }
     {
         self.control.rests()
     }
 
-    /// So many beats pass at once where it rests; else it stays as it is. After sixteen the count is as before.
+    /// So many beats pass at once where it rests; else it stays as it is. After sixteen the count
+    /// is as before.
     pub fn pass(&mut self, beats: u8)
         requires { beats ≤ 16 }
         ensures { state_of self.new ≡ rested beats (state_of self.old) }

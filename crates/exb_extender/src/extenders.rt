@@ -34,8 +34,8 @@ pub struct Extenders {
     sending: u64,
     /// Those that are there and don't rest.
     waiting: u64,
-    /// How many beats, modulo 16, have passed at all that rest. They aren't counted in these yet: so a beat costs nothing
-    /// at an extender that rests.
+    /// How many beats, modulo 16, have passed at all that rest. They aren't counted in these yet:
+    /// so a beat costs nothing at an extender that rests.
     passed: u8,
 }
 
@@ -56,7 +56,11 @@ impl Model for Extenders {
 
     ghost Value = { Devices };
 
-    ghost view = { λ d. record { ports = d.ports; extenders = d.extenders.items; passed = d.passed } };
+    ghost view = { λ d. record {
+      ports = d.ports;
+      extenders = d.extenders.items;
+      passed = d.passed;
+    } };
 
     ghost invariant = { λ d. AreNoted d.extenders.items d.sending d.waiting d.passed };
 }
@@ -95,8 +99,10 @@ impl Extenders {
     pub fn new(alloc: Global, setup: &Setup) -> Result<Extenders, NoMemory>
         requires { IsValid setup.now }
         ensures far { IfOk result (λ made. far_of made ≡ first_far (shape_of setup.now)) }
-        ensures there { IfOk result (λ made. (n : ℕ) → is_extender (shape_of setup.now) n ≡ true → has_extender made n ≡ true) }
-        ensures only { IfOk result (λ made. (n : ℕ) → has_extender made n ≡ true → is_extender (shape_of setup.now) n ≡ true) }
+        ensures there { IfOk result (λ made. (n : ℕ) → is_extender (shape_of setup.now) n ≡ true
+            → has_extender made n ≡ true) }
+        ensures only { IfOk result (λ made. (n : ℕ) → has_extender made n ≡ true
+            → is_extender (shape_of setup.now) n ≡ true) }
     {
         let ports = setup.port_counts();
         let mut extenders = Vec::new(alloc);
@@ -117,8 +123,8 @@ impl Extenders {
         })
     }
 
-    /// The one side to which a frame from upstream, or from one of its cascade ports, goes on, with its form there, where nothing
-    /// else comes of it. None says nothing.
+    /// The one side to which a frame from upstream, or from one of its cascade ports, goes on, with
+    /// its form there, where nothing else comes of it. None says nothing.
     #[inline(always)]
     pub fn only_out(&self, number: u8, from: Side, frame: &[u8]) -> Option<Out>
         requires there { has_extender self.now number ≡ true }
@@ -137,8 +143,11 @@ impl Extenders {
         requires known { IsNumber number }
         requires there { has_extender self.old number ≡ true }
         requires from { CanTake (far_of self.old number) from }
-        ensures state { far_of self.new ≡ at number (react (Arrives from frame.now) (far_of self.old number)).0 (far_of self.old) }
-        ensures sends { sent_by frame.now sends.new ≡ (react (Arrives from frame.now) (far_of self.old number)).1 }
+        ensures state { far_of self.new
+            ≡ at number (react (Arrives from frame.now) (far_of self.old number)).0
+            (far_of self.old) }
+        ensures sends { sent_by frame.now sends.new
+            ≡ (react (Arrives from frame.now) (far_of self.old number)).1 }
         ensures given { All (CanGo frame.now) sends.new.frames.items }
         ensures same { AreSame self.old self.new }
     {
@@ -156,8 +165,11 @@ impl Extenders {
         requires known { IsNumber number }
         requires there { has_extender self.old number ≡ true }
         requires from { CanTake (far_of self.old number) from }
-        ensures state { far_of self.new ≡ at number (react (Arrives from frame.now) (far_of self.old number)).0 (far_of self.old) }
-        ensures sends { sent_by frame.now sends.new ≡ (react (Arrives from frame.now) (far_of self.old number)).1 }
+        ensures state { far_of self.new
+            ≡ at number (react (Arrives from frame.now) (far_of self.old number)).0
+            (far_of self.old) }
+        ensures sends { sent_by frame.now sends.new
+            ≡ (react (Arrives from frame.now) (far_of self.old number)).1 }
         ensures given { All (CanGo frame.now) sends.new.frames.items }
         ensures same { AreSame self.old self.new }
     {
@@ -178,8 +190,11 @@ impl Extenders {
         requires there { has_extender self.old number ≡ true }
         requires from { CanTake (far_of self.old number) from }
         requires plain { is_control_frame frame.now ≡ false }
-        ensures state { far_of self.new ≡ at number (react (Arrives from frame.now) (far_of self.old number)).0 (far_of self.old) }
-        ensures sends { sent_by frame.now sends.new ≡ (react (Arrives from frame.now) (far_of self.old number)).1 }
+        ensures state { far_of self.new
+            ≡ at number (react (Arrives from frame.now) (far_of self.old number)).0
+            (far_of self.old) }
+        ensures sends { sent_by frame.now sends.new
+            ≡ (react (Arrives from frame.now) (far_of self.old number)).1 }
         ensures given { All (CanGo frame.now) sends.new.frames.items }
         ensures same { AreSame self.old self.new }
     {
@@ -189,15 +204,18 @@ impl Extenders {
         }
     }
 
-    /// The form in which a frame goes up that arrives at a port of an extender that is no cascade port; None where it is ignored.
+    /// The form in which a frame goes up that arrives at a port of an extender that is no cascade
+    /// port; None where it is ignored.
     #[inline(always)]
     pub fn form_in(&self, number: u8, port: u8, frame: &[u8]) -> Option<Form>
         requires there { has_extender self.now number ≡ true }
         requires port { IsPort (far_of self.now number) port }
         requires external { (far_of self.now number).tables.cascade port ≡ false }
-        ensures sends { form_sent frame.now result ≡ emitted (far_of self.now number).tables (Side.Port port) frame.now }
+        ensures sends { form_sent frame.now result ≡ emitted (far_of self.now number).tables
+            (Side.Port port) frame.now }
         ensures given { IfSome result (CanBeGiven frame.now) }
-        ensures ignored { is_none result ≡ is_ignored ((far_of self.now number).tables.own port) frame.now }
+        ensures ignored { is_none result ≡ is_ignored ((far_of self.now number).tables.own port)
+            frame.now }
     {
         match &self.extenders[number as usize] {
             Some(extender) => extender.form_in(port, frame),
@@ -209,7 +227,8 @@ impl Extenders {
     pub fn beat(&mut self, number: u8, sends: &mut Sends)
         requires known { IsNumber number }
         requires there { has_extender self.old number ≡ true }
-        ensures state { far_of self.new ≡ at number (react Beats (far_of self.old number)).0 (far_of self.old) }
+        ensures state { far_of self.new ≡ at number (react Beats (far_of self.old number)).0
+            (far_of self.old) }
         ensures sends { sent_by [] sends.new ≡ (react Beats (far_of self.old number)).1 }
         ensures none { sends.new.frames.items ≡ [] }
         ensures same { AreSame self.old self.new }
@@ -235,7 +254,8 @@ impl Extenders {
 
     /// The extenders that don't rest, as a set of numbers.
     pub fn waiting(&self) -> u64
-        ensures { (n : ℕ) → number_in result n ≡ (if has_extender self.now n && not (rests (far_of self.now n)) then 1 else 0) }
+        ensures { (n : ℕ) → number_in result n
+            ≡ (if has_extender self.now n && not (rests (far_of self.now n)) then 1 else 0) }
     {
         self.waiting
     }
@@ -254,7 +274,8 @@ impl Extenders {
 
     /// Whether one of these extenders sends something that waits for an acknowledgement.
     pub fn are_sending(&self, among: u64) -> bool
-        ensures { (result ≡ false) ↔ ((n : ℕ) → number_in among n ≡ 1 → (far_of self.now n).ecp.sending ≡ None) }
+        ensures { (result ≡ false) ↔ ((n : ℕ) → number_in among n ≡ 1
+            → (far_of self.now n).ecp.sending ≡ None) }
     {
         meet(self.sending, among)
     }

@@ -18,7 +18,8 @@ fn put_whole(frame: &[u8], into: &mut Vec<u8>) -> Result<(), NoMemory>
     Ok(())
 }
 
-/// The E-TAG that names a channel (IEEE 802.1BR): priority 0, and no port from which the frame came.
+/// The E-TAG that names a channel (IEEE 802.1BR): priority 0, and no port from which the frame
+/// came.
 #[inline(always)]
 pub fn channel_tag(channel: u16) -> ETag
     ensures { tag_of result ≡ channel_tag channel }

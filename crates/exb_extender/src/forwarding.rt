@@ -60,7 +60,8 @@ fn form_at(tables: &ForwardingTables, port: u8, tag: &ETag) -> Option<Form>
 fn send_at(tables: &ForwardingTables, port: u8, tag: &ETag, frames: &mut Outs)
     requires port { port ≤ 64 }
     requires room { array_vec_len frames.old < 65 }
-    ensures { frames.new.items ≡ frames.old.items ++ outs_at (tables_of tables.now) (tag_of tag.now) port }
+    ensures { frames.new.items ≡ frames.old.items ++ outs_at (tables_of tables.now)
+        (tag_of tag.now) port }
 {
     if let Some(form) = form_at(tables, port, tag) {
         frames.push(Out {
@@ -74,7 +75,8 @@ fn send_at(tables: &ForwardingTables, port: u8, tag: &ETag, frames: &mut Outs)
 fn replicate(tables: &ForwardingTables, tag: &ETag, frames: &mut Outs)
     requires ecid { tag.now.ecid < 16384 }
     requires empty { frames.old.items ≡ [] }
-    ensures { let t = tables_of tables.now in frames.new.items ≡ outs_where (t.pair tag.now.ecid) t (tag_of tag.now) }
+    ensures { let t = tables_of tables.now in frames.new.items
+        ≡ outs_where (t.pair tag.now.ecid) t (tag_of tag.now) }
 {
     let mut left = tables.row(tag.ecid);
     'ports: while left != 0 {
@@ -107,7 +109,8 @@ fn only_port(tables: &ForwardingTables, tag: &ETag) -> Option<Out>
     }
 }
 
-/// The one side to which a frame from upstream goes on, where it has the E-TAG of one port. None says nothing.
+/// The one side to which a frame from upstream goes on, where it has the E-TAG of one port. None
+/// says nothing.
 #[inline(always)]
 pub(crate) fn only_down(tables: &ForwardingTables, frame: &[u8]) -> Option<Out>
     ensures { IfSome result (GoesTo (tables_of tables.now) Side.Up frame.now) }
@@ -121,7 +124,8 @@ pub(crate) fn only_down(tables: &ForwardingTables, frame: &[u8]) -> Option<Out>
 /// Where a frame goes that comes from upstream: in rising order to the ports of its E-CID.
 pub(crate) fn send_down(tables: &ForwardingTables, frame: &[u8], frames: &mut Outs)
     requires { frames.old.items ≡ [] }
-    ensures sends { map (out_sent frame.now) frames.new.items ≡ emitted (tables_of tables.now) Side.Up frame.now }
+    ensures sends { map (out_sent frame.now) frames.new.items
+        ≡ emitted (tables_of tables.now) Side.Up frame.now }
     ensures given { All (λ out. CanBeGiven frame.now out.form) frames.new.items }
 {
     if let Some(tag) = ETag::read(frame) {
@@ -140,7 +144,8 @@ fn names_channel(frame: &[u8]) -> bool
     }
 }
 
-/// A frame from a cascade port goes up as it is, where it has the E-TAG of a channel. None says nothing.
+/// A frame from a cascade port goes up as it is, where it has the E-TAG of a channel. None says
+/// nothing.
 #[inline(always)]
 pub(crate) fn only_up(tables: &ForwardingTables, port: u8, frame: &[u8]) -> Option<Out>
     requires { port ≤ 64 }
@@ -181,8 +186,9 @@ fn is_refused_kind(kind: &Seen) -> bool
     matches!(kind, Seen::Short | Seen::Long | Seen::Reserved)
 }
 
-/// The form in which a frame goes up that comes from an external port with that channel. None where it
-/// is ignored: without a channel, and where it is too short, too long, or has a reserved destination.
+/// The form in which a frame goes up that comes from an external port with that channel. None where
+/// it is ignored: without a channel, and where it is too short, too long, or has a reserved
+/// destination.
 pub(crate) fn form_from_external(channel: u16, frame: &[u8]) -> Option<Form>
     requires { channel < 4095 }
     ensures sent { form_sent frame.now result ≡ sent_from_external channel frame.now }

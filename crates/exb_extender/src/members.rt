@@ -1,5 +1,5 @@
-//! The rows by which an extender replicates (IEEE 802.1BR): for each E-CID, the ports that its frames go
-//! to. Each call reads or writes one row, and every other row stays.
+//! The rows by which an extender replicates (IEEE 802.1BR): for each E-CID, the ports that its
+//! frames go to. Each call reads or writes one row, and every other row stays.
 ghost use Rattle.std.specs.Prelude.{◌≡◌, ◌<◌, ℕ, ◌==◌, if◌then◌else◌, IfOk, length};
 ghost use Rattle.exb_extender.specs.MemberSets.{row_of, with_row};
 
@@ -10,8 +10,8 @@ use std::marker::Model;
 /// How many E-CIDs there are: they have 14 bits.
 const E_CIDS: usize = 16384;
 
-/// The rows of an extender: for each E-CID a word in which bit k - 1 is port k. An E-CID whose row is 0
-/// goes to no port.
+/// The rows of an extender: for each E-CID a word in which bit k - 1 is port k. An E-CID whose row
+/// is 0 goes to no port.
 #[derive(Drop)]
 pub struct MemberSets {
     rows: Vec<u64>,
@@ -57,7 +57,8 @@ impl MemberSets {
     pub fn put(&mut self, ecid: u16, mask: u64)
         requires { ecid < 16384 }
         ensures table { self.new ≡ with_row self.old ecid mask }
-        ensures rows { (e : ℕ) → row_of self.new e ≡ (if e == ecid then mask else row_of self.old e) }
+        ensures rows { (e : ℕ) → row_of self.new e
+            ≡ (if e == ecid then mask else row_of self.old e) }
     {
         self.rows[ecid as usize] = mask;
     }

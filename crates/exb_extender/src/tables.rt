@@ -234,7 +234,8 @@ impl ForwardingTables {
     // Registers the rows, all of them or none.
     fn register_many(&mut self, rows: &[GroupRow]) -> u8
         ensures code { result ≡ code_of (tables_of self.old) (RegisterMany rows.now) }
-        ensures tables { tables_of self.new ≡ executed (tables_of self.old) (RegisterMany rows.now) }
+        ensures tables { tables_of self.new ≡ executed (tables_of self.old)
+            (RegisterMany rows.now) }
     {
         let code = self.rows_code(rows);
         if code == 0 {
@@ -246,7 +247,8 @@ impl ForwardingTables {
     // Unregisters the E-CIDs, all of them or none.
     fn unregister_many(&mut self, ecids: &[u16]) -> u8
         ensures code { result ≡ code_of (tables_of self.old) (UnregisterMany ecids.now) }
-        ensures tables { tables_of self.new ≡ executed (tables_of self.old) (UnregisterMany ecids.now) }
+        ensures tables { tables_of self.new ≡ executed (tables_of self.old)
+            (UnregisterMany ecids.now) }
     {
         if !all_known(ecids) {
             return 2;
@@ -276,7 +278,8 @@ impl ForwardingTables {
     // Gives a port its channel and kind, and the channel its pair.
     fn create(&mut self, port: u8, cascade: bool, channel: u16) -> u8
         ensures code { result ≡ code_of (tables_of self.old) (PortCreate port cascade channel) }
-        ensures tables { tables_of self.new ≡ executed (tables_of self.old) (PortCreate port cascade channel) }
+        ensures tables { tables_of self.new ≡ executed (tables_of self.old)
+            (PortCreate port cascade channel) }
     {
         let code = self.create_code(port, channel);
         if code == 0 {

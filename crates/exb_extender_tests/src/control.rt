@@ -6,8 +6,8 @@ use exb_extender::{Extender, Sends, Side};
 use std::alloc::Global;
 use std::process::Abort;
 
-/// It announces itself at the first beat and each sixteenth after, until it is opened. Its answer goes out again at the
-/// third, sixth and ninth beat.
+/// It announces itself at the first beat and each sixteenth after, until it is opened. Its answer
+/// goes out again at the third, sixth and ninth beat.
 const ANNOUNCES: &str = "beat 1>first 88CC020704024542010001040307757006020078FE0502454201030000;\n\
      beat 15>\n\
      beat 1>first 88CC020704024542010001040307757006020078FE0502454201030000;\n\

@@ -1,14 +1,17 @@
 //! Extender 1 with three ports, driven by words:
 //!
 //! - `beat N`: beats pass
-//! - `hear BYTES`, `repeat BYTES`: the bridge's next request comes with this payload, and with the sequence of the last one
+//! - `hear BYTES`, `repeat BYTES`: the bridge's next request comes with this payload, and with the
+//! sequence of the last one
 //! - `acked N`: what the extender sent with that sequence is acknowledged
-//! - `down N BYTES`, `below N BYTES`, `arrive N BYTES`: a frame of N bytes, zeros behind those that are given, comes from
+//! - `down N BYTES`, `below N BYTES`, `arrive N BYTES`: a frame of N bytes, zeros behind those that
+//! are given, comes from
 //!   upstream, from the cascade port 3, and from a station at port 1
 //! - `idle`: whether nothing waits for an acknowledgement
 //!
-//! A step is told as the frames of the extender's own that went up, first and second, from their type on; and as the sides to
-//! which the frame went: `2 stripped` without its E-TAG, `3` as it is, `up`, `up by 1` with an E-TAG of that channel.
+//! A step is told as the frames of the extender's own that went up, first and second, from their
+//! type on; and as the sides to which the frame went: `2 stripped` without its E-TAG, `3` as it is,
+//! `up`, `up by 1` with an E-TAG of that channel.
 use crate::fixture::Fixture;
 use crate::row_words::{bytes_of, number, put, put_bytes, put_value, same};
 use exb_extender::{Entry, Form, Out, Side};

@@ -1,5 +1,6 @@
-//! Frames of every kind from every side, at an extender that is opened, with the external ports 1 and 2 of channels 1 and 2,
-//! and the cascade port 3 of channel 3. The group 0x1000 goes to all three, and channel 9 to the cascade port.
+//! Frames of every kind from every side, at an extender that is opened, with the external ports 1
+//! and 2 of channels 1 and 2, and the cascade port 3 of channel 3. The group 0x1000 goes to all
+//! three, and channel 9 to the cascade port.
 use crate::driver::judge;
 use crate::fixture::Fixture;
 use crate::row_words::{bytes_of, put_bytes, same};

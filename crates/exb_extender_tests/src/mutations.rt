@@ -1,5 +1,6 @@
-//! Frames that come to an extender in several states, cut before each byte, with each bit turned, and longer. What it sends of
-//! each stands in the tables. Whatever came, what isn't asked for stays as it was, and the next request is answered.
+//! Frames that come to an extender in several states, cut before each byte, with each bit turned,
+//! and longer. What it sends of each stands in the tables. Whatever came, what isn't asked for
+//! stays as it was, and the next request is answered.
 mod cases;
 
 use crate::driver::{frame_step, hear, judge, sent_text};
@@ -24,8 +25,9 @@ enum State {
     Unchannelled,
 }
 
-/// A frame that comes in a state, and what becomes of it. It stands in five lines, behind a comment or none, with `%` before each further case:
-/// state, side and frame; and a line for each field behind these. What becomes of a frame is one of these:
+/// A frame that comes in a state, and what becomes of it. It stands in five lines, behind a comment
+/// or none, with `%` before each further case: state, side and frame; and a line for each field
+/// behind these. What becomes of a frame is one of these:
 ///
 /// - `nothing`
 /// - `stops`: it acknowledges what the extender sends
@@ -40,11 +42,14 @@ struct MutatedFrame<'a> {
     from: &'a str,
     frame: &'a str,
     told: &'a str,
-    /// What becomes of it where it is cut before a place: `PLACE VERDICT|`, up to the next entry's place. `same` is as whole.
+    /// What becomes of it where it is cut before a place: `PLACE VERDICT|`, up to the next entry's
+    /// place. `same` is as whole.
     cut: &'a str,
-    /// The same with a bit turned: `FIRST-LAST.BITS VERDICT|`; the first entry that has the place and the bit counts.
+    /// The same with a bit turned: `FIRST-LAST.BITS VERDICT|`; the first entry that has the place
+    /// and the bit counts.
     turned: &'a str,
-    /// The same with zeros behind it, up to a length: `LENGTH VERDICT|`, up to the next entry's length.
+    /// The same with zeros behind it, up to a length: `LENGTH VERDICT|`, up to the next entry's
+    /// length.
     longer: &'a str,
 }
 
@@ -244,7 +249,8 @@ fn judge_tables(rt: &impl Abort, alloc: Global, fixture: &mut Fixture, state: St
     judge(rt, alloc, fixture, word_in(state));
 }
 
-// Asserts what is as it was: what waits for an acknowledgement, the tables unless a request was done, and what was executed.
+// Asserts what is as it was: what waits for an acknowledgement, the tables unless a request was
+// done, and what was executed.
 fn judge_after(rt: &impl Abort, alloc: Global, fixture: &mut Fixture, state: State, verdict: &str) {
     let waits = is_answered(verdict) || requests(state) > 0;
     let idle = verdict == "stops" || !waits;
@@ -279,7 +285,8 @@ fn resolved<'a>(told: &'a str, verdict: &'a str) -> &'a str {
     }
 }
 
-// Asserts what becomes of a frame that comes in the case's state from its side, and what comes after it.
+// Asserts what becomes of a frame that comes in the case's state from its side, and what comes
+// after it.
 fn judge_in(
     rt: &impl Abort,
     alloc: Global,

@@ -1,4 +1,5 @@
-//! What the words of a table say, and the texts that they are compared with. A test ends where a text says nothing.
+//! What the words of a table say, and the texts that they are compared with. A test ends where a
+//! text says nothing.
 use exb_test_rows::hex;
 use std::alloc::Global;
 use std::fmt::Display;

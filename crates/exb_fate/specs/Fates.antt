@@ -23,7 +23,8 @@ pub record Budget : Type 0 where
 
 -- the verdict that a number means: Pass, Lose, Twice and Later in turn
 abbrev pub verdict_of : ℕ → Verdict
-verdict_of n = if n % 4 == 0 then verdict.Pass else (if n % 4 == 1 then verdict.Lose else (if n % 4 == 2 then verdict.Twice else verdict.Later))
+verdict_of n = if n % 4 == 0 then verdict.Pass else (if n % 4 == 1 then verdict.Lose
+    else (if n % 4 == 2 then verdict.Twice else verdict.Later))
 
 abbrev pub cost_of : Verdict → ℕ
 cost_of verdict.Pass = 0
@@ -36,4 +37,7 @@ abbrev pub drawn : Budget → Verdict
 drawn b = if b.left == 0 then verdict.Pass else verdict_of (pcg32 b.generator).0
 
 abbrev pub after_draw : Budget → Budget
-after_draw b = if b.left == 0 then b else record { generator = (pcg32 b.generator).1; left = b.left - cost_of (drawn b) }
+after_draw b = if b.left == 0 then b else record {
+  generator = (pcg32 b.generator).1;
+  left = b.left - cost_of (drawn b);
+}

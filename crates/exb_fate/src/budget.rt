@@ -9,7 +9,8 @@ use rand_core::utils::NextWord;
 use rand_pcg::Lcg64Xsh32;
 use std::marker::Model;
 
-/// Draws what becomes of each control frame, as long as its budget of verdicts other than Pass lasts.
+/// Draws what becomes of each control frame, as long as its budget of verdicts other than Pass
+/// lasts.
 #[derive(Drop)]
 pub struct BudgetFate {
     rng: Lcg64Xsh32,

@@ -4,12 +4,13 @@ ghost use Rattle.std.specs.Prelude.{◌≡◌, ◌≢◌, ℕ, ◌+◌, ◌<◌,
 use exb_model::memory::NoMemory;
 use exb_model::setup::Verdict;
 
-/// What becomes of control frames: it is asked at each one that comes to its turn. Its meaning is a number: how many verdicts
-/// other than Pass it may still give.
+/// What becomes of control frames: it is asked at each one that comes to its turn. Its meaning is a
+/// number: how many verdicts other than Pass it may still give.
 pub trait Fate: Drop {
     ghost left: { Self → ℕ };
 
-    /// Plans verdicts for the control frames that come next. Where memory runs out it may give as many as before.
+    /// Plans verdicts for the control frames that come next. Where memory runs out it may give as
+    /// many as before.
     fn arm(&mut self, plan: &[Verdict]) -> Result<(), NoMemory>
         requires { left self.old + length plan.now < 2 ^ 58 }
         ensures ok { OnOk result (left self.new ≤ left self.old + length plan.now) }

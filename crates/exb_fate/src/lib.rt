@@ -1,5 +1,6 @@
-//! What becomes of the control frames on the links: each is delivered, lost, delivered and kept, or kept for later. Upwards a fate
-//! promises that it gives only so many verdicts that aren't a plain delivery. It stands on `exb_model`.
+//! What becomes of the control frames on the links: each is delivered, lost, delivered and kept, or
+//! kept for later. Upwards a fate promises that it gives only so many verdicts that aren't a plain
+//! delivery. It stands on `exb_model`.
 #![tactic(auto)]
 
 mod budget;

@@ -8,7 +8,8 @@ use exb_model::setup::Verdict;
 use std::alloc::Global;
 use std::marker::Model;
 
-/// Gives the verdicts with which it was armed, in order, and then Pass. Its value is the list of those not yet given.
+/// Gives the verdicts with which it was armed, in order, and then Pass. Its value is the list of
+/// those not yet given.
 #[derive(Drop)]
 pub struct ScriptFate {
     armed: Vec<Verdict>,

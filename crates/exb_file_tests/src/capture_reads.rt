@@ -1,4 +1,5 @@
-//! What is read of a capture in pieces: moment and length of each record, and the fault where one comes.
+//! What is read of a capture in pieces: moment and length of each record, and the fault where one
+//! comes.
 use crate::compare::holds;
 use exb_capture::{Ahead, AnyFormat, FormatFault, Reader};
 use std::alloc::Global;
@@ -37,7 +38,8 @@ impl<'a> ReadResult<'a> {
         self.file.get(start..).unwrap_or(&[]).starts_with(bytes)
     }
 
-    // The bytes of a record that begins here have to stand behind its head, which is that of a classic one or of an enhanced packet.
+    // The bytes of a record that begins here have to stand behind its head, which is that of a
+    // classic one or of an enhanced packet.
     fn put_record(&mut self, rt: &impl Abort, place: usize, moment: u64, bytes: &[u8]) {
         let stands = self.stands(place, 16, bytes) || self.stands(place, 28, bytes);
         holds(rt, stands, "the bytes of a record");
@@ -71,7 +73,8 @@ impl<'a> ReadResult<'a> {
         false
     }
 
-    // Puts what is answered of the file in pieces of so many bytes, where it is asked behind each, and once more when the end is told.
+    // Puts what is answered of the file in pieces of so many bytes, where it is asked behind each,
+    // and once more when the end is told.
     fn put_sized(&mut self, rt: &impl Abort, reader: &mut Reader<AnyFormat>, size: usize) {
         let mut left = self.file;
         for _piece in 0..9_999u32 {

@@ -6,8 +6,8 @@ use exb_capture::{header_text, record_text};
 use std::alloc::Global;
 use std::process::Abort;
 
-/// One broadcast frame at 100 s, what stands in its place with each fault, two bytes of a frame of 64 at 100 s and 999 ns, by a
-/// big-endian machine, and the broadcast as pcapng.
+/// One broadcast frame at 100 s, what stands in its place with each fault, two bytes of a frame of
+/// 64 at 100 s and 999 ns, by a big-endian machine, and the broadcast as pcapng.
 const READ: &str =
     "D4C3B2A1 0200 0400 00000000 00000000 FFFF0000 01000000 64000000 00000000 3C000000 3C000000 6xFF 020000000001 0800 46x00>100000000000 60;\n\
      D4C3B2A1 0200 0400 00000000 00000000 FFFF0000 01000000>\n\

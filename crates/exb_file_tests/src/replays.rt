@@ -1,4 +1,5 @@
-//! Captures that are read again, each on a shelf that reads at most so many bytes at once, and of which another file was told.
+//! Captures that are read again, each on a shelf that reads at most so many bytes at once, and of
+//! which another file was told.
 ghost use Rattle.exb_test_shelf.specs.DisturbedFiles.{ids_of};
 ghost use Rattle.exb_capture.specs.CaptureFiles.{IsAt};
 ghost use Rattle.exb_capture.specs.Replays.{IsKept};
@@ -21,8 +22,8 @@ const TIME: Option<u64> = Some(100_000_000_000);
 
 const LATER: Option<u64> = Some(100_000_000_001);
 
-/// What was told: so many bytes, and the time of the first record, `-` for none; how the capture is changed when it is read again, as in
-/// `scans`; and what comes of it.
+/// What was told: so many bytes, and the time of the first record, `-` for none; how the capture is
+/// changed when it is read again, as in `scans`; and what comes of it.
 const AGAIN: &str = "# The same file.\n\
      133 100000000000 0 D4C3B2A1 133 >100000000000 60; 100000000000 0; 101000001000 1; end\n\
      116 100000000000 0 D4C3B2A1 116 >100000000000 60; 100000000000 0; end\n\
@@ -167,7 +168,8 @@ fn told_of(rt: &impl Abort, words: &mut SplitWhitespace<'_>) -> Scanned {
     }
 }
 
-// Asserts that of a file of which this was told comes what a row says, however much is read at once.
+// Asserts that of a file of which this was told comes what a row says, however much is read at
+// once.
 fn judge_file(rt: &impl Abort, alloc: Global, scanned: Scanned, file: &[u8], row: &str) {
     let (_told, wanted) = row.split_once('>').expect(rt, "what comes of it");
     for most in &CUTS {
@@ -194,7 +196,8 @@ fn a_change_shows_at_its_byte(rt: HostRuntime) {
     }
 }
 
-/// What was told of a capture of pcapng, how many bytes of it there are when it is read again, and what comes of it.
+/// What was told of a capture of pcapng, how many bytes of it there are when it is read again, and
+/// what comes of it.
 const BLOCKS_AGAIN: &str = "156 100000000000 156 >100000000000 60; end\n\
      140 100000000000 140 >100000000000 60; end\n\
      140 100000000000 139 >Changed { at: 48 }\n\

@@ -7,8 +7,8 @@ use std::alloc::Global;
 use std::process::Abort;
 use std::str::SplitWhitespace;
 
-/// The frames of a capture by their moments and lengths: one broadcast of 60 bytes at 100 s, and then an empty frame, one of a byte and
-/// one that is longer than what is read at once.
+/// The frames of a capture by their moments and lengths: one broadcast of 60 bytes at 100 s, and
+/// then an empty frame, one of a byte and one that is longer than what is read at once.
 const FRAMES: [(u64, u32); 4] = [
     (100_000_000_000, 60),
     (90_000_000_000, 0),
@@ -19,8 +19,9 @@ const FRAMES: [(u64, u32); 4] = [
 /// At most so many bytes are read at once.
 pub(crate) const CUTS: [usize; 5] = [1, 3, 16, 24, 65_536];
 
-/// A change of the capture, as the place of four bytes, these, which are those that stand there where nothing changes, and the length to which it is cut; how many
-/// bytes may be read; and what is told. A time that is none is a fault whatever follows, which comes before the limit.
+/// A change of the capture, as the place of four bytes, these, which are those that stand there
+/// where nothing changes, and the length to which it is cut; how many bytes may be read; and what
+/// is told. A time that is none is a fault whatever follows, which comes before the limit.
 const LIMITED: &str = "0 D4C3B2A1 100 100>100 1 Some(100000000000)\n\
      0 D4C3B2A1 100 99>Large { limit: 99 }\n\
      0 D4C3B2A1 100 39>Large { limit: 39 }\n\
@@ -128,7 +129,8 @@ fn a_long_frame_is_read_in_pieces(rt: HostRuntime) {
     judge_whole(&rt, rt.alloc(), 65_536, "70149 4 Some(100000000000)");
 }
 
-// Asserts what is told of a changed capture of which at most so many bytes may be read, seven at once.
+// Asserts what is told of a changed capture of which at most so many bytes may be read, seven at
+// once.
 fn judge_limit(rt: &impl Abort, alloc: Global, row: &str) {
     let (change, wanted) = row.split_once('>').expect(rt, "what is told");
     let mut words = change.split_whitespace();

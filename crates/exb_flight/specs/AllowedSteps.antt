@@ -58,13 +58,15 @@ pub record IsAnswered (s : Shape) (w : Flight) (n : ℕ) (k : Key) : Type 0 wher
   pub from : (n ≡ work.first.extender) ⊎ ((x : ℕ) × (64 ≤ on s x) × (device (on s x) ≡ n) × (leads k (w.up x) ≡ true))
 
 -- ---- the system of changes
--- An extender executes the outstanding request where that stands before all data words of its link, and its answer is taken where
--- it does on the link of an extender on the bridge. Commands are those of the history's basis, in order.
+-- An extender executes the outstanding request where that stands before all data words of its link, and its answer is
+-- taken where it does on the link of an extender on the bridge. Commands are those of the history's basis, in order.
 abbrev pub CanMove : Shape → Basis → Flight → systems.Step → Type 0
 CanMove s i w (systems.Order c) = NamesExternal s c × (command_of i (w.system.state.given + 1) ≡ Some c)
 CanMove s i w (systems.Hear n) = ⊤
-CanMove s i w systems.Execute = (v : Work) → work_of w ≡ Some v → leads (key_of w.system.state v) (w.down v.first.extender) ≡ true
-CanMove s i w systems.Answer = (v : Work) → work_of w ≡ Some v → (n : ℕ) × (on s n < 64) × (leads (key_of w.system.state v) (w.up n) ≡ true)
+CanMove s i w systems.Execute = (v : Work) → work_of w ≡ Some v
+    → leads (key_of w.system.state v) (w.down v.first.extender) ≡ true
+CanMove s i w systems.Answer = (v : Work) → work_of w ≡ Some v → (n : ℕ) × (on s n < 64)
+    × (leads (key_of w.system.state v) (w.up n) ≡ true)
 CanMove s i w (systems.Stray n m) = IsStray w.system.state n m
 CanMove s i w systems.Beat = ⊤
 

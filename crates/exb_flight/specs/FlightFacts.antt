@@ -50,12 +50,16 @@ WorkGood i None = ⊤
 WorkGood i (Some v) = IsWorkGood i v
 
 -- ---- where downward words are from
--- Of a group's word on the link into extender n: each port of the group's set has its channel. Where the word's ingress number isn't
--- 0, the port of its stamp is below the same bridge port, and no other port of the set has that number as its channel.
+-- Of a group's word on the link into extender n: each port of the group's set has its channel. Where the word's ingress
+-- number isn't 0, the port of its stamp is below the same bridge port, and no other port of the set has that number as
+-- its channel.
 pub record IsFrom (s : Shape) (y : System) (n : ℕ) (f : Word) : Type 0 where
-  pub members : (tag : Tag) → read_etag f.bytes ≡ Some tag → 4096 ≤ tag.ecid → (q : ℕ) → is_listed (y.state.held.set (trunk s n) tag.ecid) q ≡ true → 0 < (tables_at y.tables).own q
-  pub source : (tag : Tag) → read_etag f.bytes ≡ Some tag → 4096 ≤ tag.ecid → 0 < tag.ingress → is_under s (trunk s n) f.port ≡ true
-  pub others : (tag : Tag) → read_etag f.bytes ≡ Some tag → 4096 ≤ tag.ecid → 0 < tag.ingress → (q : ℕ) → is_listed (y.state.held.set (trunk s n) tag.ecid) q ≡ true →
+  pub members : (tag : Tag) → read_etag f.bytes ≡ Some tag → 4096 ≤ tag.ecid → (q : ℕ)
+      → is_listed (y.state.held.set (trunk s n) tag.ecid) q ≡ true → 0 < (tables_at y.tables).own q
+  pub source : (tag : Tag) → read_etag f.bytes ≡ Some tag → 4096 ≤ tag.ecid → 0 < tag.ingress
+      → is_under s (trunk s n) f.port ≡ true
+  pub others : (tag : Tag) → read_etag f.bytes ≡ Some tag → 4096 ≤ tag.ecid → 0 < tag.ingress → (q : ℕ)
+      → is_listed (y.state.held.set (trunk s n) tag.ecid) q ≡ true →
       (tables_at y.tables).own q ≡ tag.ingress → q ≡ f.port
 
 -- ---- upward words
@@ -70,15 +74,16 @@ pub record IsDeleting (y : System) (q : ℕ) : Type 0 where
   pub here : device q ≡ work.first.extender
   pub place : q % 64 + 1 ≡ port
 
--- A word on the link of extender n has the channel of its stamp's port, which lies below; the port still has it as its own, or
--- is being deleted. Each port on which an extender on the word's way hangs has a channel.
+-- A word on the link of extender n has the channel of its stamp's port, which lies below; the port still has it as its
+-- own, or is being deleted. Each port on which an extender on the word's way hangs has a channel.
 pub record IsUp (s : Shape) (y : System) (n : ℕ) (f : Word) : Type 0 where
   pub tag : Tag
   pub read : read_etag f.bytes ≡ Some tag
   pub outer : is_extended s f.port ≡ true
   pub below : Over s n (device f.port)
   pub some : 0 < tag.ecid
-  pub number : ((tables_at y.tables).own f.port ≡ tag.ecid) ⊎ (IsDeleting y f.port × (channel_of s y.state.held f.port ≡ tag.ecid))
+  pub number : ((tables_at y.tables).own f.port ≡ tag.ecid)
+      ⊎ (IsDeleting y f.port × (channel_of s y.state.held f.port ≡ tag.ecid))
   pub way : (m : ℕ) → Over s m n → 64 ≤ on s m → 0 < (tables_at y.tables).own (on s m)
 
 -- ---- what holds
@@ -90,20 +95,23 @@ Sources s w = (n : ℕ) → IsLink s n → Each (IsFrom s w.system n) (words_of 
 
 -- while the outstanding request isn't executed, the words of the numbers that it clears were sent before it
 abbrev pub Asked : Shape → Flight → Type 0
-Asked s w = (v : Work) → work_of w ≡ Some v → w.system.answer ≡ None → (e : ℕ) → IsCleared s w.system.tables v.first e → Clears s w.down (key_of w.system.state v) v.first.extender e
+Asked s w = (v : Work) → work_of w ≡ Some v → w.system.answer ≡ None → (e : ℕ) → IsCleared s w.system.tables v.first e
+    → Clears s w.down (key_of w.system.state v) v.first.extender e
 
 abbrev pub Ups : Shape → Flight → Type 0
 Ups s w = (n : ℕ) → IsLink s n → Each (IsUp s w.system n) (words_of (w.up n))
 
 -- a port that is being deleted has no channel, and its words were sent before the answer
 abbrev pub Answered : Shape → Flight → Type 0
-Answered s w = (q : ℕ) (d : IsDeleting w.system q) → ((tables_of w).own q ≡ 0) × Deletes s w.up (key_of w.system.state d.work) d.work.first.extender q
+Answered s w = (q : ℕ) (d : IsDeleting w.system q) → ((tables_of w).own q ≡ 0)
+    × Deletes s w.up (key_of w.system.state d.work) d.work.first.extender q
 
 -- control words are of requests that were asked; an answer to the outstanding one is on the way up from its extender
 pub record Serials (s : Shape) (w : Flight) : Type 0 where
   pub downward : (n : ℕ) → UpTo (serial_of w.system.state) (w.down n)
   pub upward : (n : ℕ) → UpTo (serial_of w.system.state) (w.up n)
-  pub answered : (v : Work) → work_of w ≡ Some v → (n : ℕ) → has (key_of w.system.state v) (w.up n) ≡ true → (w.system.answer ≢ None) × Over s n v.first.extender
+  pub answered : (v : Work) → work_of w ≡ Some v → (n : ℕ) → has (key_of w.system.state v) (w.up n) ≡ true
+      → (w.system.answer ≢ None) × Over s n v.first.extender
 
 -- what has left an external port, followed by what is owed to it, is what the one bridge sends there
 abbrev pub Even : Shape → Basis → Flight → Type 0
@@ -127,14 +135,15 @@ pub record Facts (s : Shape) (i : Basis) (w : Flight) : Type 0 where
   pub even : Even s i w
 
 -- ---- what is promised
--- On a link with trunk k no downward word has a free number. The ingress number of a group's word, if it isn't 0, is the own channel
--- of no port of that group's set but its stamp's port, which is in U(k).
+-- On a link with trunk k no downward word has a free number. The ingress number of a group's word, if it isn't 0, is
+-- the own channel of no port of that group's set but its stamp's port, which is in U(k).
 pub record CleanDown (s : Shape) (y : System) (k : ℕ) (f : Word) : Type 0 where
   pub tag : Tag
   pub read : read_etag f.bytes ≡ Some tag
   pub used : (y.state.held.port k tag.ecid ≢ None) ⊎ (y.state.held.set k tag.ecid ≢ [])
   pub source : 4096 ≤ tag.ecid → 0 < tag.ingress → is_under s k f.port ≡ true
-  pub others : 4096 ≤ tag.ecid → 0 < tag.ingress → (q : ℕ) → is_listed (y.state.held.set k tag.ecid) q ≡ true → (tables_at y.tables).own q ≡ tag.ingress → q ≡ f.port
+  pub others : 4096 ≤ tag.ecid → 0 < tag.ingress → (q : ℕ) → is_listed (y.state.held.set k tag.ecid) q ≡ true
+      → (tables_at y.tables).own q ≡ tag.ingress → q ≡ f.port
 
 -- An upward word has the channel that the bridge holds for its stamp's port, which is in U(k).
 pub record CleanUp (s : Shape) (h : Held) (k : ℕ) (f : Word) : Type 0 where
@@ -166,31 +175,34 @@ StepsKeep =
     (s : Shape) (l : Limits) (i : Basis) → IsSetting s l → (w : Flight) (x : Step) → Facts s i w → Can s i w x →
     Facts s i (stepped s l i w x)
 
--- After any steps that may come, what has left each external port, followed by what is owed to it, is what the one bridge sends
--- there over what happened; and the links are clean.
+-- After any steps that may come, what has left each external port, followed by what is owed to it, is what the one
+-- bridge sends there over what happened; and the links are clean.
 abbrev pub RunsStand : Type 0
 RunsStand =
     (s : Shape) (l : Limits) (i : Basis) (xs : List Step) → IsSetting s l → MayBegin s l i.start →
     let w = beginning s l i.start in
     Runs s l i w xs → Even s i (run s l i w xs) × Clean s (run s l i w xs)
 
--- After any steps that may come, the way to each cascade port that has a channel is laid, and that is the channel that the bridge
--- holds for it.
+-- After any steps that may come, the way to each cascade port that has a channel is laid, and that is the channel that
+-- the bridge holds for it.
 abbrev pub WaysStand : Type 0
 WaysStand =
     (s : Shape) (l : Limits) (i : Basis) (xs : List Step) → IsSetting s l → MayBegin s l i.start →
     let w = beginning s l i.start in
     Runs s l i w xs →
     WaysAreLaid s (run s l i w xs).system.tables
-    × ((k c : ℕ) → is_cascade_under s k c ≡ true → 0 < (tables_of (run s l i w xs)).own c → channel_of s (held_of (run s l i w xs)) c ≡ (tables_of (run s l i w xs)).own c)
+    × ((k c : ℕ) → is_cascade_under s k c ≡ true → 0 < (tables_of (run s l i w xs)).own c
+    → channel_of s (held_of (run s l i w xs)) c ≡ (tables_of (run s l i w xs)).own c)
 
 -- And each step leaves it its channel.
 abbrev pub WaysStay : Type 0
 WaysStay =
     (s : Shape) (l : Limits) (i : Basis) → IsSetting s l → (w : Flight) (x : Step) → Facts s i w → Can s i w x →
-    (k c : ℕ) → k < 64 → is_cascade_under s k c ≡ true → 0 < (tables_of w).own c → (tables_of (stepped s l i w x)).own c ≡ (tables_of w).own c
+    (k c : ℕ) → k < 64 → is_cascade_under s k c ≡ true → 0 < (tables_of w).own c → (tables_of (stepped s l i w x)).own c
+    ≡ (tables_of w).own c
 
 -- The port on which an extender hangs that has an upward word on its link is a cascade port in the tables.
 abbrev pub CascadesAreLaid : Type 0
 CascadesAreLaid =
-    (t : Shape) (i : Basis) (f : Flight) → IsTree t → Facts t i f → (n : ℕ) → IsLink t n → 64 ≤ on t n → (g : Word) (rest : List Word) → words_of (f.up n) ≡ g ∷ rest → (tables_of f).cascade (on t n) ≡ true
+    (t : Shape) (i : Basis) (f : Flight) → IsTree t → Facts t i f → (n : ℕ) → IsLink t n → 64 ≤ on t n
+    → (g : Word) (rest : List Word) → words_of (f.up n) ≡ g ∷ rest → (tables_of f).cascade (on t n) ≡ true

@@ -1,5 +1,5 @@
--- Which arrivals the events and the upward words name: each exactly once, in order. Frames come at ports, and the bridge deals with
--- each word that comes to it.
+-- Which arrivals the events and the upward words name: each exactly once, in order. Frames come at ports, and the
+-- bridge deals with each word that comes to it.
 use Rattle.std.specs.Prelude.{◌≡◌, ℕ, ◌+◌, ◌<◌, ◌==◌, ◌&&◌, ◌++◌, Bool, true, false, if◌then◌else◌, List, [], ◌∷◌, Some, map, length, nat_lt, nat_le, ⊤, reverse}
 use Rattle.exb_model.specs.declared.event.Event.{Event}
 use Rattle.exb_model.specs.declared.event.Event.TheVariants as event
@@ -46,9 +46,9 @@ Given = ℕ → List (ℕ × List ℕ)
 abbrev pub with_given : Given → ℕ → ℕ × List ℕ → ℕ → List (ℕ × List ℕ)
 with_given g p a r = if r == p then g r ++ a ∷ [] else g r
 
--- A frame comes at a port of an extender, which puts an E-TAG in if the port has a channel; or it comes there and is ignored, whatever
--- the port has, since it is short, long or reserved; the first word of a link comes to the bridge, which relays or ignores its
--- frame; or any other step.
+-- A frame comes at a port of an extender, which puts an E-TAG in if the port has a channel; or it comes there and is
+-- ignored, whatever the port has, since it is short, long or reserved; the first word of a link comes to the bridge,
+-- which relays or ignores its frame; or any other step.
 pub data Deed : Type 0 where
   Comes : (port : ℕ) (moment : ℕ) (frame bytes : List ℕ) → Deed
   Ignores : (port : ℕ) (moment : ℕ) (frame : List ℕ) → Deed
@@ -63,12 +63,14 @@ stamp_of f = record { port = f.port; index = f.index; moment = f.moment }
 
 abbrev pub dealt_with : Flight → Word → Step
 dealt_with w f =
-    if is_relayed (bridge_of w) f.port (stripped f.bytes) then Relay (stamp_of f) (stripped f.bytes) else Note (event.Ignored f.port f.index)
+    if is_relayed (bridge_of w) f.port (stripped f.bytes) then Relay (stamp_of f) (stripped f.bytes) else Note
+    (event.Ignored f.port f.index)
 
 -- a deed is one step, or two
 abbrev pub steps_of : Flight → Given → Deed → List Step
 steps_of w g (Comes p t f bytes) =
-    (if nat_lt 0 ((tables_of w).own p) then Arrive (record { port = p; index = next_index g p; moment = t }) bytes else Note (event.Ignored p (next_index g p))) ∷ []
+    (if nat_lt 0 ((tables_of w).own p) then Arrive (record { port = p; index = next_index g p; moment = t }) bytes
+    else Note (event.Ignored p (next_index g p))) ∷ []
 steps_of w g (Ignores p t f) = Note (event.Ignored p (next_index g p)) ∷ []
 steps_of w g (Taken n f) = CarryIn n f ∷ dealt_with w f ∷ []
 steps_of w g (Other x) = x ∷ []
@@ -79,7 +81,8 @@ given_after g (Ignores p t f) = with_given g p (t, f)
 given_after g (Taken n f) = g
 given_after g (Other x) = g
 
--- another step: no frame comes at a port of an extender, no word comes to the bridge, and nothing happens to an arrival there
+-- another step: no frame comes at a port of an extender, no word comes to the bridge, and nothing happens to an arrival
+-- there
 abbrev pub IsOther : Shape → Step → Type 0
 IsOther s (Arrive p g) = ⊥
 IsOther s (CarryUp n f) = ⊤
@@ -111,7 +114,8 @@ given_by g (d ∷ ds) = given_by (given_after g d) ds
 
 abbrev pub Does : Shape → Limits → Basis → Flight → Given → List Deed → Type 0
 Does s l i w g [] = ⊤
-Does s l i w g (d ∷ ds) = IsDeed s d × Runs s l i w (steps_of w g d) × Does s l i (run s l i w (steps_of w g d)) (given_after g d) ds
+Does s l i w g (d ∷ ds) = IsDeed s d × Runs s l i w (steps_of w g d)
+    × Does s l i (run s l i w (steps_of w g d)) (given_after g d) ds
 
 -- ---- what is named
 -- how often a number stands in a list
@@ -143,8 +147,8 @@ IsRelayOf s g event.Settled = ⊤
 abbrev pub IsWordOf : Given → Word → Type 0
 IsWordOf g f = numbered (g f.port) f.index ≡ Some (f.moment, stripped f.bytes)
 
--- Of port r: the events and the waiting words name each arrival exactly once and nothing else; the Relays and the late ones among the
--- Ignored, followed by the words that wait, from the bridge down, rise.
+-- Of port r: the events and the waiting words name each arrival exactly once and nothing else; the Relays and the late
+-- ones among the Ignored, followed by the words that wait, from the bridge down, rise.
 pub record IsNamed (s : Shape) (w : Flight) (g : Given) (r : ℕ) : Type 0 where
   pub once : (n : ℕ) → times n (firsts (told_at r w.history) ++ indices (waiting s w.up r)) ≡ once_to (length (g r)) n
   pub rising : Rise 0 (relays_and_late 0 (told_at r w.history) ++ indices (waiting s w.up r))
@@ -167,10 +171,12 @@ abbrev pub ToldIsOfPort : Type 0
 ToldIsOfPort = (r : ℕ) (h : History) → told_at r h ≡ events_of r (reverse h)
 
 -- ---- where each event of an arrival stands
--- A Relay stands only where the bridge relays its frame, and an Ignored only where it doesn't relay that of its arrival.
+-- A Relay stands only where the bridge relays its frame, and an Ignored only where it doesn't relay that of its
+-- arrival.
 abbrev pub IsEntered : Shape → Basis → Given → History → Event → Type 0
 IsEntered s i g h (event.Relay p n t f) = is_extended s p ≡ true → is_relayed (bridge_after i h) p f ≡ true
-IsEntered s i g h (event.Ignored p n) = is_extended s p ≡ true → (a : ℕ × List ℕ) × (numbered (g p) n ≡ Some a) × (is_relayed (bridge_after i h) p a.1 ≡ false)
+IsEntered s i g h (event.Ignored p n) = is_extended s p ≡ true → (a : ℕ × List ℕ) × (numbered (g p) n ≡ Some a)
+    × (is_relayed (bridge_after i h) p a.1 ≡ false)
 IsEntered s i g h (event.Tick seconds) = ⊤
 IsEntered s i g h (event.Commit n) = ⊤
 IsEntered s i g h (event.Refuse n cause) = ⊤

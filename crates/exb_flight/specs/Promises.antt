@@ -31,8 +31,8 @@ abbrev pub IsEven : Shape → Basis → World → History → List Left → Type
 IsEven t i w h left = (q : ℕ) → is_external t q ≡ true → left_at q left ++ owed_at t w q ≡ flat i h q
 
 -- ---- the links
--- No downward word has a free number, an ingress number names no port of the set but the word's own, and an upward word has
--- the channel that the bridge holds for the port of its stamp.
+-- No downward word has a free number, an ingress number names no port of the set but the word's own, and an upward word
+-- has the channel that the bridge holds for the port of its stamp.
 pub record IsClean (t : Shape) (w : World) : Type 0 where
   pub down : (n : ℕ) → IsLink t n → Each (CleanDown t (system_of w) (trunk t n)) (data_words (w.down n))
   pub up : (n : ℕ) → IsLink t n → Each (CleanUp t w.control.held (trunk t n)) (data_words (w.up n))
@@ -47,7 +47,8 @@ pub record IsInForce (i : Basis) (w : World) (h : History) : Type 0 where
 -- ---- a settled world
 -- nothing is owed, so what has left is what the one bridge sends
 abbrev pub IsQuits : Shape → Basis → World → History → List Left → Type 0
-IsQuits t i w h left = IsSettled t w → (q : ℕ) → is_external t q ≡ true → (owed_at t w q ≡ []) × (left_at q left ≡ flat i h q)
+IsQuits t i w h left = IsSettled t w → (q : ℕ) → is_external t q ≡ true → (owed_at t w q ≡ [])
+    × (left_at q left ≡ flat i h q)
 
 pub record Promises (t : Shape) (l : Limits) (i : Basis) (w : World) (h : History) (left : List Left) : Type 0 where
   pub even : IsEven t i w h left
@@ -58,17 +59,20 @@ pub record Promises (t : Shape) (l : Limits) (i : Basis) (w : World) (h : Histor
 -- ---- the laws
 -- What stands keeps these promises.
 abbrev pub StoodPromises : Type 0
-StoodPromises = (t : Shape) (l : Limits) (i : Basis) → IsSetting t l → (w : World) (h : History) (left : List Left) → Stood t l i w h left → Promises t l i w h left
+StoodPromises = (t : Shape) (l : Limits) (i : Basis) → IsSetting t l → (w : World) (h : History) (left : List Left)
+    → Stood t l i w h left → Promises t l i w h left
 
 -- It stands as it begins.
 abbrev pub BeginsStood : Type 0
 BeginsStood =
-    (t : Shape) (l : Limits) (i : Basis) → IsSetting t l → HasFewPorts t → MayBegin t l i.start → Stood t l i (first_world t l i.start i.ageing) [] []
+    (t : Shape) (l : Limits) (i : Basis) → IsSetting t l → HasFewPorts t → MayBegin t l i.start
+    → Stood t l i (first_world t l i.start i.ageing) [] []
 
 -- It stands after any steps that may be made.
 abbrev pub RunsStand : Type 0
 RunsStand =
-    (t : Shape) (l : Limits) (i : Basis) → IsSetting t l → (w : World) (h : History) (left : List Left) → Stood t l i w h left →
+    (t : Shape) (l : Limits) (i : Basis) → IsSetting t l → (w : World) (h : History) (left : List Left)
+    → Stood t l i w h left →
     (steps : List Step) → MayFlyAll t l i w steps →
     Stood t l i (run t l steps w).world (h then (run t l steps w).events) (left ++ (run t l steps w).left)
 
@@ -77,4 +81,5 @@ abbrev pub WorldsPromise : Type 0
 WorldsPromise =
     (t : Shape) (l : Limits) (i : Basis) (steps : List Step) → IsSetting t l → HasFewPorts t → MayBegin t l i.start →
     let w = first_world t l i.start i.ageing in
-    MayFlyAll t l i w steps → Promises t l i (run t l steps w).world ([] then (run t l steps w).events) (run t l steps w).left
+    MayFlyAll t l i w steps → Promises t l i (run t l steps w).world ([] then (run t l steps w).events)
+    (run t l steps w).left

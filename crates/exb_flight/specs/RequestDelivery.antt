@@ -38,5 +38,6 @@ SystemsGoOn = (s : Shape) (l : Limits) (i : Basis) (w : Flight) (xs : List Step)
 -- Wherever the outstanding request isn't executed yet, there are steps after which it is.
 abbrev pub RequestsComeThrough : Type 0
 RequestsComeThrough =
-    (s : Shape) (l : Limits) (i : Basis) → IsSetting s l → (w : Flight) → Facts s i w → (v : Work) → work_of w ≡ Some v → w.system.answer ≡ None →
+    (s : Shape) (l : Limits) (i : Basis) → IsSetting s l → (w : Flight) → Facts s i w → (v : Work) → work_of w ≡ Some v
+    → w.system.answer ≡ None →
     (xs : List Step) × Runs s l i w xs × ((run s l i w xs).system.answer ≢ None)

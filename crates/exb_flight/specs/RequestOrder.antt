@@ -1,5 +1,5 @@
--- The order of a plan's requests: a port is deleted last of all; once a cascade port is created, nothing more is laid for its channel;
--- and once another port is created, no cascade port is.
+-- The order of a plan's requests: a port is deleted last of all; once a cascade port is created, nothing more is laid
+-- for its channel; and once another port is created, no cascade port is.
 use Rattle.std.specs.Prelude.{◌≡◌, ℕ, ◌<◌, ◌==◌, Bool, true, false, List, [], ◌∷◌, ⊤}
 use Rattle.exb_csp.specs.declared.message.Request.{Request}
 use Rattle.exb_csp.specs.declared.message.Request.TheVariants.{Open, PortCreate, PortDelete, Register, Unregister, RegisterMany, UnregisterMany}
@@ -49,7 +49,8 @@ abbrev pub CreatedLast : Bool → ℕ → List AskAt → Type 0
 CreatedLast true channel more = 0 < channel → NoneLays channel more
 CreatedLast false channel more = AllPlain more
 
--- once a cascade port is created, none of these requests lays its channel; once another port is, none creates a cascade port
+-- once a cascade port is created, none of these requests lays its channel; once another port is, none creates a cascade
+-- port
 abbrev pub Completes : Request → List AskAt → Type 0
 Completes Open more = ⊤
 Completes (PortCreate port cascade channel) more = CreatedLast cascade channel more

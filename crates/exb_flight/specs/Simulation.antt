@@ -19,7 +19,8 @@ use Rattle.exb_flight.specs.FlightFacts.{Facts}
 use Rattle.exb_flight.specs.SimulationRelation.{Shows}
 
 -- What is done to a world is a list of steps that may come, after which the world shows again.
-pub record Flown (t : Shape) (l : Limits) (i : Basis) (h : History) (left : List Left) (f : Flight) (e : Effect) : Type 0 where
+pub record Flown (t : Shape) (l : Limits) (i : Basis) (h : History) (left : List Left) (f : Flight)
+    (e : Effect) : Type 0 where
   pub steps : List flights.Step
   pub runs : Runs t l i f steps
   pub shows : Shows t i e.world (h then e.events) (left ++ e.left) (run t l i f steps)
@@ -30,8 +31,8 @@ abbrev pub IsNext : Basis → World → Step → Type 0
 IsNext i w (Order c) = command_of i (w.control.given + 1) ≡ Some c
 IsNext i w _ = Unit {0}
 
--- A step that may be made. That PVIDs are VLANs is a fact of the code's types, and that what is no extender hangs on no extender
--- is one of the shape of a setup.
+-- A step that may be made. That PVIDs are VLANs is a fact of the code's types, and that what is no extender hangs on no
+-- extender is one of the shape of a setup.
 pub record MayFly (t : Shape) (l : Limits) (i : Basis) (w : World) (step : Step) : Type 0 where
   pub may : MayMake t l w step
   pub next : IsNext i w step
@@ -45,7 +46,8 @@ MayFlyAll t l i w (step ∷ steps) = MayFly t l i w step × MayFlyAll t l i (ste
 -- ---- the simulation
 abbrev pub StepFlies : Step → Type 0
 StepFlies step =
-    (t : Shape) (l : Limits) (i : Basis) → IsSetting t l → (w : World) (h : History) (left : List Left) (f : Flight) → IsSound t l w → Facts t i f → Shows t i w h left f →
+    (t : Shape) (l : Limits) (i : Basis) → IsSetting t l → (w : World) (h : History) (left : List Left) (f : Flight)
+    → IsSound t l w → Facts t i f → Shows t i w h left f →
     MayFly t l i w step → Flown t l i h left f (done_by t l step w)
 
 abbrev pub TicksFly : Type 0

@@ -10,8 +10,9 @@ use Rattle.exb_flight.specs.Flight.{Flight}
 use Rattle.exb_flight.specs.FlightFacts.{Facts}
 use Rattle.exb_flight.specs.Tokens.{Thins, items_on}
 
--- The machine beside the tables is that of the flight, and so are the words on each link, but for tokens of words that were
--- taken or lost. What happened and what has left each external port are the same; and what was learned is of what happened.
+-- The machine beside the tables is that of the flight, and so are the words on each link, but for tokens of words that
+-- were taken or lost. What happened and what has left each external port are the same; and what was learned is of what
+-- happened.
 pub record Shows (t : Shape) (i : Basis) (w : World) (h : History) (gone : List Left) (f : Flight) : Type 0 where
   pub system : f.system ≡ system_of w
   pub down : (n : ℕ) → Thins (items_on t w.control.held Down n (w.down n)) (f.down n)

@@ -1,6 +1,6 @@
--- The words of a direction of a link of the world as items of a flight: a data word is its bytes and its stamp; a control word
--- that reads as a request to an extender, or as an answer from one, is a token of that extender and serial; any other control
--- word is nothing.
+-- The words of a direction of a link of the world as items of a flight: a data word is its bytes and its stamp; a
+-- control word that reads as a request to an extender, or as an answer from one, is a token of that extender and
+-- serial; any other control word is nothing.
 use Rattle.std.specs.Prelude.{ℕ, ◌==◌, if◌then◌else◌, List, [], ◌∷◌, drop, Option, Some, None, Result, Ok, Err}
 use Rattle.exb_model.specs.Tree.{Shape, trunk}
 use Rattle.exb_model.specs.ETags.{Tag, read_etag, stripped}
@@ -59,7 +59,8 @@ key_of_message way n (Ok m) = key_by way n m.serial m.body
 key_of_message way n (Err fault) = None
 
 abbrev pub key_of_pdu : Way → ℕ → Result Pdu EcpFault → List ℕ → Option Key
-key_of_pdu way n (Ok p) f = if p.subtype == 2 then (if p.acknowledgement then None else key_of_message way n (read_message (drop 18 f))) else None
+key_of_pdu way n (Ok p) f = if p.subtype == 2 then (if p.acknowledgement then None else key_of_message way n
+    (read_message (drop 18 f))) else None
 key_of_pdu way n (Err fault) f = None
 
 -- an announcement that comes up is no message
@@ -89,8 +90,8 @@ items_by key (x ∷ xs) = if is_control x then token_of (key x) (items_by key xs
 abbrev pub items_on : Shape → Held → Way → ℕ → List LinkFrame → List Item
 items_on t h way m ws = items_by (key_on t h way m) ws
 
--- The first list is the second but for some tokens. A token of a word that was taken or lost may stay in a flight: it gives
--- no more than there was before.
+-- The first list is the second but for some tokens. A token of a word that was taken or lost may stay in a flight: it
+-- gives no more than there was before.
 pub data Thins : List Item → List Item → Type 0 where
   none : Thins [] []
   same : {xs ys : List Item} (x : Item) → Thins xs ys → Thins (x ∷ xs) (x ∷ ys)

@@ -17,7 +17,8 @@ of_port r (f ∷ fs) = if f.port == r then f ∷ of_port r fs else of_port r fs
 unfoldable pub waiting_up : Shape → (ℕ → List Item) → ℕ → ℕ → ℕ → List Word
 waiting_up s up r zero p = of_port r (words_of (up (device p)))
 waiting_up s up r (suc d) p =
-    (if nat_lt (on s (device p)) 64 then [] else waiting_up s up r d (on s (device p))) ++ of_port r (words_of (up (device p)))
+    (if nat_lt (on s (device p)) 64 then [] else waiting_up s up r d (on s (device p))) ++ of_port r
+    (words_of (up (device p)))
 
 -- the upward words of port r, from the link nearest the bridge on
 unfoldable pub waiting : Shape → (ℕ → List Item) → ℕ → List Word
@@ -44,10 +45,11 @@ abbrev pub taken_over : List Step → ℕ → List Word
 taken_over [] r = []
 taken_over (x ∷ xs) r = taken_in x r ++ taken_over xs r
 
--- Over each run, the words of a port that came to the bridge, followed by those on the links from the bridge down, are those that
--- arrived there, in order.
+-- Over each run, the words of a port that came to the bridge, followed by those on the links from the bridge down, are
+-- those that arrived there, in order.
 abbrev pub TakenInOrder : Type 0
 TakenInOrder =
     (s : Shape) (l : Limits) (i : Basis) (xs : List Step) → IsSetting s l → MayBegin s l i.start →
     let w = beginning s l i.start in
-    Runs s l i w xs → (r : ℕ) → is_extended s r ≡ true → taken_over xs r ++ waiting s (run s l i w xs).up r ≡ arrived_over s l i w xs r
+    Runs s l i w xs → (r : ℕ) → is_extended s r ≡ true → taken_over xs r ++ waiting s (run s l i w xs).up r
+    ≡ arrived_over s l i w xs r

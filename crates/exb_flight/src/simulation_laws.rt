@@ -34,14 +34,16 @@ pub fn beats_fly()
     tag_round_trip();
 }
 
-/// A control word that is delivered is sent on, executed, taken or acknowledged, with all that follows at once.
+/// A control word that is delivered is sent on, executed, taken or acknowledged, with all that
+/// follows at once.
 pub fn controls_fly()
     ensures { ControlsFly }
 {
     tag_round_trip();
 }
 
-/// A frame that arrives at the bridge is relayed or ignored there; one at an extender goes up with its E-TAG, or is ignored.
+/// A frame that arrives at the bridge is relayed or ignored there; one at an extender goes up with
+/// its E-TAG, or is ignored.
 pub fn arrivals_fly()
     ensures { ArrivalsFly }
 {
@@ -50,7 +52,8 @@ pub fn arrivals_fly()
     sends_leave_as_flat();
 }
 
-/// A data word that goes up comes to the next link, or into the bridge, which relays or ignores its frame.
+/// A data word that goes up comes to the next link, or into the bridge, which relays or ignores its
+/// frame.
 pub fn ascents_fly()
     ensures { AscentsFly }
 {

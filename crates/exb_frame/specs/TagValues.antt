@@ -9,4 +9,5 @@ tag_of t = record { pcp = t.pcp; dei = t.dei; ingress = t.ingress; ecid = t.ecid
 
 -- what is put in is read again, and taken out it leaves the frame as it was
 abbrev pub TagRoundTrip : Type 0
-TagRoundTrip = (f : List ℕ) (t : Tag) → 12 ≤ length f → TagFits t → (read_etag (tagged f t) ≡ Some t) × (stripped (tagged f t) ≡ f)
+TagRoundTrip = (f : List ℕ) (t : Tag) → 12 ≤ length f → TagFits t → (read_etag (tagged f t) ≡ Some t)
+    × (stripped (tagged f t) ≡ f)

@@ -47,8 +47,9 @@ fn kind_of_tag(tci: u16) -> Seen
     }
 }
 
-/// The kind of a frame (IEEE 802.1Q): the first that fits of Short (under 14 bytes), Long (over 9,216),
-/// Reserved (a reserved destination), and by the VLAN tag BadTag, Priority, Tagged or Plain.
+/// The kind of a frame (IEEE 802.1Q): the first that fits of Short (under 14 bytes), Long (over
+/// 9,216), Reserved (a reserved destination), and by the VLAN tag BadTag, Priority, Tagged or
+/// Plain.
 #[tactic(auto, unfolding(exb_model::specs::Frames::kind_of))]
 pub fn classify(frame: &[u8]) -> Seen
     ensures kind { result ≡ kind_of frame.now }
@@ -80,7 +81,8 @@ fn may_be_relayed(seen: Seen) -> bool
     !matches!(seen, Seen::Short | Seen::Long | Seen::Reserved)
 }
 
-/// Whether a frame isn't short, long or reserved, so that a bridge may relay it (IEEE 802.1Q, clause 8.6.3).
+/// Whether a frame isn't short, long or reserved, so that a bridge may relay it (IEEE 802.1Q,
+/// clause 8.6.3).
 pub fn is_relayed_kind(frame: &[u8]) -> bool
     ensures kind { result ≡ is_relayed_kind (kind_of frame.now) }
     ensures long { result ≡ true → 14 ≤ length frame.now }

@@ -18,9 +18,9 @@ pub const E_TAG_AT: usize = 12;
 /// The length of an E-TAG in bytes.
 pub const E_TAG_LENGTH: usize = 8;
 
-/// The fields of an E-TAG (after IEEE 802.1BR): the priority of the frame (PCP below 8, DEI), the E-CID of
-/// the port by which it came (below 4,096; 0 for none), and the E-CID to which it goes (below 16,384: one
-/// port's E-channel below 4,096, a group from there on).
+/// The fields of an E-TAG (after IEEE 802.1BR): the priority of the frame (PCP below 8, DEI), the
+/// E-CID of the port by which it came (below 4,096; 0 for none), and the E-CID to which it goes
+/// (below 16,384: one port's E-channel below 4,096, a group from there on).
 #[derive(Clone, Copy, Debug)]
 pub struct ETag {
     pub pcp: u8,
@@ -30,8 +30,8 @@ pub struct ETag {
 }
 
 impl ETag {
-    /// The E-TAG of a frame. None exactly for under 20 bytes, another type at byte 12, or an extension byte
-    /// that isn't 0. Reserved bits are not looked at.
+    /// The E-TAG of a frame. None exactly for under 20 bytes, another type at byte 12, or an
+    /// extension byte that isn't 0. Reserved bits are not looked at.
     pub fn read(frame: &[u8]) -> Option<ETag>
         ensures { option_map tag_of result ≡ read_etag frame.now }
     {
@@ -68,7 +68,8 @@ impl ETag {
     }
 }
 
-/// A frame with an E-TAG put in at byte 12, in place of what was in `into`. It is put into the place of its call, where most of an E-TAG is known.
+/// A frame with an E-TAG put in at byte 12, in place of what was in `into`. It is put into the
+/// place of its call, where most of an E-TAG is known.
 #[inline(always)]
 pub fn tag_into(frame: &[u8], tag: &ETag, into: &mut Vec<u8>) -> Result<(), NoMemory>
     requires long { 12 ≤ length frame.now }
@@ -92,7 +93,8 @@ pub fn strip_into(frame: &[u8], into: &mut Vec<u8>) -> Result<(), NoMemory>
     put(&frame[20..], into)
 }
 
-/// Takes the eight bytes at byte 12 out where they stand: the addresses before them move into their place.
+/// Takes the eight bytes at byte 12 out where they stand: the addresses before them move into their
+/// place.
 #[inline(always)]
 pub fn strip_in_place(bytes: &mut Bytes)
     requires { 20 ≤ length bytes.old }

@@ -85,8 +85,8 @@ HasLines _ = ⊥
 abbrev pub IsRule : ℕ → Type 0
 IsRule r = (1 ≤ r) × (r ≤ 5)
 
--- Where it speaks of a port, this is one, and where of a rule, there is one of this number; lines are those of the journal and the trace,
--- and want of memory is no fault of a topology.
+-- Where it speaks of a port, this is one, and where of a rule, there is one of this number; lines are those of the
+-- journal and the trace, and want of memory is no fault of a topology.
 abbrev pub CanBe : Fault → Type 0
 CanBe (Capture p flaw) = p < 4160
 CanBe (Changed p byte) = p < 4160

@@ -27,8 +27,8 @@ fault_in p name (Err scan.Memory) = Some Memory
 fault_in p name (Err (scan.Fault fault)) = Some (Capture p (Broken fault))
 fault_in p name (Err (scan.Large limit)) = Some (Capture p (Large limit))
 
--- The capture of port p in the file of this name has this fault: the file is not there, breaks the grammar, or is too large. It has no
--- other, since of a file there is one answer.
+-- The capture of port p in the file of this name has this fault: the file is not there, breaks the grammar, or is too
+-- large. It has no other, since of a file there is one answer.
 pub record HasFault (p : ℕ) (name : List ℕ) (file : Option (List ℕ)) (fault : Fault) : Type 0 where
   pub answer : Result Scanned ScanFault
   pub says : IsScan most_bytes file answer
@@ -66,8 +66,9 @@ abbrev pub IsToldOf : List Named → Files → CheckedCapture → Type 0
 IsToldOf names file c = (name : List ℕ) × (name_of names c.port ≡ Some name) × IsGood (file name) c.told
 
 -- the captures are those that are named, in port order, none too large; where the files are told, all is as was told
-pub record AreChecked (tells : Type 0) (names : List Named) (file : Files) (checked : List CheckedCapture) : Type 0 where
-  pub ports : map (λ c. c.port) checked ≡ filter (is_named names) all_ports
-  pub small : All (λ c. c.told.bytes ≤ most_bytes) checked
-  pub in_time : All (λ c. IfSome c.told.first (λ first. first < 2 ^ 32 * 1_000_000_000)) checked
-  pub told : tells → All (IsToldOf names file) checked
+pub record AreChecked (tells : Type 0) (names : List Named) (file : Files) (checked : List CheckedCapture) : Type 0
+  where
+    pub ports : map (λ c. c.port) checked ≡ filter (is_named names) all_ports
+    pub small : All (λ c. c.told.bytes ≤ most_bytes) checked
+    pub in_time : All (λ c. IfSome c.told.first (λ first. first < 2 ^ 32 * 1_000_000_000)) checked
+    pub told : tells → All (IsToldOf names file) checked

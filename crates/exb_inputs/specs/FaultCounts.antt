@@ -5,8 +5,8 @@ use Rattle.exb_shelf.specs.Shelf.{Faults}
 use Rattle.exb_inputs.specs.declared.fault.Fault.{Fault}
 use Rattle.exb_inputs.specs.declared.fault.Fault.TheVariants.{Missing, Changed, MemberChanged, Read, Write, Memory}
 
--- A fault of the shelf was counted once, and no other. Memory may run out while the fault of a missing file is made, and a capture that
--- is missing when it is opened again is another one.
+-- A fault of the shelf was counted once, and no other. Memory may run out while the fault of a missing file is made,
+-- and a capture that is missing when it is opened again is another one.
 abbrev pub CountsFault : Fault → Faults → Faults → Type 0
 CountsFault (Missing name) old new = new ≡ missing_more old
 CountsFault Read old new = new ≡ reads_more old

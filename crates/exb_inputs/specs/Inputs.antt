@@ -34,7 +34,11 @@ records_at names file q = if is_named names q then records_or_none (capture_reco
 
 -- the input of a setup, of commands and of the captures that are named
 abbrev pub input_from : Setup → List Timed → List Named → Files → Input
-input_from setup commands names file = record { setup = setup; commands = map given_by commands; records = records_at names file }
+input_from setup commands names file = record {
+  setup = setup;
+  commands = map given_by commands;
+  records = records_at names file;
+}
 
 -- the input of a topology and of the captures that it names
 abbrev pub input_of : Topology → Files → Input

@@ -18,4 +18,5 @@ AreAllMembersGood ms file = All (λ m. AreGood m file) ms
 
 -- For each bridge, in order, there is what was told of its captures: those that it names, in port order.
 abbrev pub AreMembersChecked : Type 0 → List NetMember → Files → List (Vec CheckedCapture Global) → Type 0
-AreMembersChecked tells ms file checked = OneByOne (λ m one. AreChecked tells m.topology.captures file one.items) ms checked
+AreMembersChecked tells ms file checked = OneByOne (λ m one. AreChecked tells m.topology.captures file one.items) ms
+    checked

@@ -34,15 +34,16 @@ pub record HoldsMember (file : Files) (b : NetBridge) (m : NetMember) : Type 0 w
 abbrev pub HoldsMembers : List NetBridge → Files → List NetMember → Type 0
 HoldsMembers bs file ms = OneByOne (HoldsMember file) bs ms
 
--- The file of this name is the file of a net; the topology files that it names hold these bridges; and so its wires are these.
+-- The file of this name is the file of a net; the topology files that it names hold these bridges; and so its wires are
+-- these.
 pub record HoldsNet (name : List ℕ) (file : Files) (ms : List NetMember) (ws : List Wire) : Type 0 where
   pub net : NetFile
   pub says : HoldsNetFile name file net
   pub members : HoldsMembers net.bridges file ms
   pub wired : wires_of ms net.wires ≡ Ok ws
 
--- What holds of all bridges that were read, whatever the shelf tells: 1 to 16 with different names, each with a valid setup and a sound
--- topology, and at most 15 wires; and whatever net is made of them is valid.
+-- What holds of all bridges that were read, whatever the shelf tells: 1 to 16 with different names, each with a valid
+-- setup and a sound topology, and at most 15 wires; and whatever net is made of them is valid.
 pub record AreRead (ms : List NetMember) (ws : List Wire) : Type 0 where
   pub some : 1 ≤ length ms
   pub few : length ms ≤ 16

@@ -50,7 +50,8 @@ IsFileRefused name (Some bytes) fault = IsNetRefusal (net_file_of bytes) fault
 
 -- the topology of a bridge is missing or refused with this fault
 abbrev pub IsOwnRefusal : Files → NetBridge → Fault → Type 0
-IsOwnRefusal file b fault = (own : Fault) × IsRefused b.topology (file b.topology) own × (fault ≡ member_fault b.name own)
+IsOwnRefusal file b fault = (own : Fault) × IsRefused b.topology (file b.topology) own
+    × (fault ≡ member_fault b.name own)
 
 -- of these bridges, in order, the first whose topology is missing or refused, and with which fault
 pub record FirstRefused (bs : List NetBridge) (file : Files) (fault : Fault) : Type 0 where
@@ -76,7 +77,8 @@ pub record AreWiresRefused (name : List ℕ) (file : Files) (fault : Fault) : Ty
 
 -- this is why the net in the file of this name is not taken
 abbrev pub IsNetRefused : List ℕ → Files → Fault → Type 0
-IsNetRefused name file fault = IsFileRefused name (file name) fault ⊎ (IsMemberRefused name file fault ⊎ AreWiresRefused name file fault)
+IsNetRefused name file fault = IsFileRefused name (file name) fault
+    ⊎ (IsMemberRefused name file fault ⊎ AreWiresRefused name file fault)
 
 -- ---- of the captures
 -- the first capture of a bridge, in port order, that has a fault, has this one

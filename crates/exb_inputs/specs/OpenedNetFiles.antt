@@ -24,18 +24,20 @@ pub record ReadsTopologyOf (bs : List NetBridge) (i : Id) : Type 0 where
   pub is_there : slice_get bs index ≡ Some bridge
   pub reads : IsReadingOf bridge.topology i
 
--- What was opened for the topologies of these bridges: those of the first so many, one after another, each only where that before it is
--- read; and those of all where all are.
-pub record OpensTopologies {X : Type 0} (tells : Type 0) (bs : List NetBridge) (file : Files) (o : Result X Fault) (given ids : ℕ → Id) : Type 0 where
+-- What was opened for the topologies of these bridges: those of the first so many, one after another, each only where
+-- that before it is read; and those of all where all are.
+pub record OpensTopologies {X : Type 0} (tells : Type 0) (bs : List NetBridge) (file : Files) (o : Result X Fault)
+    (given ids : ℕ → Id) : Type 0 where
   pub count : ℕ
   pub within : count ≤ length bs
   pub opened : OpensOneByOne IsReadingOf (map (λ b. b.topology) (take count bs)) given ids
   pub before : tells → (i : ℕ) (b : NetBridge) → i + 1 < count → slice_get bs i ≡ Some b → IsTopologyThere file b
   pub all : IfOk o (λ x. count ≡ length bs)
 
--- What was opened while a net was read: first its file and then, where that says of these bridges, so many of their topologies, one after
--- another, each only where that before it is read; and those of all where the net is read.
-pub record OpensNet (tells : Type 0) (name : List ℕ) (file : Files) (o : Result NetInputs Fault) (given ids : ℕ → Id) : Type 0 where
+-- What was opened while a net was read: first its file and then, where that says of these bridges, so many of their
+-- topologies, one after another, each only where that before it is read; and those of all where the net is read.
+pub record OpensNet (tells : Type 0) (name : List ℕ) (file : Files) (o : Result NetInputs Fault) (given ids : ℕ
+    → Id) : Type 0 where
   pub bridges : List NetBridge
   pub says : tells → 0 < length bridges → (net : NetFile) × HoldsNetFile name file net × (net.bridges ≡ bridges)
   pub count : ℕ
@@ -69,23 +71,30 @@ OpensCaptures ms given ids = OpensOneByOne (λ m. ReadsCapture m.topology.captur
 
 -- each capture of each of these bridges was opened
 abbrev pub OpensEachOf : List NetMember → (ℕ → Id) → (ℕ → Id) → Type 0
-OpensEachOf ms given ids = (b : ℕ) (m : NetMember) → slice_get ms b ≡ Some m → OpensEach m.topology.captures 4160 given ids
+OpensEachOf ms given ids = (b : ℕ) (m : NetMember) → slice_get ms b ≡ Some m
+    → OpensEach m.topology.captures 4160 given ids
 
--- Checking the captures of a bridge ended at a port of it: no capture of a port above it was opened. Where the fault is one of a capture it
--- is that of this port, which has one; and where files are told, the captures before it have none.
-pub record EndsWithin (tells : Type 0) (m : NetMember) (file : Files) (given ids : ℕ → Id) (fault : Fault) : Type 0 where
+-- Checking the captures of a bridge ended at a port of it: no capture of a port above it was opened. Where the fault is
+-- one of a capture it is that of this port, which has one; and where files are told, the captures before it have none.
+pub record EndsWithin (tells : Type 0) (m : NetMember) (file : Files) (given ids : ℕ
+    → Id) (fault : Fault) : Type 0 where
   pub port : ℕ
-  pub own : (name : List ℕ) (q : ℕ) (flaw : InputFlaw) → fault ≡ MemberCapture name q flaw → (name ≡ m.name) × (q ≡ port) × (is_named m.topology.captures port ≡ true)
+  pub own : (name : List ℕ) (q : ℕ) (flaw : InputFlaw) → fault ≡ MemberCapture name q flaw → (name ≡ m.name)
+      × (q ≡ port) × (is_named m.topology.captures port ≡ true)
   pub before : tells → (q : ℕ) → q < port → IsGoodNamed (name_of m.topology.captures q) file
   pub opened : Opens (ReadsBelow m.topology.captures (port + 1)) given ids
 
--- Checking ended at a port of a bridge: no capture of a port above it or of a later bridge was opened. Where the fault is one of a capture it
--- is that of this port, which has one; and where files are told, the captures before it have none.
-pub record EndsAtMember (tells : Type 0) (ms : List NetMember) (file : Files) (given ids : ℕ → Id) (fault : Fault) : Type 0 where
+-- Checking ended at a port of a bridge: no capture of a port above it or of a later bridge was opened. Where the fault
+-- is one of a capture it is that of this port, which has one; and where files are told, the captures before it have
+-- none.
+pub record EndsAtMember (tells : Type 0) (ms : List NetMember) (file : Files) (given ids : ℕ
+    → Id) (fault : Fault) : Type 0 where
   pub bridge : ℕ
   pub port : ℕ
   pub own : (name : List ℕ) (q : ℕ) (flaw : InputFlaw) → fault ≡ MemberCapture name q flaw
-      → (m : NetMember) × (slice_get ms bridge ≡ Some m) × (name ≡ m.name) × (q ≡ port) × (is_named m.topology.captures port ≡ true)
+      → (m : NetMember) × (slice_get ms bridge ≡ Some m) × (name ≡ m.name) × (q ≡ port)
+      × (is_named m.topology.captures port ≡ true)
   pub before : tells → (b : ℕ) (m : NetMember) → b < bridge → slice_get ms b ≡ Some m → AreGood m file
-  pub lower : tells → (m : NetMember) (q : ℕ) → slice_get ms bridge ≡ Some m → q < port → IsGoodNamed (name_of m.topology.captures q) file
+  pub lower : tells → (m : NetMember) (q : ℕ) → slice_get ms bridge ≡ Some m → q < port
+      → IsGoodNamed (name_of m.topology.captures q) file
   pub opened : Opens (ReadsMemberBelow ms bridge (port + 1)) given ids

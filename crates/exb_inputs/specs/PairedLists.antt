@@ -8,8 +8,8 @@ OneByOne R [] [] = ⊤
 OneByOne R (x ∷ xs) (y ∷ ys) = R x y × OneByOne R xs ys
 OneByOne R _ _ = ⊥
 
--- What was opened for these, one after another: up to a moment for the first alone, from then on for the second alone, and so on; for
--- some of them perhaps nothing.
+-- What was opened for these, one after another: up to a moment for the first alone, from then on for the second alone,
+-- and so on; for some of them perhaps nothing.
 abbrev pub OpensOneByOne : {A : Type 0} → (A → Id → Type 0) → List A → (ℕ → Id) → (ℕ → Id) → Type 0
 OpensOneByOne P [] given ids = (j : ℕ) → ids j ≡ given j
 OpensOneByOne P (x ∷ xs) given ids = (between : ℕ → Id) × Opens (P x) given between × OpensOneByOne P xs between ids

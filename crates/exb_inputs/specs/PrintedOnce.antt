@@ -3,8 +3,9 @@ use Rattle.std.specs.Prelude.{◌≡◌, ◌++◌, ◌⊎◌, ℕ, List}
 use Rattle.exb_shelf.specs.FaultCounts.{one_more}
 use Rattle.exb_shelf.specs.Files.{BreaksOff}
 
--- The sink was told this line once, piece after piece, until all of it was printed, which ends with its own status; or until the sink wanted
--- memory, which ends with 1; or until the sink failed, which counts once and ends with 7. Of a line that isn't whole a front was printed.
+-- The sink was told this line once, piece after piece, until all of it was printed, which ends with its own status; or
+-- until the sink wanted memory, which ends with 1; or until the sink failed, which counts once and ends with 7. Of a
+-- line that isn't whole a front was printed.
 abbrev pub PrintsLine : Type 0 → ℕ → ℕ → ℕ → ℕ → List ℕ → List ℕ → List ℕ → Type 0
 PrintsLine printing own status failed fails before after line =
     ((status ≡ own) × (fails ≡ failed) × (printing → after ≡ before ++ line))

@@ -1,4 +1,5 @@
--- Captures that were checked, at their first records: where each stands, what is still to come of it, and when commands begin.
+-- Captures that were checked, at their first records: where each stands, what is still to come of it, and when commands
+-- begin.
 use Rattle.std.specs.Prelude.{◌≤◌, ℕ, List, [], ◌∷◌, All, filter_map, IfSome, min, option_map, Option, Some, None}
 use Rattle.exb_model.specs.Input.{least_or, second_of}
 use Rattle.exb_timeline.specs.CaptureMerges.{Standing}
@@ -12,7 +13,8 @@ use Rattle.exb_inputs.specs.Inputs.{records_at}
 abbrev pub seconds_told : List CheckedCapture → List ℕ
 seconds_told checked = filter_map (λ (c : CheckedCapture). option_map second_of c.told.first) checked
 
--- The second from which commands count: the least of them, or 0. It is that of the input, since the moments of a port never fall.
+-- The second from which commands count: the least of them, or 0. It is that of the input, since the moments of a port
+-- never fall.
 abbrev pub start_told : List CheckedCapture → ℕ
 start_told checked = least_or 0 (seconds_told checked)
 

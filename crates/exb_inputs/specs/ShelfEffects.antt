@@ -11,8 +11,8 @@ use Rattle.exb_inputs.specs.FaultCounts.{CountsOnce}
 use Rattle.exb_inputs.specs.Inputs.{is_named, name_of}
 use Rattle.exb_timeline.specs.CaptureMerges.{ReadsOn}
 
--- No count has fallen, and a fault of the shelf came only where its count rose. It was counted once, and no other was, so none was hidden:
--- the first that is met ends the call, and nothing is tried again.
+-- No count has fallen, and a fault of the shelf came only where its count rose. It was counted once, and no other was,
+-- so none was hidden: the first that is met ends the call, and nothing is tried again.
 pub record CountsFaults {X : Type 0} (result : Result X Fault) (old new : Faults) : Type 0 where
   pub none_fell : NoFewer old new
   pub missing : (name : List ℕ) → result ≡ Err (Missing name) → Rose old.missing new.missing
@@ -43,9 +43,10 @@ OpensNew name given ids = (id : ℕ) × ((given id).given ≡ false) × IsReadin
 abbrev pub OpensEach : List Named → ℕ → (ℕ → Id) → (ℕ → Id) → Type 0
 OpensEach names n given ids = (q : ℕ) (name : List ℕ) → q < n → name_of names q ≡ Some name → OpensNew name given ids
 
--- Checking ended at a port: no capture of a port above it was opened. Where the fault is one of a capture it is that of this port,
--- which has one; and where files are told, the captures before it have none.
-pub record EndsAt (tells : Type 0) (names : List Named) (file : Files) (given ids : ℕ → Id) (fault : Fault) : Type 0 where
+-- Checking ended at a port: no capture of a port above it was opened. Where the fault is one of a capture it is that of
+-- this port, which has one; and where files are told, the captures before it have none.
+pub record EndsAt (tells : Type 0) (names : List Named) (file : Files) (given ids : ℕ
+    → Id) (fault : Fault) : Type 0 where
   pub port : ℕ
   pub own : (q : ℕ) (flaw : InputFlaw) → fault ≡ Capture q flaw → (q ≡ port) × (is_named names port ≡ true)
   pub before : tells → (q : ℕ) → q < port → IsGoodNamed (name_of names q) file

@@ -69,11 +69,16 @@ fn check_capture<S: Shelf>(
     requires port { port < 4160 }
     ensures port { IfOk result (λ checked. checked.port ≡ port) }
     ensures small { IfOk result (λ checked. checked.told.bytes ≤ most_bytes) }
-    ensures in_time { IfOk result (λ checked. IfSome checked.told.first (λ first. first < 2 ^ 32 * 1_000_000_000)) }
-    ensures good { S.tells → IfOk result (λ checked. IsGood (S.file shelf.old name.now) checked.told) }
-    ensures flaw { S.tells → IfErr result (λ fault. HasFault port name.now (S.file shelf.old name.now) fault ⊎ (fault ≡ Fault.Read) ⊎ (fault ≡ Fault.Memory)) }
+    ensures in_time { IfOk result (λ checked. IfSome checked.told.first (λ first.
+        first < 2 ^ 32 * 1_000_000_000)) }
+    ensures good { S.tells → IfOk result (λ checked.
+        IsGood (S.file shelf.old name.now) checked.told) }
+    ensures flaw { S.tells → IfErr result (λ fault.
+        HasFault port name.now (S.file shelf.old name.now) fault ⊎ (fault ≡ Fault.Read)
+        ⊎ (fault ≡ Fault.Memory)) }
     ensures causes { IfErr result IsOfCapture }
-    ensures own { IfErr result (λ fault. (q : ℕ) (flaw : InputFlaw) → fault ≡ Fault.Capture q flaw → q ≡ port) }
+    ensures own { IfErr result (λ fault. (q : ℕ) (flaw : InputFlaw) → fault ≡ Fault.Capture q flaw
+        → q ≡ port) }
     ensures scanned { OnOk result (OpensNew name.now (S.ids shelf.old) (S.ids shelf.new)) }
     ensures opened { Opens (IsReadingOf name.now) (S.ids shelf.old) (S.ids shelf.new) }
     ensures files { SameFiles (S.file shelf.old) (S.file shelf.new) }
@@ -101,11 +106,15 @@ pub fn check_captures<S: Shelf>(
     shelf: &mut S,
     names: &[Named],
 ) -> Result<Vec<CheckedCapture>, Fault>
-    ensures checked { IfOk result (λ checked. AreChecked S.tells names.now (S.file shelf.old) checked.items) }
+    ensures checked { IfOk result (λ checked. AreChecked S.tells names.now (S.file shelf.old)
+        checked.items) }
     ensures good { S.tells → OnOk result (AreAllGood names.now (S.file shelf.old)) }
-    ensures flaw { S.tells → IfErr result (λ fault. ((p : ℕ) × FirstFault names.now (S.file shelf.old) p fault) ⊎ (fault ≡ Fault.Read) ⊎ (fault ≡ Fault.Memory)) }
+    ensures flaw { S.tells → IfErr result (λ fault.
+        ((p : ℕ) × FirstFault names.now (S.file shelf.old) p fault) ⊎ (fault ≡ Fault.Read)
+        ⊎ (fault ≡ Fault.Memory)) }
     ensures causes { IfErr result IsOfCapture }
-    ensures ends { IfErr result (EndsAt S.tells names.now (S.file shelf.old) (S.ids shelf.old) (S.ids shelf.new)) }
+    ensures ends { IfErr result (EndsAt S.tells names.now (S.file shelf.old) (S.ids shelf.old)
+        (S.ids shelf.new)) }
     ensures each { OnOk result (OpensEach names.now 4160 (S.ids shelf.old) (S.ids shelf.new)) }
     ensures opened { Opens (ReadsCapture names.now) (S.ids shelf.old) (S.ids shelf.new) }
     ensures files { SameFiles (S.file shelf.old) (S.file shelf.new) }

@@ -43,7 +43,8 @@ pub enum AuditInput {
 pub enum Fault {
     /// The words are none that are accepted.
     Usage,
-    /// The topology or the file of a net, or a file that one of them names or an audit reads, is not there.
+    /// The topology or the file of a net, or a file that one of them names or an audit reads, is
+    /// not there.
     Missing {
         /// Its name.
         name: Text,
@@ -88,7 +89,8 @@ pub enum Fault {
         /// What is wrong with it.
         flaw: InputFlaw,
     },
-    /// The capture of this port of a bridge of a net is another one than the one that was checked, as this byte shows.
+    /// The capture of this port of a bridge of a net is another one than the one that was checked,
+    /// as this byte shows.
     MemberChanged {
         /// The name of the bridge.
         name: Text,

@@ -1,8 +1,10 @@
-//! What the program is given: topologies and captures are read and checked here, before any file is made.
+//! What the program is given: topologies and captures are read and checked here, before any file is
+//! made.
 //!
-//! For one bridge it reads the topology, checks the captures that this names, and opens them again to be
-//! played. For a net it does so for each bridge, and reads the file of the net and its wires first. The
-//! first fault in the order of reading ends the call; `messages` has the status and the line of each.
+//! For one bridge it reads the topology, checks the captures that this names, and opens them again
+//! to be played. For a net it does so for each bridge, and reads the file of the net and its wires
+//! first. The first fault in the order of reading ends the call; `messages` has the status and the
+//! line of each.
 #![tactic(auto)]
 
 mod captures;

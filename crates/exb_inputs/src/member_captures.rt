@@ -22,13 +22,18 @@ fn check_member<S: Shelf>(
     shelf: &mut S,
     member: &NetMember,
 ) -> Result<Vec<CheckedCapture>, Fault>
-    ensures checked { IfOk result (λ checked. AreChecked S.tells member.now.topology.captures (S.file shelf.old) checked.items) }
+    ensures checked { IfOk result (λ checked. AreChecked S.tells member.now.topology.captures
+        (S.file shelf.old) checked.items) }
     ensures good { S.tells → OnOk result (AreGood member.now (S.file shelf.old)) }
-    ensures flaw { S.tells → IfErr result (λ fault. IsOwnFault member.now (S.file shelf.old) fault ⊎ (fault ≡ Fault.Read) ⊎ (fault ≡ Fault.Memory)) }
+    ensures flaw { S.tells → IfErr result (λ fault. IsOwnFault member.now (S.file shelf.old) fault
+        ⊎ (fault ≡ Fault.Read) ⊎ (fault ≡ Fault.Memory)) }
     ensures causes { IfErr result IsOfMemberCapture }
-    ensures ends { IfErr result (EndsWithin S.tells member.now (S.file shelf.old) (S.ids shelf.old) (S.ids shelf.new)) }
-    ensures each { OnOk result (OpensEach member.now.topology.captures 4160 (S.ids shelf.old) (S.ids shelf.new)) }
-    ensures opened { Opens (ReadsCapture member.now.topology.captures) (S.ids shelf.old) (S.ids shelf.new) }
+    ensures ends { IfErr result (EndsWithin S.tells member.now (S.file shelf.old) (S.ids shelf.old)
+        (S.ids shelf.new)) }
+    ensures each { OnOk result (OpensEach member.now.topology.captures 4160 (S.ids shelf.old)
+        (S.ids shelf.new)) }
+    ensures opened { Opens (ReadsCapture member.now.topology.captures) (S.ids shelf.old)
+        (S.ids shelf.new) }
     ensures files { SameFiles (S.file shelf.old) (S.file shelf.new) }
     ensures faults { CountsFaults result (S.faults shelf.old) (S.faults shelf.new) }
 {
@@ -38,17 +43,22 @@ fn check_member<S: Shelf>(
     }
 }
 
-/// Checks the captures of these bridges, bridge after bridge and each in port order, up to the first that has a fault.
+/// Checks the captures of these bridges, bridge after bridge and each in port order, up to the
+/// first that has a fault.
 pub fn check_members<S: Shelf>(
     alloc: Global,
     shelf: &mut S,
     members: &[NetMember],
 ) -> Result<Vec<Vec<CheckedCapture>>, Fault>
-    ensures checked { IfOk result (λ checked. AreMembersChecked S.tells members.now (S.file shelf.old) checked.items) }
+    ensures checked { IfOk result (λ checked. AreMembersChecked S.tells members.now
+        (S.file shelf.old) checked.items) }
     ensures good { S.tells → OnOk result (AreAllMembersGood members.now (S.file shelf.old)) }
-    ensures flaw { S.tells → IfErr result (λ fault. FirstMemberFault members.now (S.file shelf.old) fault ⊎ (fault ≡ Fault.Read) ⊎ (fault ≡ Fault.Memory)) }
+    ensures flaw { S.tells → IfErr result (λ fault.
+        FirstMemberFault members.now (S.file shelf.old) fault ⊎ (fault ≡ Fault.Read)
+        ⊎ (fault ≡ Fault.Memory)) }
     ensures causes { IfErr result IsOfMemberCapture }
-    ensures ends { IfErr result (EndsAtMember S.tells members.now (S.file shelf.old) (S.ids shelf.old) (S.ids shelf.new)) }
+    ensures ends { IfErr result (EndsAtMember S.tells members.now (S.file shelf.old)
+        (S.ids shelf.old) (S.ids shelf.new)) }
     ensures each { OnOk result (OpensEachOf members.now (S.ids shelf.old) (S.ids shelf.new)) }
     ensures opened { OpensCaptures members.now (S.ids shelf.old) (S.ids shelf.new) }
     ensures files { SameFiles (S.file shelf.old) (S.file shelf.new) }

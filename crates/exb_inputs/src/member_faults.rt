@@ -24,7 +24,8 @@ pub(crate) fn refused(fault: TopoFault) -> Fault
     }
 }
 
-/// A fault of a bridge of this name, with that name where it is one of its topology or of a capture; or want of memory for the name.
+/// A fault of a bridge of this name, with that name where it is one of its topology or of a
+/// capture; or want of memory for the name.
 pub fn of_member(alloc: Global, name: &str, fault: Fault) -> Fault
     ensures is { (result ≡ member_fault name.now fault) ⊎ (result ≡ Fault.Memory) }
     ensures counts { (old new : Faults) → CountsFault fault old new → CountsFault result old new }

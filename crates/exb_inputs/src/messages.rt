@@ -170,13 +170,15 @@ fn member_changed_line(
     port: PortId,
     at: u64,
 ) -> Result<String, AllocError>
-    ensures { IfOk result (λ line. string_bytes line ≡ member_capture_line name.now port (changed_text at)) }
+    ensures { IfOk result (λ line. string_bytes line ≡ member_capture_line name.now port
+        (changed_text at)) }
 {
     let text = format!(in alloc; "Changed at {at}")?;
     member_capture_line(alloc, name, port, text.as_str())
 }
 
-/// The line of a fault. Those that are always the same are printed without memory by `print_outcome`.
+/// The line of a fault. Those that are always the same are printed without memory by
+/// `print_outcome`.
 #[tactic(auto, unfolding(crate::specs::Answers::fault_line))]
 fn fault_line(alloc: Global, fault: &Fault) -> Result<String, AllocError>
     ensures { IfOk result (λ line. string_bytes line ≡ fault_line fault.now) }
@@ -222,8 +224,10 @@ fn fault_line(alloc: Global, fault: &Fault) -> Result<String, AllocError>
 /// Prints the line of a fault.
 fn print_fault<O: Sink>(alloc: Global, out: &mut O, fault: &Fault) -> Result<(), ShelfFault>
     ensures ok { O.tells → OnOk result (O.text out.new ≡ O.text out.old ++ fault_line fault.now) }
-    ensures err { O.tells → OnErr result (AppendsFront (O.text out.old) (O.text out.new) (fault_line fault.now)) }
-    ensures short { O.tells → OnErr result (BreaksOff (O.text out.old) (O.text out.new) (fault_line fault.now)) }
+    ensures err { O.tells → OnErr result (AppendsFront (O.text out.old) (O.text out.new)
+        (fault_line fault.now)) }
+    ensures short { O.tells → OnErr result (BreaksOff (O.text out.old) (O.text out.new)
+        (fault_line fault.now)) }
     ensures counts { O.faults out.new ≡ after_print result (O.faults out.old) }
     ensures faults { O.faults out.old ≤ O.faults out.new }
     ensures failed { IsErrOf result ShelfFault.Failed → Rose (O.faults out.old) (O.faults out.new) }
@@ -234,7 +238,8 @@ fn print_fault<O: Sink>(alloc: Global, out: &mut O, fault: &Fault) -> Result<(),
     }
 }
 
-/// Prints the summary or the lines of a check, or the line of the fault. The lines that are always the same take no memory.
+/// Prints the summary or the lines of a check, or the line of the fault. The lines that are always
+/// the same take no memory.
 #[tactic(auto, unfolding(crate::specs::Answers::fault_line))]
 fn print_outcome<O: Sink>(
     alloc: Global,
@@ -242,8 +247,10 @@ fn print_outcome<O: Sink>(
     outcome: &Result<String, Fault>,
 ) -> Result<(), ShelfFault>
     ensures ok { O.tells → OnOk result (O.text out.new ≡ O.text out.old ++ line_of outcome.now) }
-    ensures err { O.tells → OnErr result (AppendsFront (O.text out.old) (O.text out.new) (line_of outcome.now)) }
-    ensures short { O.tells → OnErr result (BreaksOff (O.text out.old) (O.text out.new) (line_of outcome.now)) }
+    ensures err { O.tells → OnErr result (AppendsFront (O.text out.old) (O.text out.new)
+        (line_of outcome.now)) }
+    ensures short { O.tells → OnErr result (BreaksOff (O.text out.old) (O.text out.new)
+        (line_of outcome.now)) }
     ensures counts { O.faults out.new ≡ after_print result (O.faults out.old) }
     ensures faults { O.faults out.old ≤ O.faults out.new }
     ensures failed { IsErrOf result ShelfFault.Failed → Rose (O.faults out.old) (O.faults out.new) }
@@ -287,18 +294,23 @@ fn status(outcome: &Result<String, Fault>) -> u8
     }
 }
 
-/// Prints the line of the outcome, and answers its status: 7 where printing failed, and 1 where memory
-/// ran out while printing.
+/// Prints the line of the outcome, and answers its status: 7 where printing failed, and 1 where
+/// memory ran out while printing.
 pub fn report<O: Sink>(alloc: Global, out: &mut O, outcome: &Result<String, Fault>) -> u8
     ensures status { result ≢ 1 → result ≢ 7 → result ≡ status_of outcome.now }
-    ensures seven { result ≡ 7 → status_of outcome.now ≢ 7 → Rose (O.faults out.old) (O.faults out.new) }
-    ensures whole { O.tells → result ≢ 1 → result ≢ 7 → O.text out.new ≡ O.text out.old ++ line_of outcome.now }
-    ensures whole_seven { O.tells → result ≡ 7 → ¬ Rose (O.faults out.old) (O.faults out.new) → O.text out.new ≡ O.text out.old ++ line_of outcome.now }
+    ensures seven { result ≡ 7 → status_of outcome.now ≢ 7
+        → Rose (O.faults out.old) (O.faults out.new) }
+    ensures whole { O.tells → result ≢ 1 → result ≢ 7 → O.text out.new
+        ≡ O.text out.old ++ line_of outcome.now }
+    ensures whole_seven { O.tells → result ≡ 7 → ¬ Rose (O.faults out.old) (O.faults out.new)
+        → O.text out.new ≡ O.text out.old ++ line_of outcome.now }
     ensures front { O.tells → AppendsFront (O.text out.old) (O.text out.new) (line_of outcome.now) }
-    ensures short { O.tells → result ≢ status_of outcome.now → BreaksOff (O.text out.old) (O.text out.new) (line_of outcome.now) }
+    ensures short { O.tells → result ≢ status_of outcome.now
+        → BreaksOff (O.text out.old) (O.text out.new) (line_of outcome.now) }
     ensures counts { result ≢ 7 → O.faults out.new ≡ O.faults out.old }
     // The sink is told the line once: where it fails or wants memory nothing more is printed.
-    ensures once { PrintsLine O.tells (status_of outcome.now) result (O.faults out.old) (O.faults out.new) (O.text out.old) (O.text out.new) (line_of outcome.now) }
+    ensures once { PrintsLine O.tells (status_of outcome.now) result (O.faults out.old)
+        (O.faults out.new) (O.text out.old) (O.text out.new) (line_of outcome.now) }
     ensures faults { O.faults out.old ≤ O.faults out.new }
 {
     match print_outcome(alloc, out, outcome) {

@@ -38,7 +38,8 @@ pub struct NetInputs {
 fn parse(alloc: Global, file: &[u8]) -> Result<NetFile, Fault>
     ensures read { IfOk result (λ net. net_file_of file.now ≡ Ok net) }
     ensures sound { IfOk result IsNetFile }
-    ensures refused { IfErr result (λ fault. IsNetRefusal (net_file_of file.now) fault ⊎ (fault ≡ Fault.Memory)) }
+    ensures refused { IfErr result (λ fault. IsNetRefusal (net_file_of file.now) fault
+        ⊎ (fault ≡ Fault.Memory)) }
 {
     match read(alloc, file) {
         Ok(net) => Ok(net),
@@ -50,7 +51,9 @@ fn parse(alloc: Global, file: &[u8]) -> Result<NetFile, Fault>
 #[tactic(auto, using(crate::proofs::MemberFaults::large_refused))]
 fn read_bytes<S: Shelf>(alloc: Global, shelf: &mut S, name: &str) -> Result<Vec<u8>, Fault>
     ensures there { S.tells → IfOk result (λ file. S.file shelf.old name.now ≡ Some file.items) }
-    ensures refused { S.tells → IfErr result (λ fault. IsFileRefused name.now (S.file shelf.old name.now) fault ⊎ (fault ≡ Fault.Read) ⊎ (fault ≡ Fault.Memory)) }
+    ensures refused { S.tells
+        → IfErr result (λ fault. IsFileRefused name.now (S.file shelf.old name.now) fault
+        ⊎ (fault ≡ Fault.Read) ⊎ (fault ≡ Fault.Memory)) }
     ensures causes { IfErr result IsOfNet }
     ensures opened { Opens (IsReadingOf name.now) (S.ids shelf.old) (S.ids shelf.new) }
     ensures files { SameFiles (S.file shelf.old) (S.file shelf.new) }
@@ -72,7 +75,9 @@ fn read_bytes<S: Shelf>(alloc: Global, shelf: &mut S, name: &str) -> Result<Vec<
 fn read_net_file<S: Shelf>(alloc: Global, shelf: &mut S, name: &str) -> Result<NetFile, Fault>
     ensures read { S.tells → IfOk result (HoldsNetFile name.now (S.file shelf.old)) }
     ensures sound { IfOk result IsNetFile }
-    ensures refused { S.tells → IfErr result (λ fault. IsFileRefused name.now (S.file shelf.old name.now) fault ⊎ (fault ≡ Fault.Read) ⊎ (fault ≡ Fault.Memory)) }
+    ensures refused { S.tells
+        → IfErr result (λ fault. IsFileRefused name.now (S.file shelf.old name.now) fault
+        ⊎ (fault ≡ Fault.Read) ⊎ (fault ≡ Fault.Memory)) }
     ensures causes { IfErr result IsOfNet }
     ensures opened { Opens (IsReadingOf name.now) (S.ids shelf.old) (S.ids shelf.new) }
     ensures files { SameFiles (S.file shelf.old) (S.file shelf.new) }
@@ -92,7 +97,9 @@ fn read_member<S: Shelf>(
     ensures name { IfOk result (λ member. member.name ≡ bridge.now.name) }
     ensures valid { IfOk result (λ member. IsValid member.topology.setup) }
     ensures sound { IfOk result (λ member. IsSound member.topology) }
-    ensures refused { S.tells → IfErr result (λ fault. IsOwnRefusal (S.file shelf.old) bridge.now fault ⊎ (fault ≡ Fault.Read) ⊎ (fault ≡ Fault.Memory)) }
+    ensures refused { S.tells
+        → IfErr result (λ fault. IsOwnRefusal (S.file shelf.old) bridge.now fault
+        ⊎ (fault ≡ Fault.Read) ⊎ (fault ≡ Fault.Memory)) }
     ensures causes { IfErr result IsOfNet }
     ensures opened { Opens (IsReadingOf bridge.now.topology) (S.ids shelf.old) (S.ids shelf.new) }
     ensures files { SameFiles (S.file shelf.old) (S.file shelf.new) }
@@ -104,7 +111,8 @@ fn read_member<S: Shelf>(
         Ok(topology) => match Text::from_str(alloc, name) {
             Ok(name) => Ok(NetMember { name, topology }),
             Err(_) => {
-                // By a call, since a block's end is far longer to prove where it lets a topology go.
+                // By a call, since a block's end is far longer to prove where it lets a topology
+                // go.
                 drop(topology);
                 Err(Fault::Memory)
             }
@@ -119,12 +127,16 @@ fn read_members<S: Shelf>(
     bridges: &[NetBridge],
 ) -> Result<List<NetMember>, Fault>
     ensures read { S.tells → IfOk result (HoldsMembers bridges.now (S.file shelf.old)) }
-    ensures names { IfOk result (λ members. map (λ m. m.name) members ≡ map (λ b. b.name) bridges.now) }
+    ensures names { IfOk result (λ members. map (λ m. m.name) members
+        ≡ map (λ b. b.name) bridges.now) }
     ensures valid { IfOk result AreValid }
     ensures sound { IfOk result (λ members. All (λ m. IsSound m.topology) members) }
-    ensures refused { S.tells → IfErr result (λ fault. FirstRefused bridges.now (S.file shelf.old) fault ⊎ (fault ≡ Fault.Read) ⊎ (fault ≡ Fault.Memory)) }
+    ensures refused { S.tells
+        → IfErr result (λ fault. FirstRefused bridges.now (S.file shelf.old) fault
+        ⊎ (fault ≡ Fault.Read) ⊎ (fault ≡ Fault.Memory)) }
     ensures causes { IfErr result IsOfNet }
-    ensures opened { OpensTopologies S.tells bridges.now (S.file shelf.old) result (S.ids shelf.old) (S.ids shelf.new) }
+    ensures opened { OpensTopologies S.tells bridges.now (S.file shelf.old) result (S.ids shelf.old)
+        (S.ids shelf.new) }
     ensures files { SameFiles (S.file shelf.old) (S.file shelf.new) }
     ensures faults { CountsFaults result (S.faults shelf.old) (S.faults shelf.new) }
 {
@@ -142,7 +154,8 @@ fn wire_all(alloc: Global, members: &[NetMember], wires: &[NetWire]) -> Result<L
     requires few { length members.now ≤ 16 }
     ensures wired { IfOk result (λ joined. wires_of members.now wires.now ≡ Ok joined) }
     ensures nets { IfOk result (MakesNets members.now) }
-    ensures refused { IfErr result (λ fault. IsNetRefusal (wires_of members.now wires.now) fault ⊎ (fault ≡ Fault.Memory)) }
+    ensures refused { IfErr result (λ fault. IsNetRefusal (wires_of members.now wires.now) fault
+        ⊎ (fault ≡ Fault.Memory)) }
 {
     match wired(alloc, members, wires) {
         Ok(joined) => Ok(joined),
@@ -150,16 +163,22 @@ fn wire_all(alloc: Global, members: &[NetMember], wires: &[NetWire]) -> Result<L
     }
 }
 
-/// Reads what the file of a net names: the topology of each bridge in order, and its wires over all of them. Another function owns what
-/// the file says, since an early end is far longer to prove where it lets it go.
+/// Reads what the file of a net names: the topology of each bridge in order, and its wires over all
+/// of them. Another function owns what the file says, since an early end is far longer to prove
+/// where it lets it go.
 fn read_named<S: Shelf>(alloc: Global, shelf: &mut S, net: &NetFile) -> Result<NetInputs, Fault>
     requires sound { IsNetFile net.now }
-    ensures read { S.tells → (name : List ℕ) → HoldsNetFile name (S.file shelf.old) net.now → IfOk result (λ inputs. HoldsNet name (S.file shelf.old) inputs.members inputs.wires) }
+    ensures read { S.tells → (name : List ℕ) → HoldsNetFile name (S.file shelf.old) net.now
+        → IfOk result (λ inputs. HoldsNet name (S.file shelf.old) inputs.members inputs.wires) }
     ensures sound { IfOk result (λ inputs. AreRead inputs.members inputs.wires) }
-    ensures names { IfOk result (λ inputs. map (λ m. m.name) inputs.members ≡ map (λ b. b.name) net.now.bridges) }
-    ensures refused { S.tells → (name : List ℕ) → HoldsNetFile name (S.file shelf.old) net.now → IfErr result (λ fault. IsNetRefused name (S.file shelf.old) fault ⊎ (fault ≡ Fault.Read) ⊎ (fault ≡ Fault.Memory)) }
+    ensures names { IfOk result (λ inputs. map (λ m. m.name) inputs.members
+        ≡ map (λ b. b.name) net.now.bridges) }
+    ensures refused { S.tells → (name : List ℕ) → HoldsNetFile name (S.file shelf.old) net.now
+        → IfErr result (λ fault. IsNetRefused name (S.file shelf.old) fault ⊎ (fault ≡ Fault.Read)
+        ⊎ (fault ≡ Fault.Memory)) }
     ensures causes { IfErr result IsOfNet }
-    ensures opened { OpensTopologies S.tells net.now.bridges (S.file shelf.old) result (S.ids shelf.old) (S.ids shelf.new) }
+    ensures opened { OpensTopologies S.tells net.now.bridges (S.file shelf.old) result
+        (S.ids shelf.old) (S.ids shelf.new) }
     ensures files { SameFiles (S.file shelf.old) (S.file shelf.new) }
     ensures faults { CountsFaults result (S.faults shelf.old) (S.faults shelf.new) }
 {
@@ -176,13 +195,18 @@ fn read_named<S: Shelf>(alloc: Global, shelf: &mut S, net: &NetFile) -> Result<N
     }
 }
 
-/// Reads a net: the file of this name, then the topology of each bridge in order, and its wires over all of them.
+/// Reads a net: the file of this name, then the topology of each bridge in order, and its wires
+/// over all of them.
 pub fn read_net<S: Shelf>(alloc: Global, shelf: &mut S, name: &str) -> Result<NetInputs, Fault>
-    ensures read { S.tells → IfOk result (λ net. HoldsNet name.now (S.file shelf.old) net.members net.wires) }
+    ensures read { S.tells
+        → IfOk result (λ net. HoldsNet name.now (S.file shelf.old) net.members net.wires) }
     ensures sound { IfOk result (λ net. AreRead net.members net.wires) }
-    ensures refused { S.tells → IfErr result (λ fault. IsNetRefused name.now (S.file shelf.old) fault ⊎ (fault ≡ Fault.Read) ⊎ (fault ≡ Fault.Memory)) }
+    ensures refused { S.tells
+        → IfErr result (λ fault. IsNetRefused name.now (S.file shelf.old) fault
+        ⊎ (fault ≡ Fault.Read) ⊎ (fault ≡ Fault.Memory)) }
     ensures causes { IfErr result IsOfNet }
-    ensures opened { OpensNet S.tells name.now (S.file shelf.old) result (S.ids shelf.old) (S.ids shelf.new) }
+    ensures opened { OpensNet S.tells name.now (S.file shelf.old) result (S.ids shelf.old)
+        (S.ids shelf.new) }
     ensures files { SameFiles (S.file shelf.old) (S.file shelf.new) }
     ensures faults { CountsFaults result (S.faults shelf.old) (S.faults shelf.new) }
 {

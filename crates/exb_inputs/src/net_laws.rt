@@ -1,4 +1,5 @@
-//! What holds of every net, whatever reads it. Each law is a function that does nothing and ensures it.
+//! What holds of every net, whatever reads it. Each law is a function that does nothing and ensures
+//! it.
 ghost use Rattle.exb_inputs.specs.NetLaws.{AreInputsOf, HaveOneCause};
 
 /// A net is refused for one cause or for none, and then has one first fault of a capture or none.

@@ -32,7 +32,8 @@ fn earlier(least: Option<u64>, told: Option<u64>) -> Option<u64>
     }
 }
 
-/// The least whole second of the first record of any of these captures, with the least of those `before` them, if there is any.
+/// The least whole second of the first record of any of these captures, with the least of those
+/// `before` them, if there is any.
 pub fn earliest_in(before: Option<u64>, checked: &[CheckedCapture]) -> Option<u64>
     ensures { result ≡ earliest_told before checked.now }
 {
@@ -43,14 +44,16 @@ pub fn earliest_in(before: Option<u64>, checked: &[CheckedCapture]) -> Option<u6
     least
 }
 
-/// The second from which commands count: the least whole second of any first record that was told, or 0.
+/// The second from which commands count: the least whole second of any first record that was told,
+/// or 0.
 pub fn start_of(checked: &[CheckedCapture]) -> u64
     ensures { result ≡ start_told checked.now }
 {
     earliest_in(None, checked).unwrap_or(0)
 }
 
-/// Opens the capture again of which this was told, puts it behind those so far, and looks as far as its first record.
+/// Opens the capture again of which this was told, puts it behind those so far, and looks as far as
+/// its first record.
 fn open_one<S: Shelf>(
     alloc: Global,
     shelf: &mut S,
@@ -63,17 +66,29 @@ fn open_one<S: Shelf>(
     requires port { HasPort one.now.port (standings captures.old) → ⊥ }
     requires small { one.now.told.bytes ≤ most_bytes }
     ensures opened { OnOk result (AreOpened (S.ids shelf.new) captures.new) }
-    ensures named { OnOk result (AllByRecursion (λ k. ReadsCapture names.now (S.ids shelf.old k)) (ids_in captures.old) → AllByRecursion (λ k. ReadsCapture names.now (S.ids shelf.new k)) (ids_in captures.new)) }
-    ensures standings { OnOk result (standings captures.new ≡ standings captures.old ++ first_standing one.now ∷ []) }
-    ensures left { OnOk result (left_in captures.new ≤ left_in captures.old + (one.now.told.bytes + 1)) }
-    ensures since { OnOk result ((second : ℕ) → IfSome one.now.told.first (λ first. second ≤ second_of first) → AreToldSince second captures.old → AreToldSince second captures.new) }
-    ensures streams { S.tells → OnOk result (IsToldOf names.now (S.file shelf.old) one.now → (streams : List Stream) → AreReplays (S.file shelf.old) (S.ids shelf.old) captures.old.sources.items streams
-        → AreReplays (S.file shelf.new) (S.ids shelf.new) captures.new.sources.items (streams ++ stream_told names.now (S.file shelf.old) one.now ∷ [])) }
-    ensures never { S.tells → IfErr result (λ fault. IsChange fault → IsToldOf names.now (S.file shelf.old) one.now → ⊥) }
-    ensures id { OnOk result ((id : ℕ) × (ids_in captures.new ≡ ids_in captures.old ++ id ∷ []) × ((S.ids shelf.old id).given ≡ false)) }
+    ensures named { OnOk result (AllByRecursion (λ k. ReadsCapture names.now (S.ids shelf.old k))
+        (ids_in captures.old) → AllByRecursion (λ k. ReadsCapture names.now (S.ids shelf.new k))
+        (ids_in captures.new)) }
+    ensures standings { OnOk result (standings captures.new ≡ standings captures.old
+        ++ first_standing one.now ∷ []) }
+    ensures left { OnOk result (left_in captures.new ≤ left_in captures.old
+        + (one.now.told.bytes + 1)) }
+    ensures since { OnOk result ((second : ℕ)
+        → IfSome one.now.told.first (λ first. second ≤ second_of first)
+        → AreToldSince second captures.old → AreToldSince second captures.new) }
+    ensures streams { S.tells → OnOk result (IsToldOf names.now (S.file shelf.old) one.now
+        → (streams : List Stream) → AreReplays (S.file shelf.old) (S.ids shelf.old)
+        captures.old.sources.items streams
+        → AreReplays (S.file shelf.new) (S.ids shelf.new) captures.new.sources.items
+        (streams ++ stream_told names.now (S.file shelf.old) one.now ∷ [])) }
+    ensures never { S.tells → IfErr result (λ fault. IsChange fault
+        → IsToldOf names.now (S.file shelf.old) one.now → ⊥) }
+    ensures id { OnOk result ((id : ℕ) × (ids_in captures.new ≡ ids_in captures.old ++ id ∷ [])
+        × ((S.ids shelf.old id).given ≡ false)) }
     ensures opens { Opens (ReadsCapture names.now) (S.ids shelf.old) (S.ids shelf.new) }
     ensures files { SameFiles (S.file shelf.old) (S.file shelf.new) }
-    ensures port { IfErr result (λ fault. (p at : ℕ) → fault ≡ Fault.Changed p at → is_named names.now p ≡ true) }
+    ensures port { IfErr result (λ fault. (p at : ℕ) → fault ≡ Fault.Changed p at
+        → is_named names.now p ≡ true) }
     ensures causes { IfErr result IsOfPlay }
     ensures faults { CountsFaults result (S.faults shelf.old) (S.faults shelf.new) }
 {
@@ -82,7 +97,8 @@ fn open_one<S: Shelf>(
     Ok(())
 }
 
-/// Opens the captures again that are named, in port order, and looks at each as far as its first record.
+/// Opens the captures again that are named, in port order, and looks at each as far as its first
+/// record.
 pub fn open_all<S: Shelf>(
     alloc: Global,
     shelf: &mut S,
@@ -91,16 +107,24 @@ pub fn open_all<S: Shelf>(
 ) -> Result<CaptureMerge, Fault>
     requires checked { AreChecked S.tells names.now (S.file shelf.old) checked.now }
     ensures opened { IfOk result (AreOpened (S.ids shelf.new)) }
-    ensures named { IfOk result (λ captures. AllByRecursion (λ k. ReadsCapture names.now (S.ids shelf.new k)) (ids_in captures)) }
-    ensures fresh { IfOk result (λ captures. AllByRecursion (λ k. (S.ids shelf.old k).given ≡ false) (ids_in captures)) }
-    ensures standings { IfOk result (λ captures. standings captures ≡ map first_standing checked.now) }
-    ensures left { IfOk result (λ captures. left_in captures ≤ sum_by (λ c. c.told.bytes + 1) checked.now) }
-    ensures since { IfOk result (λ captures. (second : ℕ) → AreSince second checked.now → AreToldSince second captures) }
-    ensures streams { S.tells → IfOk result (λ captures. AreReplays (S.file shelf.new) (S.ids shelf.new) captures.sources.items (map (stream_told names.now (S.file shelf.old)) checked.now)) }
+    ensures named { IfOk result (λ captures.
+        AllByRecursion (λ k. ReadsCapture names.now (S.ids shelf.new k)) (ids_in captures)) }
+    ensures fresh { IfOk result (λ captures. AllByRecursion (λ k. (S.ids shelf.old k).given ≡ false)
+        (ids_in captures)) }
+    ensures standings { IfOk result (λ captures. standings captures
+        ≡ map first_standing checked.now) }
+    ensures left { IfOk result (λ captures. left_in captures
+        ≤ sum_by (λ c. c.told.bytes + 1) checked.now) }
+    ensures since { IfOk result (λ captures. (second : ℕ) → AreSince second checked.now
+        → AreToldSince second captures) }
+    ensures streams { S.tells → IfOk result (λ captures.
+        AreReplays (S.file shelf.new) (S.ids shelf.new) captures.sources.items
+        (map (stream_told names.now (S.file shelf.old)) checked.now)) }
     ensures never { S.tells → IfErr result (λ fault. IsChange fault → ⊥) }
     ensures opens { Opens (ReadsCapture names.now) (S.ids shelf.old) (S.ids shelf.new) }
     ensures files { SameFiles (S.file shelf.old) (S.file shelf.new) }
-    ensures port { IfErr result (λ fault. (p at : ℕ) → fault ≡ Fault.Changed p at → is_named names.now p ≡ true) }
+    ensures port { IfErr result (λ fault. (p at : ℕ) → fault ≡ Fault.Changed p at
+        → is_named names.now p ≡ true) }
     ensures causes { IfErr result IsOfPlay }
     ensures faults { CountsFaults result (S.faults shelf.old) (S.faults shelf.new) }
 {

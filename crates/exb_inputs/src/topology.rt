@@ -35,7 +35,8 @@ fn refused(fault: TopoFault) -> Fault
     }
 }
 
-/// What a topology file says. Memory is wanted too where it could take more than there is to be for it.
+/// What a topology file says. Memory is wanted too where it could take more than there is to be for
+/// it.
 fn parse(alloc: Global, file: &[u8]) -> Result<Topology, Fault>
     ensures read { IfOk result (λ topology. topology_of file.now ≡ Ok (topology_view topology)) }
     ensures valid { IfOk result (λ topology. IsValid topology.setup) }
@@ -55,7 +56,9 @@ fn parse(alloc: Global, file: &[u8]) -> Result<Topology, Fault>
 #[tactic(auto, using(crate::proofs::UnreadTopology::large_refused))]
 fn read_bytes<S: Shelf>(alloc: Global, shelf: &mut S, name: &str) -> Result<Vec<u8>, Fault>
     ensures there { S.tells → IfOk result (λ file. S.file shelf.old name.now ≡ Some file.items) }
-    ensures refused { S.tells → IfErr result (λ fault. IsRefused name.now (S.file shelf.old name.now) fault ⊎ (fault ≡ Fault.Read) ⊎ (fault ≡ Fault.Memory)) }
+    ensures refused { S.tells
+        → IfErr result (λ fault. IsRefused name.now (S.file shelf.old name.now) fault
+        ⊎ (fault ≡ Fault.Read) ⊎ (fault ≡ Fault.Memory)) }
     ensures causes { IfErr result IsOfTopology }
     ensures opened { Opens (IsReadingOf name.now) (S.ids shelf.old) (S.ids shelf.new) }
     ensures files { SameFiles (S.file shelf.old) (S.file shelf.new) }
@@ -78,7 +81,9 @@ pub fn read_topology<S: Shelf>(alloc: Global, shelf: &mut S, name: &str) -> Resu
     ensures read { S.tells → IfOk result (HoldsTopology name.now (S.file shelf.old)) }
     ensures valid { IfOk result (λ topology. IsValid topology.setup) }
     ensures sound { IfOk result IsSound }
-    ensures refused { S.tells → IfErr result (λ fault. IsRefused name.now (S.file shelf.old name.now) fault ⊎ (fault ≡ Fault.Read) ⊎ (fault ≡ Fault.Memory)) }
+    ensures refused { S.tells
+        → IfErr result (λ fault. IsRefused name.now (S.file shelf.old name.now) fault
+        ⊎ (fault ≡ Fault.Read) ⊎ (fault ≡ Fault.Memory)) }
     ensures causes { IfErr result IsOfTopology }
     ensures opened { Opens (IsReadingOf name.now) (S.ids shelf.old) (S.ids shelf.new) }
     ensures files { SameFiles (S.file shelf.old) (S.file shelf.new) }

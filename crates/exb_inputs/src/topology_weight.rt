@@ -1,13 +1,16 @@
-//! How much memory a topology file may take while it is read, by what stands in it outside of strings and comments.
+//! How much memory a topology file may take while it is read, by what stands in it outside of
+//! strings and comments.
 //!
-//! Each part of a dotted key, and each inline table, becomes a table that takes more than a kibibyte, so a file of the largest size
-//! could take ten gibibytes. One that could take more than there is to be is answered as one for which memory ran out.
+//! Each part of a dotted key, and each inline table, becomes a table that takes more than a
+//! kibibyte, so a file of the largest size could take ten gibibytes. One that could take more than
+//! there is to be is answered as one for which memory ran out.
 
 /// The most bytes that a file may be thought to take.
 const MOST: usize = 900_000_000;
 
-/// What is thought to be taken, by measure and with room to spare: by the table of a part of a key, by a table that has a header or
-/// stands inline, by a key with its value or a list, and by a value in a list.
+/// What is thought to be taken, by measure and with room to spare: by the table of a part of a key,
+/// by a table that has a header or stands inline, by a key with its value or a list, and by a value
+/// in a list.
 const PART: usize = 1_300;
 
 const TABLE: usize = 1_000;
@@ -30,7 +33,8 @@ enum LexerState {
     Lines { quote: u8, run: u8 },
 }
 
-/// A place in a file, whether a line begins there, whether a backslash stands before it, and the weight of what stands before it.
+/// A place in a file, whether a line begins there, whether a backslash stands before it, and the
+/// weight of what stands before it.
 #[derive(Drop)]
 struct WeightScan {
     place: LexerState,
@@ -62,7 +66,8 @@ impl WeightScan {
         self.begins = byte == b'\n' || (self.begins && matches!(byte, b' ' | b'\t'));
     }
 
-    // In a string of one line, which ends at its quote, and at the end of the line in a file that is none.
+    // In a string of one line, which ends at its quote, and at the end of the line in a file that
+    // is none.
     fn line(&mut self, byte: u8, quote: u8) {
         if byte == b'\n' {
             self.open(byte);
@@ -74,7 +79,8 @@ impl WeightScan {
         }
     }
 
-    // In a string of many lines: it ends behind three quotes, and two more may be its own last ones.
+    // In a string of many lines: it ends behind three quotes, and two more may be its own last
+    // ones.
     fn lines(&mut self, byte: u8, quote: u8, run: u8) {
         if byte == quote {
             let run = run.saturating_add(1);

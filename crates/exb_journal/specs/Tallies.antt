@@ -4,7 +4,13 @@ use Rattle.exb_model.specs.Texts.{Counts}
 use Rattle.exb_journal.specs.declared.tally.Tally.{Tally}
 
 abbrev pub counts_of : Tally → Counts
-counts_of t = record { relayed = t.relayed; ignored = t.ignored; left = t.left; commits = t.commits; refusals = t.refusals }
+counts_of t = record {
+  relayed = t.relayed;
+  ignored = t.ignored;
+  left = t.left;
+  commits = t.commits;
+  refusals = t.refusals;
+}
 
 -- before the first event
 abbrev pub nothing_counted : Counts

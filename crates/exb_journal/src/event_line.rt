@@ -49,10 +49,11 @@ impl fmt::Display for CauseText {
     }
 }
 
-/// Puts the line of an event, with its newline, at the end of a text, by the formatter. Where memory runs out, the text
-/// stays as it was.
+/// Puts the line of an event, with its newline, at the end of a text, by the formatter. Where
+/// memory runs out, the text stays as it was.
 pub fn write_line(text: &mut String, event: &Event) -> Result<(), NoMemory>
-    ensures ok { OnOk result (string_bytes text.new ≡ string_bytes text.old ++ line_of event.now ++ 10 ∷ []) }
+    ensures ok { OnOk result (string_bytes text.new ≡ string_bytes text.old ++ line_of event.now
+        ++ 10 ∷ []) }
     ensures err { OnErr result (string_bytes text.new ≡ string_bytes text.old) }
 {
     let line = format!(in *text.allocator(); "{}\n", EventLine(event))?;
@@ -88,10 +89,12 @@ impl JournalScratch {
         }
     }
 
-    /// The lines of events, each with its newline, where all are such as come with a frame and there is room for them.
+    /// The lines of events, each with its newline, where all are such as come with a frame and
+    /// there is room for them.
     #[inline(always)]
     pub fn lines(&mut self, events: &[Event]) -> Option<&[u8]>
-        ensures { IfSome result (λ lines. lines.now ≡ flat_map (λ e. line_of e ++ 10 ∷ []) events.now) }
+        ensures { IfSome result (λ lines. lines.now ≡ flat_map (λ e. line_of e ++ 10 ∷ [])
+            events.now) }
     {
         match quick_lines(&mut self.quick, events) {
             Some(start) => {

@@ -47,7 +47,8 @@ pub fn add_name(
     names.push(Text::from_str(alloc, name.as_str())?)
 }
 
-/// Puts the names of all files but the captures behind other names, in the order in which the files are made.
+/// Puts the names of all files but the captures behind other names, in the order in which the files
+/// are made.
 pub fn add_other_names(alloc: Global, prefix: &str, names: &mut List<Text>) -> Result<(), NoMemory>
     ensures { OnOk result (names.new ≡ names.old ++ map (file_name prefix.now) other_outputs) }
 {

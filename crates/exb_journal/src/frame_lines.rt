@@ -1,4 +1,5 @@
-//! The lines that the journal has for each frame, written from their end, so that no formatter runs.
+//! The lines that the journal has for each frame, written from their end, so that no formatter
+//! runs.
 ghost use Rattle.std.specs.Prelude.{◌≡◌, ◌+◌, ◌≤◌, ◌<◌, ◌∷◌, ◌++◌, [], codes, decimal, drop, flat_map, length, IfSome};
 ghost use Rattle.exb_model.specs.Texts.{line_of, port_name};
 
@@ -56,7 +57,8 @@ fn put_port(room: &mut [u8; ROOM], port: PortId, end: usize) -> usize
     put(room, b"x", number)
 }
 
-/// Puts the line of an arrival before a place, and answers where it begins: a word, its port and its index.
+/// Puts the line of an arrival before a place, and answers where it begins: a word, its port and
+/// its index.
 #[inline(always)]
 fn put_arrival(room: &mut [u8; ROOM], word: &[u8], port: PortId, index: u64, before: usize) -> usize
     requires word { length word.now ≤ 7 }
@@ -95,8 +97,8 @@ fn put_settled(room: &mut [u8; ROOM], before: usize) -> usize
     put(room, b"settled\n", before)
 }
 
-/// Puts the line of an ignored frame or of a tick, with its newline, before a place, and answers where it begins; None of any other
-/// event.
+/// Puts the line of an ignored frame or of a tick, with its newline, before a place, and answers
+/// where it begins; None of any other event.
 #[cold]
 #[inline(never)]
 #[tactic(auto, unfolding(exb_model::specs::Texts::line_of))]
@@ -104,7 +106,8 @@ fn rare_line(room: &mut [u8; ROOM], event: &Event, before: usize) -> Option<usiz
     requires room { 40 ≤ before }
     requires within { before ≤ 128 }
     ensures within { IfSome result (λ start. start ≤ before) }
-    ensures written { IfSome result (λ start. drop start room.new ≡ line_of event.now ++ 10 ∷ drop before room.old) }
+    ensures written { IfSome result (λ start. drop start room.new
+        ≡ line_of event.now ++ 10 ∷ drop before room.old) }
 {
     let start = match event {
         Event::Ignored { port, index } => put_arrival(room, b"ignore ", *port, *index, before),
@@ -114,14 +117,16 @@ fn rare_line(room: &mut [u8; ROOM], event: &Event, before: usize) -> Option<usiz
     Some(start)
 }
 
-/// Puts the line of an event that comes with frames, with its newline, before a place, and answers where it begins; None of any other
-/// event, and where there is no room. Of the two that each frame has it is known by two comparisons which one it is.
+/// Puts the line of an event that comes with frames, with its newline, before a place, and answers
+/// where it begins; None of any other event, and where there is no room. Of the two that each frame
+/// has it is known by two comparisons which one it is.
 #[inline(always)]
 #[tactic(auto, unfolding(exb_model::specs::Texts::line_of))]
 fn quick_line(room: &mut [u8; ROOM], event: &Event, before: usize) -> Option<usize>
     requires { before ≤ 128 }
     ensures within { IfSome result (λ start. start ≤ before) }
-    ensures written { IfSome result (λ start. drop start room.new ≡ line_of event.now ++ 10 ∷ drop before room.old) }
+    ensures written { IfSome result (λ start. drop start room.new
+        ≡ line_of event.now ++ 10 ∷ drop before room.old) }
 {
     if before < LINE {
         return None;
@@ -134,7 +139,8 @@ fn quick_line(room: &mut [u8; ROOM], event: &Event, before: usize) -> Option<usi
     Some(start)
 }
 
-/// Puts the line of such an event at the end of the room, and answers where it begins; None of any other event.
+/// Puts the line of such an event at the end of the room, and answers where it begins; None of any
+/// other event.
 pub(crate) fn last_line(room: &mut [u8; ROOM], event: &Event) -> Option<usize>
     ensures within { IfSome result (λ start. start ≤ 128) }
     ensures written { IfSome result (λ start. drop start room.new ≡ line_of event.now ++ 10 ∷ []) }
@@ -142,12 +148,13 @@ pub(crate) fn last_line(room: &mut [u8; ROOM], event: &Event) -> Option<usize>
     quick_line(room, event, ROOM)
 }
 
-/// Puts the lines of events at the end of the room, each with its newline, and answers where they begin; None where one is none of
-/// those that come with frames, and where there is no room.
+/// Puts the lines of events at the end of the room, each with its newline, and answers where they
+/// begin; None where one is none of those that come with frames, and where there is no room.
 #[inline(always)]
 pub(crate) fn quick_lines(room: &mut [u8; ROOM], events: &[Event]) -> Option<usize>
     ensures within { IfSome result (λ start. start ≤ 128) }
-    ensures written { IfSome result (λ start. drop start room.new ≡ flat_map (λ e. line_of e ++ 10 ∷ []) events.now) }
+    ensures written { IfSome result (λ start. drop start room.new
+        ≡ flat_map (λ e. line_of e ++ 10 ∷ []) events.now) }
 {
     let mut start = ROOM;
     let mut left = events.len();

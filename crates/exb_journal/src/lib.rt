@@ -1,7 +1,8 @@
-//! The texts that a run writes and prints: the lines of the journal and of a trace, the summary, and the names of the
-//! files. Upwards it promises that each is byte for byte the text that the definitions say, that want of
-//! memory leaves no part of a line, and that under one prefix all files, of each kind and of each port, have different
-//! names. It stands on `exb_model`, and writes the digits of a frame's line by the pack's `itoa`.
+//! The texts that a run writes and prints: the lines of the journal and of a trace, the summary,
+//! and the names of the files. Upwards it promises that each is byte for byte the text that the
+//! definitions say, that want of memory leaves no part of a line, and that under one prefix all
+//! files, of each kind and of each port, have different names. It stands on `exb_model`, and writes
+//! the digits of a frame's line by the pack's `itoa`.
 #![tactic(auto)]
 
 mod event_line;

@@ -5,8 +5,8 @@ ghost use Rattle.exb_model.specs.Texts.{port_name};
 use exb_model::port::PortId;
 use std::fmt;
 
-/// A port that prints as its name: `b1` to `b64` for the ports of the bridge, `xN.K` for port K of extender N,
-/// both counted from 1.
+/// A port that prints as its name: `b1` to `b64` for the ports of the bridge, `xN.K` for port K of
+/// extender N, both counted from 1.
 #[derive(Clone, Copy)]
 pub struct PortName(pub PortId);
 

@@ -103,7 +103,8 @@ fn push_side(text: &mut Vec<u8>, side: u8) -> Result<(), NoMemory>
     push_number(text, side)
 }
 
-/// Puts what a frame came in by, or went out by, behind a text: the way, the device, the side and a space.
+/// Puts what a frame came in by, or went out by, behind a text: the way, the device, the side and a
+/// space.
 fn push_head(text: &mut Vec<u8>, way: &str, who: u8, side: u8) -> Result<(), NoMemory>
     ensures { OnOk result (text.new.items ≡ text.old.items ++ head_text way.now who side) }
 {
@@ -123,7 +124,8 @@ fn push_frame(
     side: u8,
     bytes: &[u8],
 ) -> Result<(), NoMemory>
-    ensures { OnOk result (text.new.items ≡ text.old.items ++ (head_text way.now who side ++ hexadecimal bytes.now)) }
+    ensures { OnOk result (text.new.items ≡ text.old.items
+        ++ (head_text way.now who side ++ hexadecimal bytes.now)) }
 {
     push_head(text, way, who, side)?;
     push_hexadecimal(text, bytes)

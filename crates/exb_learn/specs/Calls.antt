@@ -27,8 +27,17 @@ if_live now ageing (Some (p, at)) = if nat_lt (now - at) ageing then Some (p, at
 
 -- with ageing time 0 nothing is kept; a tick takes out what dies, and a port that is forgotten what was seen there
 abbrev pub after_call : Call → Table → Table
-after_call (See v m p) t = record t { seen = λ w n. if nat_lt 0 t.ageing && (v == w && bytes_eq m n) then Some (p, t.clock) else t.seen w n }
-after_call (Tick seconds) t = record t { clock = t.clock + seconds; seen = λ w n. if_live (t.clock + seconds) t.ageing (t.seen w n) }
+after_call (See v m p) t = record t {
+  seen = λ w n. if nat_lt 0 t.ageing && (v == w && bytes_eq m n) then Some (
+    p,
+    t.clock,
+  ) else t.seen w n;
+}
+after_call (Tick seconds) t = record t {
+  clock = t.clock + seconds;
+  seen = λ w n.
+      if_live (t.clock + seconds) t.ageing (t.seen w n);
+}
 after_call (Forget p) t = record t { seen = λ w n. kept_unless (λ q. q == p) (t.seen w n) }
 
 -- the table after these calls, the newest first

@@ -22,7 +22,12 @@ abbrev pub station : ℕ → List ℕ → StationKey
 station v m = record { vid = v; address = record { 0 = m } }
 
 unfoldable pub table_of : Entries → Table
-table_of l = record { ageing = l.ageing; clock = l.clock; seen = λ v m. place_of (lookup (same (station v m)) l.entries) }
+table_of l = record {
+  ageing = l.ageing;
+  clock = l.clock;
+  seen = λ v m.
+      place_of (lookup (same (station v m)) l.entries);
+}
 
 -- what is learned
 abbrev pub look_of : Entries → Look

@@ -40,7 +40,8 @@ pub record IsSlotted (es : List (StationKey × DynamicEntry)) (n : ℕ) (ages po
   pub by_port : IsLaid ports.heads (links_of ports) es (λ p. p.port) (λ p. 0)
 
 -- a station of which this is known is put at a place, and has this slot then
-pub record IsPutting (es : List (StationKey × DynamicEntry)) (s : StationKey) (n : ℕ) (ages ports : RingTable) (slot : ℕ) (known : Option DynamicEntry) (place : DynamicEntry) : Type 0 where
+pub record IsPutting (es : List (StationKey × DynamicEntry)) (s : StationKey) (n : ℕ) (ages ports : RingTable)
+    (slot : ℕ) (known : Option DynamicEntry) (place : DynamicEntry) : Type 0 where
   pub slotted : IsSlotted es n ages ports
   pub slot_is : slot ≡ position_or_len (same s) (keys_of es)
   pub known_is : known ≡ lookup (same s) es
@@ -49,13 +50,15 @@ pub record IsPutting (es : List (StationKey × DynamicEntry)) (s : StationKey) (
   pub latest : (i : ℕ) (e : StationKey × DynamicEntry) → slice_get es i ≡ Some e → e.1.at ≤ place.at
 
 -- the entry with this slot is taken out, where `last` is the slot of the last one
-pub record IsRemoving (es : List (StationKey × DynamicEntry)) (n : ℕ) (ages ports : RingTable) (slot last : ℕ) : Type 0 where
+pub record IsRemoving (es : List (StationKey × DynamicEntry)) (n : ℕ) (ages ports : RingTable)
+    (slot last : ℕ) : Type 0 where
   pub slotted : IsSlotted es n ages ports
   pub less : slot < length es
   pub within : length es ≤ n
   pub last_is : last ≡ length es - 1
 
--- What holds of what is kept: no station stands twice, there is room for so many more, and all slots stand in their rings.
+-- What holds of what is kept: no station stands twice, there is room for so many more, and all slots stand in their
+-- rings.
 pub record IsStored (es : List (StationKey × DynamicEntry)) (room spare : ℕ) (ages ports : RingTable) : Type 0 where
   pub once : IsDistinct same (keys_of es)
   pub fits : room ≤ spare

@@ -49,8 +49,9 @@ taken l x = record { next = put l.next (l.prev x) (l.next x); prev = put l.prev 
 abbrev pub placed : Links → ℕ → ℕ → Links
 placed l b x = record { next = put (put l.next (l.prev b) x) x b; prev = put (put l.prev x (l.prev b)) b x }
 
--- The nodes that are in a ring; the first so many nodes are the heads. Each node has the ring in which it is, and a key that
--- doesn't fall from one node to the next. Each has a rank that rises from one node to the next, so each ring comes back to its head.
+-- The nodes that are in a ring; the first so many nodes are the heads. Each node has the ring in which it is, and a key
+-- that doesn't fall from one node to the next. Each has a rank that rises from one node to the next, so each ring comes
+-- back to its head.
 pub record IsRings (inside : ℕ → Type 0) (heads : ℕ) (l : Links) (home key rank : ℕ → ℕ) : Type 0 where
   pub head : (x : ℕ) → x < heads → inside x × (home x ≡ x)
   pub next_in : (x : ℕ) → inside x → inside (l.next x)
@@ -72,7 +73,8 @@ module _ {K V : Type 0} (heads : ℕ) where
   abbrev pub by_slot : (V → ℕ) → List (K × V) → ℕ → ℕ
   by_slot f es x = if nat_lt x heads then x else option_map_or (λ e. f e.1) (slice_get es (x - heads)) 0
 
-  -- each entry's slot stands in the ring that `home` has for its value, and `key` doesn't fall from one slot to the next
+  -- each entry's slot stands in the ring that `home` has for its value, and `key` doesn't fall from one slot to the
+  -- next
   abbrev pub IsLaid : Links → List (K × V) → (V → ℕ) → (V → ℕ) → Type 0
   IsLaid l es home key = IsRinged heads (length es) l (by_slot home es) (by_slot key es)
 
@@ -90,7 +92,8 @@ first_of heads l h = if l.next h == h then None else Some (l.next h - heads)
 
 -- the links after a slot that may have to move is put at the end of a ring, or left where it is
 abbrev pub moved_if : RingTable → Bool → ℕ → ℕ → Links
-moved_if r moves ring slot = if moves then placed (taken (links_of r) (r.heads + slot)) ring (r.heads + slot) else links_of r
+moved_if r moves ring slot = if moves then placed (taken (links_of r) (r.heads + slot)) ring
+    (r.heads + slot) else links_of r
 
 -- a table after a call: as many heads, as much room, and these links
 pub record IsNow (old new : RingTable) (l : Links) : Type 0 where

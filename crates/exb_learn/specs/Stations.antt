@@ -29,7 +29,8 @@ abbrev pub Keeps : (DynamicEntry → Bool) → List (StationKey × DynamicEntry)
 Keeps t old new = (q : StationKey) → lookup (same q) new ≡ kept_if t (lookup (same q) old)
 
 -- what a look-up finds now is what it found, as far as that passes the test
-abbrev pub KeepsAlike : (DynamicEntry → Bool) → List (StationKey × DynamicEntry) → List (StationKey × DynamicEntry) → Type 0
+abbrev pub KeepsAlike : (DynamicEntry → Bool) → List (StationKey × DynamicEntry) → List (StationKey × DynamicEntry)
+    → Type 0
 KeepsAlike t old now = (q : StationKey) → kept_if t (lookup (same q) now) ≡ kept_if t (lookup (same q) old)
 
 -- all that a look-up finds passes the test
@@ -41,7 +42,8 @@ abbrev pub is_elsewhere : ℕ → DynamicEntry → Bool
 is_elsewhere port p = not (p.port == port)
 
 -- the place of one station is this one, or gone; those of all others are as they were
-abbrev pub Changes : List (StationKey × DynamicEntry) → List (StationKey × DynamicEntry) → StationKey → Option DynamicEntry → Type 0
+abbrev pub Changes : List (StationKey × DynamicEntry) → List (StationKey × DynamicEntry) → StationKey
+    → Option DynamicEntry → Type 0
 Changes old new s o = (q : StationKey) → lookup (same q) new ≡ (if same s q then o else lookup (same q) old)
 
 -- an entry was there, and is the one that is gone

@@ -24,8 +24,8 @@ pub fn is_live(place: &DynamicEntry, clock: u64, ageing: u32) -> bool
     clock.saturating_sub(place.at) < u64::from(ageing)
 }
 
-/// Puts the place of a station, where there is room for one more. Answers the index of its entry and the place that
-/// it had.
+/// Puts the place of a station, where there is room for one more. Answers the index of its entry
+/// and the place that it had.
 pub fn put_place(
     places: &mut IndexMap<StationKey, DynamicEntry>,
     station: StationKey,
@@ -36,7 +36,8 @@ pub fn put_place(
     ensures entries { places.new.entries ≡ insert_entry same places.old.entries station place.now }
     ensures slot { result.0 ≡ position_or_len (same station) (keys_of places.old.entries) }
     ensures known { result.1 ≡ lookup (same station) places.old.entries }
-    ensures len { length places.new.entries ≡ length places.old.entries + (if is_some result.1 then 0 else 1) }
+    ensures len { length places.new.entries ≡ length places.old.entries
+        + (if is_some result.1 then 0 else 1) }
     ensures spare { spare places.old ≤ spare places.new + (if is_some result.1 then 0 else 1) }
     ensures unique { IsUnique same places.new }
 {

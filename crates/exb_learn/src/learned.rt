@@ -16,7 +16,8 @@ use exb_model::vlan::Vid;
 use std::alloc::Global;
 use std::marker::Model;
 
-/// Where each address was seen last in each VLAN, with a clock in seconds. It holds live entries alone.
+/// Where each address was seen last in each VLAN, with a clock in seconds. It holds live entries
+/// alone.
 pub struct Learned {
     store: EntryStore,
     clock: u64,
@@ -39,13 +40,19 @@ impl Model for Learned {
 
     ghost Value = { Entries };
 
-    ghost view = { λ l. record { entries = l.store.entries; clock = l.clock; ageing = l.ageing; spare = l.store.room } };
+    ghost view = { λ l. record {
+      entries = l.store.entries;
+      clock = l.clock;
+      ageing = l.ageing;
+      spare = l.store.room;
+    } };
 
     ghost invariant = { λ l. IsUntil l.clock l.store.entries };
 }
 
 impl Learned {
-    /// Nothing is learned. Entries live for less than `ageing` seconds; with 0 nothing is ever learned.
+    /// Nothing is learned. Entries live for less than `ageing` seconds; with 0 nothing is ever
+    /// learned.
     #[tactic(auto, unfolding(crate::specs::Entries::table_of))]
     pub fn new(alloc: Global, ageing: u32) -> Learned
         ensures table { table_of result ≡ empty_table ageing }
@@ -77,7 +84,8 @@ impl Learned {
         self.clock
     }
 
-    /// For how many new entries room is kept: what the last `reserve` found, less what was put since.
+    /// For how many new entries room is kept: what the last `reserve` found, less what was put
+    /// since.
     pub fn spare(&self) -> u64
         ensures { result ≡ self.now.spare }
     {
@@ -89,7 +97,8 @@ impl Learned {
     pub fn see(&mut self, vid: Vid, address: Mac, port: PortId)
         requires spare { 1 ≤ self.old.spare }
         requires individual { is_group address.0 ≡ false }
-        ensures table { table_of self.new ≡ after_call (See vid address.0 port) (table_of self.old) }
+        ensures table { table_of self.new ≡ after_call (See vid address.0 port)
+            (table_of self.old) }
         ensures clock { self.new.clock ≡ self.old.clock }
     {
         let place = DynamicEntry {
@@ -101,8 +110,8 @@ impl Learned {
         }
     }
 
-    /// The port at which an address was seen last in a VLAN; None exactly where it wasn't, where that was the
-    /// ageing time or more ago, or where that port was forgotten since.
+    /// The port at which an address was seen last in a VLAN; None exactly where it wasn't, where
+    /// that was the ageing time or more ago, or where that port was forgotten since.
     #[tactic(auto, unfolding(crate::specs::Entries::table_of))]
     #[inline(always)]
     pub fn look(&self, vid: Vid, address: Mac) -> Option<PortId>

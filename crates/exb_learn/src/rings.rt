@@ -13,8 +13,9 @@ pub struct RingLink {
     pub prev: usize,
 }
 
-/// A fixed number of rings, in which slots stand one behind the other. A node is the head of a ring, or a slot,
-/// whose numbers follow those of the heads. A node for which there is no room yet stands alone.
+/// A fixed number of rings, in which slots stand one behind the other. A node is the head of a
+/// ring, or a slot, whose numbers follow those of the heads. A node for which there is no room yet
+/// stands alone.
 #[derive(Drop)]
 pub struct Rings {
     heads: usize,
@@ -69,7 +70,8 @@ impl Rings {
     pub fn put(&mut self, ring: usize, slot: usize)
         requires ring { ring < self.old.heads }
         requires slot { slot < room_of self.old }
-        ensures { IsNow self.old self.new (placed (links_of self.old) ring (self.old.heads + slot)) }
+        ensures { IsNow self.old self.new (placed (links_of self.old) ring
+            (self.old.heads + slot)) }
     {
         place(&mut self.links, ring, self.heads + slot);
     }
@@ -78,7 +80,9 @@ impl Rings {
     pub fn move_to(&mut self, ring: usize, slot: usize)
         requires ring { ring < self.old.heads }
         requires slot { slot < room_of self.old }
-        ensures { IsNow self.old self.new (placed (taken (links_of self.old) (self.old.heads + slot)) ring (self.old.heads + slot)) }
+        ensures { IsNow self.old self.new
+            (placed (taken (links_of self.old) (self.old.heads + slot)) ring
+            (self.old.heads + slot)) }
     {
         relocate(&mut self.links, ring, self.heads + slot);
     }
@@ -95,7 +99,8 @@ impl Rings {
     pub fn replace(&mut self, slot: usize, other: usize)
         requires slot { slot < room_of self.old }
         requires other { other < room_of self.old }
-        ensures { IsNow self.old self.new (replaced (links_of self.old) (self.old.heads + slot) (self.old.heads + other)) }
+        ensures { IsNow self.old self.new (replaced (links_of self.old) (self.old.heads + slot)
+            (self.old.heads + other)) }
     {
         replace(&mut self.links, self.heads + slot, self.heads + other);
     }
@@ -131,7 +136,10 @@ fn grow(links: &mut Vec<RingLink>, nodes: usize) -> Result<(), NoMemory>
 
 fn set_next(links: &mut [RingLink], node: usize, to: usize)
     requires { node < length links.old }
-    ensures links { in_table links.new ≡ record { next = put (next_in links.old) node to; prev = prev_in links.old } }
+    ensures links { in_table links.new ≡ record {
+      next = put (next_in links.old) node to;
+      prev = prev_in links.old;
+    } }
     ensures len { length links.new ≡ length links.old }
 {
     links[node].next = to;
@@ -139,7 +147,10 @@ fn set_next(links: &mut [RingLink], node: usize, to: usize)
 
 fn set_prev(links: &mut [RingLink], node: usize, to: usize)
     requires { node < length links.old }
-    ensures links { in_table links.new ≡ record { next = next_in links.old; prev = put (prev_in links.old) node to } }
+    ensures links { in_table links.new ≡ record {
+      next = next_in links.old;
+      prev = put (prev_in links.old) node to;
+    } }
     ensures len { length links.new ≡ length links.old }
 {
     links[node].prev = to;

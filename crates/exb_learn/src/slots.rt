@@ -14,7 +14,8 @@ use exb_model::memory::NoMemory;
 use exb_model::port::{PORTS, PortId};
 use std::alloc::Global;
 
-/// The slots of entries: all in one ring in the order in which they were seen, and each in the ring of its port.
+/// The slots of entries: all in one ring in the order in which they were seen, and each in the ring
+/// of its port.
 #[derive(Drop)]
 pub struct Slots {
     pub ages: Rings,
@@ -24,7 +25,8 @@ pub struct Slots {
 impl Slots {
     /// No slot, and room for none.
     pub fn new(alloc: Global) -> Slots
-        ensures { (es : List (StationKey × DynamicEntry)) → es ≡ [] → IsSlotted es 0 result.ages result.ports }
+        ensures { (es : List (StationKey × DynamicEntry)) → es ≡ []
+            → IsSlotted es 0 result.ages result.ports }
     {
         Slots {
             ages: Rings::new(alloc, 1),
@@ -34,8 +36,12 @@ impl Slots {
 
     /// Makes room for so many slots.
     pub fn reserve(&mut self, slots: usize) -> Result<(), NoMemory>
-        ensures kept { (es : List (StationKey × DynamicEntry)) (n : ℕ) → IsSlotted es n self.old.ages self.old.ports → IsSlotted es n self.new.ages self.new.ports }
-        ensures ok { OnOk result ((es : List (StationKey × DynamicEntry)) (n : ℕ) → IsSlotted es n self.old.ages self.old.ports → IsSlotted es slots self.new.ages self.new.ports) }
+        ensures kept { (es : List (StationKey × DynamicEntry)) (n : ℕ)
+            → IsSlotted es n self.old.ages self.old.ports
+            → IsSlotted es n self.new.ages self.new.ports }
+        ensures ok { OnOk result ((es : List (StationKey × DynamicEntry)) (n : ℕ)
+            → IsSlotted es n self.old.ages self.old.ports
+            → IsSlotted es slots self.new.ages self.new.ports) }
     {
         self.ages.reserve(slots)?;
         self.ports.reserve(slots)
@@ -43,8 +49,12 @@ impl Slots {
 
     /// A station of which this was known is seen at a place, and has this slot.
     pub fn put(&mut self, slot: usize, known: &Option<DynamicEntry>, place: &DynamicEntry)
-        requires { (es : List (StationKey × DynamicEntry)) × ((s : StationKey) × ((n : ℕ) × IsPutting es s n self.old.ages self.old.ports slot known.now place.now)) }
-        ensures { (es : List (StationKey × DynamicEntry)) (s : StationKey) (n : ℕ) → IsPutting es s n self.old.ages self.old.ports slot known.now place.now → IsSlotted (insert_entry same es s place.now) n self.new.ages self.new.ports }
+        requires { (es : List (StationKey × DynamicEntry))
+            × ((s : StationKey) × ((n : ℕ) × IsPutting es s n self.old.ages self.old.ports slot
+            known.now place.now)) }
+        ensures { (es : List (StationKey × DynamicEntry)) (s : StationKey) (n : ℕ)
+            → IsPutting es s n self.old.ages self.old.ports slot known.now place.now
+            → IsSlotted (insert_entry same es s place.now) n self.new.ages self.new.ports }
     {
         let port = usize::from(place.port.number());
         match known {
@@ -59,10 +69,14 @@ impl Slots {
         }
     }
 
-    /// The entry with a slot is taken out, and the one with the slot `last`, which is the last, gets its slot.
+    /// The entry with a slot is taken out, and the one with the slot `last`, which is the last,
+    /// gets its slot.
     pub fn remove(&mut self, slot: usize, last: usize)
-        requires { (es : List (StationKey × DynamicEntry)) × ((n : ℕ) × IsRemoving es n self.old.ages self.old.ports slot last) }
-        ensures { (es : List (StationKey × DynamicEntry)) (n : ℕ) (e : StationKey × DynamicEntry) → IsRemoving es n self.old.ages self.old.ports slot last → slice_get es slot ≡ Some e → IsSlotted (swap_remove es slot e) n self.new.ages self.new.ports }
+        requires { (es : List (StationKey × DynamicEntry))
+            × ((n : ℕ) × IsRemoving es n self.old.ages self.old.ports slot last) }
+        ensures { (es : List (StationKey × DynamicEntry)) (n : ℕ) (e : StationKey × DynamicEntry)
+            → IsRemoving es n self.old.ages self.old.ports slot last → slice_get es slot ≡ Some e
+            → IsSlotted (swap_remove es slot e) n self.new.ages self.new.ports }
     {
         remove(&mut self.ages, slot, last);
         remove(&mut self.ports, slot, last);
@@ -70,16 +84,23 @@ impl Slots {
 
     /// The slot of what was seen no later than all others; None exactly where there is nothing.
     pub fn oldest(&self) -> Option<usize>
-        ensures some { (es : List (StationKey × DynamicEntry)) (n : ℕ) → IsSlotted es n self.now.ages self.now.ports → IfSome result (λ slot. IsOldest es slot) }
-        ensures none { (es : List (StationKey × DynamicEntry)) (n : ℕ) → IsSlotted es n self.now.ages self.now.ports → IfNone result (es ≡ []) }
+        ensures some { (es : List (StationKey × DynamicEntry)) (n : ℕ)
+            → IsSlotted es n self.now.ages self.now.ports
+            → IfSome result (λ slot. IsOldest es slot) }
+        ensures none { (es : List (StationKey × DynamicEntry)) (n : ℕ)
+            → IsSlotted es n self.now.ages self.now.ports → IfNone result (es ≡ []) }
     {
         self.ages.first(0)
     }
 
     /// A slot of what was seen at a port; None exactly where nothing was.
     pub fn first_at(&self, port: PortId) -> Option<usize>
-        ensures some { (es : List (StationKey × DynamicEntry)) (n : ℕ) → IsSlotted es n self.now.ages self.now.ports → IfSome result (λ slot. IsSeenAt es port slot) }
-        ensures none { (es : List (StationKey × DynamicEntry)) (n : ℕ) → IsSlotted es n self.now.ages self.now.ports → IfNone result (AllPass (is_elsewhere port) es) }
+        ensures some { (es : List (StationKey × DynamicEntry)) (n : ℕ)
+            → IsSlotted es n self.now.ages self.now.ports
+            → IfSome result (λ slot. IsSeenAt es port slot) }
+        ensures none { (es : List (StationKey × DynamicEntry)) (n : ℕ)
+            → IsSlotted es n self.now.ages self.now.ports
+            → IfNone result (AllPass (is_elsewhere port) es) }
     {
         self.ports.first(usize::from(port.number()))
     }

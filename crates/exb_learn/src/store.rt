@@ -31,7 +31,8 @@ impl Model for EntryStore {
 
     ghost view = { λ s. record { entries = s.places.entries; room = s.room } };
 
-    ghost invariant = { λ s. IsStored s.places.entries s.room (spare s.places) s.slots.ages s.slots.ports };
+    ghost invariant = { λ s. IsStored s.places.entries s.room (spare s.places) s.slots.ages
+        s.slots.ports };
 }
 
 impl EntryStore {
@@ -99,8 +100,8 @@ impl EntryStore {
         self.places.get(station).copied()
     }
 
-    /// Puts the place of a station, which was seen no earlier than all others. Nothing is written where it has that
-    /// place already.
+    /// Puts the place of a station, which was seen no earlier than all others. Nothing is written
+    /// where it has that place already.
     #[inline(always)]
     pub fn put(&mut self, station: StationKey, place: DynamicEntry)
         requires room { 1 ≤ self.old.room }
@@ -135,7 +136,8 @@ impl EntryStore {
         Some(*place)
     }
 
-    /// The slot of a station that was seen no later than all others; None exactly where there is no entry.
+    /// The slot of a station that was seen no later than all others; None exactly where there is no
+    /// entry.
     pub fn oldest(&self) -> Option<usize>
         ensures some { IfSome result (λ slot. IsOldest self.now.entries slot) }
         ensures none { IfNone result (self.now.entries ≡ []) }
@@ -154,7 +156,8 @@ impl EntryStore {
     /// Takes out the entry with a slot. The last entry gets its slot.
     pub fn remove(&mut self, slot: usize)
         requires { slot < length self.old.entries }
-        ensures taken { IfSome (slice_get self.old.entries slot) (λ e. IsTaken self.old.entries self.new.entries e) }
+        ensures taken { IfSome (slice_get self.old.entries slot) (λ e.
+            IsTaken self.old.entries self.new.entries e) }
         ensures room { self.new.room ≡ self.old.room }
     {
         self.places.swap_remove_index(slot).unwrap();

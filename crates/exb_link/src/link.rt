@@ -30,8 +30,8 @@ pub struct QueuedFrame {
     behind: u64,
 }
 
-/// One direction of a link, seen as the list of its words in order of sending. Positions count its control
-/// words in that order, from 0.
+/// One direction of a link, seen as the list of its words in order of sending. Positions count its
+/// control words in that order, from 0.
 pub struct Link {
     frames: VecDeque<QueuedFrame>,
     control: VecDeque<BoxedFrame>,
@@ -63,7 +63,10 @@ impl Model for Link {
 
 #[inline(always)]
 fn push_frame(frames: &mut VecDeque<QueuedFrame>, word: BoxedFrame) -> Result<(), PushBack>
-    ensures ok { OnOk result (frames.new.items ≡ frames.old.items ++ record { word = word; behind = 0 } ∷ []) }
+    ensures ok { OnOk result (frames.new.items ≡ frames.old.items ++ record {
+      word = word;
+      behind = 0;
+    } ∷ []) }
     ensures err { OnErr result (frames.new.items ≡ frames.old.items) }
     ensures back { IfErr result (λ e. e.word ≡ word) }
 {
@@ -120,8 +123,8 @@ fn first_of(frames: &VecDeque<QueuedFrame>) -> Option<&BoxedFrame>
     }
 }
 
-// Counts a control word that is sent behind all others: the last data word has one more behind it, or,
-// where there is none, one more stands ahead.
+// Counts a control word that is sent behind all others: the last data word has one more behind it,
+// or, where there is none, one more stands ahead.
 #[cold]
 #[inline(never)]
 fn one_more_behind(ahead: u64, frames: &mut VecDeque<QueuedFrame>) -> u64
@@ -138,8 +141,8 @@ fn one_more_behind(ahead: u64, frames: &mut VecDeque<QueuedFrame>) -> u64
     }
 }
 
-// The place of the data word behind which the control word stands that is number `at` of those behind
-// data words.
+// The place of the data word behind which the control word stands that is number `at` of those
+// behind data words.
 fn place_behind(at: u64, frames: &VecDeque<QueuedFrame>) -> Option<usize>
     ensures { result ≡ place_from at frames.now.items 0 }
 {
@@ -228,7 +231,8 @@ impl Link {
         }
     }
 
-    /// Takes out the control word at a position; None exactly where there is none. Every other word stays.
+    /// Takes out the control word at a position; None exactly where there is none. Every other word
+    /// stays.
     #[inline(always)]
     pub fn take_control(&mut self, at: u64) -> Option<BoxedFrame>
         ensures word { result ≡ slice_get (filter is_control self.old) at }

@@ -9,8 +9,8 @@ use std::alloc::Global;
 use std::marker::Model;
 use std::mem;
 
-/// The record by which a data word came in: its port, its index there, numbered from 1, and its time in
-/// nanoseconds. No rule reads it.
+/// The record by which a data word came in: its port, its index there, numbered from 1, and its
+/// time in nanoseconds. No rule reads it.
 #[derive(Clone, Copy)]
 pub struct Stamp {
     pub port: PortId,
@@ -67,7 +67,8 @@ impl BoxedFrame {
         self.word.stamp
     }
 
-    /// Whether it is a control word: its destination is 01-80-C2-00-00-0E. Every other word is a data word.
+    /// Whether it is a control word: its destination is 01-80-C2-00-00-0E. Every other word is a
+    /// data word.
     #[inline(always)]
     pub fn is_control(&self) -> bool
         ensures { result ≡ is_control self.now }
@@ -75,11 +76,13 @@ impl BoxedFrame {
         is_control_frame(self.bytes())
     }
 
-    /// Takes `count` bytes of its frame out at place `at`: those before it move up, and nothing behind it is touched.
+    /// Takes `count` bytes of its frame out at place `at`: those before it move up, and nothing
+    /// behind it is touched.
     #[inline(always)]
     pub fn take_out(&mut self, at: usize, count: usize)
         requires inside { at + count ≤ length self.old.bytes }
-        ensures bytes { self.new.bytes ≡ take at self.old.bytes ++ drop (at + count) self.old.bytes }
+        ensures bytes { self.new.bytes ≡ take at self.old.bytes ++ drop (at + count)
+            self.old.bytes }
         ensures stamp { self.new.stamp ≡ self.old.stamp }
     {
         self.word.bytes.take_out(at, count);

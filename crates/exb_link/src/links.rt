@@ -55,7 +55,8 @@ impl Links {
     #[inline(always)]
     pub fn push(&mut self, extender: u8, word: BoxedFrame) -> Result<(), NoMemory>
         requires { IsNumber extender }
-        ensures { OnOk result (words_of self.new ≡ at extender (words_of self.old extender ++ word ∷ []) (words_of self.old)) }
+        ensures { OnOk result (words_of self.new
+            ≡ at extender (words_of self.old extender ++ word ∷ []) (words_of self.old)) }
     {
         let link = &mut self.links[extender as usize];
         match link.push(word) {
@@ -72,7 +73,8 @@ impl Links {
     pub fn take_data(&mut self, extender: u8) -> Option<BoxedFrame>
         requires { IsNumber extender }
         ensures word { result ≡ slice_get (filter is_data (words_of self.old extender)) 0 }
-        ensures rest { words_of self.new ≡ at extender (without_data (words_of self.old extender)) (words_of self.old) }
+        ensures rest { words_of self.new ≡ at extender (without_data (words_of self.old extender))
+            (words_of self.old) }
     {
         let link = &mut self.links[extender as usize];
         let word = link.take_data();
@@ -86,7 +88,8 @@ impl Links {
     pub fn take_control(&mut self, extender: u8, place: u64) -> Option<BoxedFrame>
         requires { IsNumber extender }
         ensures word { result ≡ slice_get (filter is_control (words_of self.old extender)) place }
-        ensures rest { words_of self.new ≡ at extender (without_control (words_of self.old extender) place) (words_of self.old) }
+        ensures rest { words_of self.new
+            ≡ at extender (without_control (words_of self.old extender) place) (words_of self.old) }
     {
         let link = &mut self.links[extender as usize];
         let word = link.take_control(place);
@@ -98,7 +101,8 @@ impl Links {
     /// The control word at a position.
     pub fn control_at(&self, extender: u8, place: u64) -> Option<&BoxedFrame>
         requires { IsNumber extender }
-        ensures { option_copied result ≡ slice_get (filter is_control (words_of self.now extender)) place }
+        ensures { option_copied result ≡ slice_get (filter is_control (words_of self.now extender))
+            place }
     {
         self.links[extender as usize].control_at(place)
     }

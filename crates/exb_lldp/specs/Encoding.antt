@@ -12,7 +12,8 @@ pub record CanBeAnnounced (a : Announce) : Type 0 where
 abbrev pub tlv : ℕ → List ℕ → List ℕ
 tlv kind value = two_bytes (kind * 512 + length value) ++ value
 
--- Chassis ID (a MAC address), Port ID (`up`, assigned locally), Time To Live (120 seconds), extension (02 45 42, subtype 1), End
+-- Chassis ID (a MAC address), Port ID (`up`, assigned locally), Time To Live (120 seconds), extension (02 45 42,
+-- subtype 1), End
 abbrev pub tlvs_of : Announce → List ℕ
 tlvs_of a = tlv 1 (4 ∷ a.chassis.0) ++ tlv 2 (7 ∷ codes "up") ++ tlv 3 (two_bytes 120) ++ tlv 127 (2 ∷ 69 ∷ 66 ∷ 1 ∷ a.ports ∷ []) ++ tlv 0 []
 

@@ -19,7 +19,11 @@ end_at frame at = at + 2 + number_at frame at % 512
 unfoldable pub tlv_in : List ℕ → ℕ → Option Tlv
 tlv_in frame at =
     if nat_le (end_at frame at) (length frame)
-    then Some (record { at = at; kind = number_at frame at / 512; value = take (number_at frame at % 512) (drop (at + 2) frame) })
+    then Some (record {
+      at = at;
+      kind = number_at frame at / 512;
+      value = take (number_at frame at % 512) (drop (at + 2) frame);
+    })
     else None
 
 -- the TLVs that lie whole in a frame, up to and with the End, and the offset of the one that is cut, if there is no End
@@ -30,7 +34,8 @@ pub record Tlvs : Type 0 where
 -- a TLV, and those after it: a type of 0 is the End
 abbrev pub with_first : ℕ → Option Tlv → Tlvs → Tlvs
 with_first at None others = record { all = []; cut = Some at }
-with_first at (Some t) others = if t.kind == 0 then record { all = t ∷ []; cut = None } else record { all = t ∷ others.all; cut = others.cut }
+with_first at (Some t) others = if t.kind == 0 then record { all = t ∷ []; cut = None } else record
+    { all = t ∷ others.all; cut = others.cut }
 
 -- from an offset on, if there are at most so many
 unfoldable pub tlvs_within : ℕ → List ℕ → ℕ → Tlvs
@@ -41,7 +46,8 @@ tlvs_within (suc most) frame at = with_first at (tlv_in frame at) (tlvs_within m
 unfoldable pub tlvs_from : List ℕ → ℕ → Tlvs
 tlvs_from frame at = tlvs_within (length frame) frame at
 
--- whether a TLV may stand at a place: first a Chassis ID that is a MAC address, then a Port ID, then a Time To Live, and none of them later
+-- whether a TLV may stand at a place: first a Chassis ID that is a MAC address, then a Port ID, then a Time To Live,
+-- and none of them later
 abbrev pub is_placed : TlvPosition → Tlv → Bool
 is_placed ChassisId t = t.kind == 1 && (length t.value == 7 && slice_index t.value 0 == 4)
 is_placed PortId t = t.kind == 2 && nat_le 2 (length t.value)
@@ -59,11 +65,13 @@ abbrev pub first_misplaced : TlvPosition → List Tlv → Option ℕ
 first_misplaced place [] = None
 first_misplaced place (t ∷ ts) = if is_placed place t then first_misplaced (next_place place) ts else Some t.at
 
--- an extension TLV: organizationally specific, of this project's number 02 45 42, subtype 1, with a port count of 1 to 64
+-- an extension TLV: organizationally specific, of this project's number 02 45 42, subtype 1, with a port count of 1 to
+-- 64
 abbrev pub is_extension : Tlv → Bool
 is_extension t =
     t.kind == 127 && (length t.value == 5
-    && ((slice_index t.value 0 == 2 && (slice_index t.value 1 == 69 && (slice_index t.value 2 == 66 && slice_index t.value 3 == 1)))
+    && ((slice_index t.value 0 == 2 && (slice_index t.value 1 == 69
+    && (slice_index t.value 2 == 66 && slice_index t.value 3 == 1)))
     && (nat_le 1 (slice_index t.value 4) && nat_le (slice_index t.value 4) 64)))
 
 abbrev pub count_in : Tlv → Option ℕ

@@ -15,11 +15,11 @@ pub struct Announce {
 pub enum LldpFault {
     /// It has no destination and EtherType, or others than those of an announcement.
     NotLldp,
-    /// The TLV at this offset runs past the end; where the frame ends without an End, that offset is its
-    /// length.
+    /// The TLV at this offset runs past the end; where the frame ends without an End, that offset
+    /// is its length.
     Cut { at: u64 },
-    /// The TLV at this offset may not stand at its place: Chassis ID, Port ID and TTL come first, in this
-    /// order, and none of them comes again (IEEE 802.1AB-2009, 8.2).
+    /// The TLV at this offset may not stand at its place: Chassis ID, Port ID and TTL come first,
+    /// in this order, and none of them comes again (IEEE 802.1AB-2009, 8.2).
     Order { at: u64 },
     /// There is no extension TLV with a port count.
     NoExtension,

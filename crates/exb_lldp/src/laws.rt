@@ -6,12 +6,14 @@ ghost use Rattle.exb_lldp.specs.Encoding.{CanBeAnnounced, spelling};
 
 /// A frame that announces something announces the same with any bytes after its End.
 pub fn bytes_after_the_end_are_ignored()
-    ensures { (frame : List ℕ) (more : List ℕ) (a : Announce) → announced frame ≡ Ok a → announced (frame ++ more) ≡ Ok a }
+    ensures { (frame : List ℕ) (more : List ℕ) (a : Announce) → announced frame ≡ Ok a
+        → announced (frame ++ more) ≡ Ok a }
 {}
 
 /// An announcement that is written is read again as the same. An address has six bytes.
 pub fn written_is_read()
-    ensures { (a : Announce) → length a.chassis.0 ≡ 6 → CanBeAnnounced a → announced (spelling a) ≡ Ok a }
+    ensures { (a : Announce) → length a.chassis.0 ≡ 6 → CanBeAnnounced a
+        → announced (spelling a) ≡ Ok a }
 {}
 
 /// Every announcement has 41 bytes.

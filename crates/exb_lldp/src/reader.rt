@@ -40,9 +40,10 @@ fn later_port_count(frame: &[u8], start: usize) -> Result<u8, LldpFault>
     }
 }
 
-/// What a frame announces, or the first place where it is no announcement: at each TLV, whether it is cut
-/// is tried before whether it may stand at its place. Other TLVs are skipped, the first extension TLV counts,
-/// and bytes after the End, the source address, and the values of Port ID and Time To Live are not looked at.
+/// What a frame announces, or the first place where it is no announcement: at each TLV, whether it
+/// is cut is tried before whether it may stand at its place. Other TLVs are skipped, the first
+/// extension TLV counts, and bytes after the End, the source address, and the values of Port ID and
+/// Time To Live are not looked at.
 pub fn read(frame: &[u8]) -> Result<Announce, LldpFault>
     ensures { result ≡ announced frame.now }
 {

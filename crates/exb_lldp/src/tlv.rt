@@ -1,5 +1,5 @@
-//! TLVs, the parts of an LLDP frame (IEEE 802.1AB-2009, 8.4): a header of 7 bits of type and 9 bits of
-//! length, and a value.
+//! TLVs, the parts of an LLDP frame (IEEE 802.1AB-2009, 8.4): a header of 7 bits of type and 9 bits
+//! of length, and a value.
 ghost use Rattle.std.specs.Prelude.{◌≡◌, ◌+◌, ◌≤◌, ◌<◌, drop, length, ◌^◌, Some, None, IfOk, MatchResult};
 ghost use Rattle.exb_lldp.specs.Tlvs.{tlv_in, end_at, is_placed, count_in};
 ghost use Rattle.exb_lldp.specs.ParsedValues.{Gives, tlv_of, placed_in};
@@ -46,8 +46,10 @@ pub struct Tlv<'a> {
 #[tactic(auto, unfolding(crate::specs::Tlvs::tlv_in))]
 pub fn tlv_at(frame: &[u8], at: usize) -> Result<Tlv<'_>, LldpFault>
     requires { at ≤ length frame.now }
-    ensures which { MatchResult result (λ t. tlv_in frame.now at ≡ Some (tlv_of t)) (λ e. (tlv_in frame.now at ≡ None) × (e ≡ LldpFault.Cut at)) }
-    ensures within { IfOk result (λ t. (t.at + 2 + length t.value.now ≡ end_at frame.now at) × (end_at frame.now at ≤ length frame.now)) }
+    ensures which { MatchResult result (λ t. tlv_in frame.now at ≡ Some (tlv_of t))
+        (λ e. (tlv_in frame.now at ≡ None) × (e ≡ LldpFault.Cut at)) }
+    ensures within { IfOk result (λ t. (t.at + 2 + length t.value.now ≡ end_at frame.now at)
+        × (end_at frame.now at ≤ length frame.now)) }
 {
     let cut = LldpFault::Cut { at: at as u64 };
     if frame.len() - at < 2 {
@@ -69,7 +71,8 @@ pub fn tlv_at(frame: &[u8], at: usize) -> Result<Tlv<'_>, LldpFault>
 pub fn placed_at(frame: &[u8], at: usize, place: TlvPosition) -> Result<Tlv<'_>, LldpFault>
     requires { at ≤ length frame.now }
     ensures which { Gives tlv_of result (placed_in place frame.now at) }
-    ensures within { IfOk result (λ t. (t.at + 2 + length t.value.now ≡ end_at frame.now at) × (end_at frame.now at ≤ length frame.now)) }
+    ensures within { IfOk result (λ t. (t.at + 2 + length t.value.now ≡ end_at frame.now at)
+        × (end_at frame.now at ≤ length frame.now)) }
 {
     let tlv = tlv_at(frame, at)?;
     if !tlv.may_stand(place) {
@@ -101,8 +104,8 @@ impl Tlv<'_> {
         }
     }
 
-    /// The port count, if it is an extension TLV: organizationally specific (IEEE 802.1AB-2009, 8.6), of
-    /// this project's number 02-45-42 and subtype 1, with a port count of 1 to 64.
+    /// The port count, if it is an extension TLV: organizationally specific (IEEE 802.1AB-2009,
+    /// 8.6), of this project's number 02-45-42 and subtype 1, with a port count of 1 to 64.
     pub fn port_count(&self) -> Option<u8>
         ensures { result ≡ count_in (tlv_of self.now) }
     {

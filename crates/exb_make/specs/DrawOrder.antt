@@ -13,7 +13,8 @@ use Rattle.exb_make.specs.GeneratedTree.{site_ports, port_at}
 -- ---- the members of VLANs 1 to 4
 -- 0 is no member, 1 is tagged, 2 is untagged
 abbrev pub member_of : ℕ → ℕ → ℕ → List Command
-member_of v p r = if r == 0 then [] else (if r == 1 then command.Member v p kind.Tagged ∷ [] else command.Member v p kind.Untagged ∷ [])
+member_of v p r = if r == 0 then [] else (if r == 1 then command.Member v p kind.Tagged
+    ∷ [] else command.Member v p kind.Untagged ∷ [])
 
 unfoldable pub membership : ℕ → ℕ → Drawing Command
 membership v p g = (member_of v p (drawn 3 g).0, (drawn 3 g).1)
@@ -87,8 +88,16 @@ unfoldable pub frame : ℕ → Drawing Frame
 frame i g =
     let port = drawn 46 g in
     let to = destination port.1 in
-    let rest = body to.1 in
-    (record { port = port_at port.0; record_there = record { time = time_of i; bytes = to.0 ++ station port.0 ++ rest.0 } } ∷ [], rest.1)
+    let rest = body to.1 in (
+      record {
+        port = port_at port.0;
+        record_there = record {
+          time = time_of i;
+          bytes = to.0 ++ station port.0 ++ rest.0;
+        };
+      } ∷ [],
+      rest.1,
+    )
 
 unfoldable pub frames : Drawing Frame
 frames = for_each frame (below 1000)

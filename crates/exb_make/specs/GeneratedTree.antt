@@ -1,4 +1,5 @@
--- The tree of each input that is made from a number: a bridge with 4 ports, and six extenders with 8 ports each in two chains.
+-- The tree of each input that is made from a number: a bridge with 4 ports, and six extenders with 8 ports each in two
+-- chains.
 use Rattle.std.specs.Prelude.{ℕ, List, [], ◌∷◌, slice_index}
 use Rattle.exb_model.specs.declared.command.Command.{Command}
 use Rattle.exb_model.specs.declared.setup.Place.{Place}
@@ -18,7 +19,14 @@ extenders =
 
 -- all numbers are the defaults
 abbrev pub setup_with : List Command → Setup
-setup_with start = record { ports = 4; extenders = extenders; channels = 4094; groups = 12288; ageing = 300; start = start }
+setup_with start = record {
+  ports = 4;
+  extenders = extenders;
+  channels = 4094;
+  groups = 12288;
+  ageing = 300;
+  start = start;
+}
 
 unfoldable pub site : Shape
 site = shape_of (setup_with [])

@@ -20,7 +20,8 @@ pub struct GeneratedCapture {
 /// Puts a frame at the end of a capture.
 fn add_record(file: &mut Vec<u8>, arriving: &TimedFrame) -> Result<(), NoMemory>
     requires { IsPlayable (frame_of arriving.now) }
-    ensures { OnOk result (file.new.items ≡ file.old.items ++ record_text (sent_of (frame_of arriving.now))) }
+    ensures { OnOk result (file.new.items ≡ file.old.items ++ record_text
+        (sent_of (frame_of arriving.now))) }
 {
     file.extend_from_slice(&record_text(arriving.moment, arriving.bytes.len() as u32))?;
     file.extend_from_slice(arriving.bytes.as_slice())?;
@@ -30,7 +31,8 @@ fn add_record(file: &mut Vec<u8>, arriving: &TimedFrame) -> Result<(), NoMemory>
 /// The file with what arrives at a port.
 fn file_of(alloc: Global, arrived: &[TimedFrame], port: PortId) -> Result<Vec<u8>, NoMemory>
     requires { All IsPlayable (map frame_of arrived.now) }
-    ensures file { IfOk result (λ file. file.items ≡ capture_text (sent_at (map frame_of arrived.now) port)) }
+    ensures file { IfOk result (λ file. file.items
+        ≡ capture_text (sent_at (map frame_of arrived.now) port)) }
     ensures small { IfOk result (λ file. length file.items ≤ 24 + 80 * length arrived.now) }
 {
     let mut file = Vec::from_slice(alloc, &header_text())?;
@@ -49,7 +51,8 @@ fn capture_of(
     port: PortId,
 ) -> Result<GeneratedCapture, NoMemory>
     requires { All IsPlayable (map frame_of arrived.now) }
-    ensures read { IfOk result (λ made. read_of made ≡ (port, Ok (records_at (map frame_of arrived.now) port))) }
+    ensures read { IfOk result (λ made. read_of made
+        ≡ (port, Ok (records_at (map frame_of arrived.now) port))) }
     ensures small { IfOk result (λ made. length made.file.items ≤ 24 + 80 * length arrived.now) }
 {
     exb_capture::laws::written_is_read();
@@ -64,8 +67,10 @@ pub(crate) fn captures(
     places: &[PortId],
 ) -> Result<Vec<GeneratedCapture>, NoMemory>
     requires { All IsPlayable (map frame_of arrived.now) }
-    ensures read { IfOk result (λ made. map read_of made.items ≡ map (λ q. (q, Ok (records_at (map frame_of arrived.now) q))) places.now) }
-    ensures small { IfOk result (λ made. sum_by (λ c. length c.file.items) made.items ≤ (24 + 80 * length arrived.now) * length places.now) }
+    ensures read { IfOk result (λ made. map read_of made.items
+        ≡ map (λ q. (q, Ok (records_at (map frame_of arrived.now) q))) places.now) }
+    ensures small { IfOk result (λ made. sum_by (λ c. length c.file.items) made.items
+        ≤ (24 + 80 * length arrived.now) * length places.now) }
 {
     let mut captures = Vec::new(alloc);
     for port in places {

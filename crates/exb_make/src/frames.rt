@@ -105,7 +105,8 @@ pub(crate) fn add_frames(
     arrived: &mut Vec<TimedFrame>,
 ) -> Result<(), NoMemory>
     requires { places.now ≡ site_ports }
-    ensures { OnOk result (Adds frames (map frame_of arrived.old.items) (map frame_of arrived.new.items) rng.old rng.new) }
+    ensures { OnOk result (Adds frames (map frame_of arrived.old.items)
+        (map frame_of arrived.new.items) rng.old rng.new) }
 {
     for number in 0..FRAMES {
         let arriving = draw_arriving(alloc, rng, places, number)?;

@@ -61,21 +61,25 @@ fn draw_all(alloc: Global, number: u64, places: &[PortId]) -> Result<DrawnParts,
     })
 }
 
-/// The input of a number. The captures of the external ports are whole files, which a reader reads as the records that arrive there.
+/// The input of a number. The captures of the external ports are whole files, which a reader reads
+/// as the records that arrive there.
 pub fn make(alloc: Global, number: u64) -> Result<GeneratedInput, NoMemory>
     ensures valid { IfOk result (λ input. IsValid input.setup) }
     ensures setup { IfOk result (λ input. input.setup ≡ (made number).setup) }
     ensures commands { IfOk result (λ input. map given_by input.commands ≡ (made number).commands) }
     ensures no_fate { IfOk result (λ input. All (λ c. c.fate ≡ []) input.commands) }
-    ensures named { IfOk result (λ input. All (λ c. NamesExternal (tree_of (made number)) c.command) input.commands) }
+    ensures named { IfOk result (λ input. All (λ c. NamesExternal (tree_of (made number)) c.command)
+        input.commands) }
     ensures few { IfOk result (λ input. length input.commands ≡ 20) }
     ensures rising { IfOk result (λ input. AllPairs (λ a b. a.at ≤ b.at) input.commands) }
 
     ensures captures { IfOk result (λ input. map read_of input.captures.items
         ≡ map (λ q. (q, Ok ((made number).records q))) (external_ports (tree_of (made number)))) }
-    ensures external { IfOk result (λ input. All (IsAtExternal (tree_of (made number))) input.captures.items) }
+    ensures external { IfOk result (λ input. All (IsAtExternal (tree_of (made number)))
+        input.captures.items) }
     ensures whole { IfOk result (λ input. All IsWhole input.captures.items) }
-    ensures small { IfOk result (λ input. sum_by (λ c. length c.file.items) input.captures.items ≤ 2 ^ 22) }
+    ensures small { IfOk result (λ input. sum_by (λ c. length c.file.items) input.captures.items
+        ≤ 2 ^ 22) }
 {
     made_is_valid();
     let places = external_ports(alloc)?;

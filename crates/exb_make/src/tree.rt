@@ -21,7 +21,8 @@ fn add(extenders: &mut List<ExtenderSetup>, number: u8, on: Place) -> Result<(),
     })
 }
 
-/// The extenders: x1 with x3 and x4 below it, and x2 with x5 and x6, each on the last port of the one above.
+/// The extenders: x1 with x3 and x4 below it, and x2 with x5 and x6, each on the last port of the
+/// one above.
 fn extenders(alloc: Global) -> Result<List<ExtenderSetup>, NoMemory>
     ensures { IfOk result (λ made. made ≡ extenders) }
 {
@@ -54,7 +55,8 @@ pub(crate) fn setup(alloc: Global, start: List<Command>) -> Result<Setup, NoMemo
 fn add_ports(ports: &mut Vec<PortId>, device: u8, first: u8, count: u8) -> Result<(), NoMemory>
     requires device { device < 65 }
     requires places { first + count ≤ 64 }
-    ensures { OnOk result (ports.new.items ≡ ports.old.items ++ range_with_len (64 * device + first) count) }
+    ensures { OnOk result (ports.new.items ≡ ports.old.items ++ range_with_len (64 * device + first)
+        count) }
 {
     for place in first..first + count {
         ports.push(PortId::at(device, place))?;
@@ -62,7 +64,8 @@ fn add_ports(ports: &mut Vec<PortId>, device: u8, first: u8, count: u8) -> Resul
     Ok(())
 }
 
-/// The external ports: two of the bridge, and those of the extenders, of which four have a port with another one on it.
+/// The external ports: two of the bridge, and those of the extenders, of which four have a port
+/// with another one on it.
 pub(crate) fn external_ports(alloc: Global) -> Result<Vec<PortId>, NoMemory>
     ensures { IfOk result (λ ports. ports.items ≡ site_ports) }
 {

@@ -26,7 +26,9 @@ pub record Carries (t : Shape) (u : Tables) (b : Bridge) (m : Numbers) : Type 0 
   pub own : (k q c : ℕ) → is_under t k q ≡ true → b.present q ≡ true → m.channel k q ≡ Some c → u.own q ≡ c
   pub groups : (k n g : ℕ) (set : List ℕ) → k < 64 → HangsOn t n k → has_set t k b set ≡ true → m.group k set ≡ Some g →
       (f : List ℕ) (tag : Tag) → read_etag f ≡ Some tag → tag.ecid ≡ g → (q : ℕ) → is_extended t q ≡ true →
-      carried t u n f q ≡ (if is_listed set q && not (nat_lt 0 tag.ingress && u.own q == tag.ingress) then stripped f ∷ [] else [])
-  pub channels : (k n r c : ℕ) → k < 64 → HangsOn t n k → is_under t k r ≡ true → b.present r ≡ true → m.channel k r ≡ Some c →
+      carried t u n f q ≡ (if is_listed set q && not (nat_lt 0 tag.ingress && u.own q == tag.ingress) then stripped f
+      ∷ [] else [])
+  pub channels : (k n r c : ℕ) → k < 64 → HangsOn t n k → is_under t k r ≡ true → b.present r ≡ true
+      → m.channel k r ≡ Some c →
       (f : List ℕ) (tag : Tag) → read_etag f ≡ Some tag → tag.ecid ≡ c → (q : ℕ) → is_extended t q ≡ true →
       carried t u n f q ≡ (if q == r then stripped f ∷ [] else [])

@@ -48,14 +48,20 @@ with_rule p change b = record b { rule = λ q. if q == p then change (b.rule q) 
 
 -- After(K, command)
 abbrev pub after : Command → Bridge → Bridge
-after (command.Vlan v tagged untagged) b = record b { member = λ w q. if w == v then kind_in tagged untagged q else b.member w q }
+after (command.Vlan v tagged untagged) b = record b {
+  member = λ w q.
+      if w == v then kind_in tagged untagged q else b.member w q;
+}
 after (command.Member v p kind) b = record b { member = λ w q. if w == v && q == p then Some kind else b.member w q }
 after (command.Unmember v p) b = record b { member = λ w q. if w == v && q == p then None else b.member w q }
 after (command.Pvid p v) b = with_rule p (λ r. record r { pvid = v }) b
 after (command.Accept p types) b = with_rule p (λ r. record r { accept = types }) b
 after (command.Filter p on) b = with_rule p (λ r. record r { filter = on }) b
 after (command.Isolate p on) b = with_rule p (λ r. record r { isolated = on }) b
-after (command.Static v m ports) b = record b { statics = put_static (record { vid = v; address = m; ports = ports }) b.statics }
+after (command.Static v m ports) b = record b {
+  statics = put_static (record { vid = v; address = m; ports = ports })
+      b.statics;
+}
 after (command.Unstatic v m) b = record b { statics = filter (λ e. not (is_for v m.0 e)) b.statics }
 after (command.Up p) b = record b { present = λ q. q == p || b.present q }
 after (command.Down p) b = record b { present = λ q. not (q == p) && b.present q }

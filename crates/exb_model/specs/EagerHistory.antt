@@ -28,7 +28,8 @@ abbrev pub is_relayed : Bridge → ℕ → List ℕ → Bool
 is_relayed b p f = b.present p && is_relayed_kind (kind_of f)
 
 abbrev pub arrival_event : Bridge → Arrival → Event
-arrival_event b a = if is_relayed b a.port a.bytes then event.Relay a.port a.index a.moment a.bytes else event.Ignored a.port a.index
+arrival_event b a = if is_relayed b a.port a.bytes then event.Relay a.port a.index a.moment a.bytes else event.Ignored
+    a.port a.index
 
 abbrev pub decided : ℕ → Option Cause → Event
 decided n None = event.Commit n
@@ -73,7 +74,8 @@ with_arrivals i h (a ∷ rest) = with_arrivals i (arrival_event (bridge_after i 
 
 -- one segment more: its tick, its commands, its arrivals, and Settled
 abbrev pub eager_segment : Shape → Limits → Basis → History → Segment → History
-eager_segment t l i h s = event.Settled ∷ with_arrivals i (with_commands t l i (with_tick s.seconds h) s.commands) s.arrivals
+eager_segment t l i h s = event.Settled ∷ with_arrivals i (with_commands t l i (with_tick s.seconds h) s.commands)
+    s.arrivals
 
 -- a history and eager segments after it
 abbrev pub eagerly : Shape → Limits → Basis → History → List Segment → History
@@ -81,4 +83,5 @@ eagerly t l i h ss = fold (eager_segment t l i) h ss
 
 -- Eager(I)
 unfoldable pub eager : Input → History
-eager i = eagerly (tree_of i) (bounds_of i) (basis_of i) (opening (tree_of i) (bounds_of i) (basis_of i)) (segments Eager i)
+eager i = eagerly (tree_of i) (bounds_of i) (basis_of i) (opening (tree_of i) (bounds_of i) (basis_of i))
+    (segments Eager i)

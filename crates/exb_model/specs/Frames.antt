@@ -63,7 +63,8 @@ priority_of _ = 0
 -- the bytes that leave a port of this kind in VLAN v
 unfoldable pub egress : List ℕ → Kind → ℕ → List ℕ
 egress f Untagged v = take 12 f ++ body_after f (kind_of f)
-egress f Tagged v = take 12 f ++ two_bytes 0x8100 ++ two_bytes (priority_of (kind_of f) * 4096 + v) ++ body_after f (kind_of f)
+egress f Tagged v = take 12 f ++ two_bytes 0x8100 ++ two_bytes (priority_of (kind_of f) * 4096 + v)
+    ++ body_after f (kind_of f)
 
 abbrev pub destination : List ℕ → List ℕ
 destination f = take 6 f

@@ -45,7 +45,8 @@ bounds_of i = limits_of i.setup
 abbrev pub arrivals_from : ℕ → ℕ → ℕ → List Record → List Arrival
 arrivals_from p n least [] = []
 arrivals_from p n least (r ∷ rs) =
-    record { port = p; index = n; moment = max least r.time; bytes = r.bytes } ∷ arrivals_from p (suc n) (max least r.time) rs
+    record { port = p; index = n; moment = max least r.time; bytes = r.bytes } ∷ arrivals_from p (suc n)
+    (max least r.time) rs
 
 unfoldable pub arrivals_at : Input → ℕ → List Arrival
 arrivals_at i p = arrivals_from p 1 0 (i.records p)
@@ -136,7 +137,11 @@ arrival_in (Ordered moment n) = None
 arrival_in (Captured a) = Some a
 
 abbrev pub segment_of : ℕ → List Coming → Segment
-segment_of seconds xs = record { seconds = seconds; commands = filter_map number_in xs; arrivals = filter_map arrival_in xs }
+segment_of seconds xs = record {
+  seconds = seconds;
+  commands = filter_map number_in xs;
+  arrivals = filter_map arrival_in xs;
+}
 
 abbrev pub segments_since : ℕ → List Group → List Segment
 segments_since second [] = []

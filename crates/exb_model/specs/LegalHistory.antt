@@ -87,7 +87,8 @@ IsInOrder t es p =
 -- ---- rule 5: a Relay stands only where the bridge relays, and an Ignored only where it doesn't
 abbrev pub IsEntered : Basis → (ℕ → List Arrival) → History → Event → Type 0
 IsEntered i arrivals h (event.Relay p n t f) = is_relayed (bridge_after i h) p f ≡ true
-IsEntered i arrivals h (event.Ignored p n) = IsSomeAnd (numbered (arrivals p) n) (λ a. is_relayed (bridge_after i h) p a.bytes ≡ false)
+IsEntered i arrivals h (event.Ignored p n) = IsSomeAnd (numbered (arrivals p) n) (λ a.
+    is_relayed (bridge_after i h) p a.bytes ≡ false)
 IsEntered i arrivals h _ = Unit {0}
 
 -- ---- rule 6: one Tick of a segment's seconds, where they aren't 0

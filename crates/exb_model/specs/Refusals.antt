@@ -26,7 +26,11 @@ pub record Source : Type 0 where
   pub among : ℕ → Bool
 
 abbrev pub both_kinds : ℕ → (ℕ → Bool) → List Source
-both_kinds v among = record { vid = v; kind = Tagged; among = among } ∷ record { vid = v; kind = Untagged; among = among } ∷ []
+both_kinds v among = record { vid = v; kind = Tagged; among = among } ∷ record {
+  vid = v;
+  kind = Untagged;
+  among = among;
+} ∷ []
 
 unfoldable pub all_vids : List ℕ
 all_vids = range_with_len 1 4094
@@ -34,7 +38,8 @@ all_vids = range_with_len 1 4094
 -- the VLANs in order, then the static entries in theirs, of each the tagged before the untagged
 unfoldable pub sources : Bridge → List Source
 sources b =
-    flat_map (λ v. both_kinds v (λ q. true)) all_vids ++ flat_map (λ (e : StaticAt). both_kinds e.vid (port_in e.ports)) b.statics
+    flat_map (λ v. both_kinds v (λ q. true)) all_vids ++ flat_map (λ (e : StaticAt). both_kinds e.vid (port_in e.ports))
+    b.statics
 
 -- a part: its present ports in U(k), in order
 unfoldable pub part : Shape → ℕ → Bridge → Source → List ℕ

@@ -24,7 +24,8 @@ four_bytes n = to_le_bytes w32 n
 -- seconds, microseconds, the length twice, the bytes
 abbrev pub record_text : Sent → List ℕ
 record_text x =
-    four_bytes (second_of x.0) ++ four_bytes (x.0 % 1000000000 / 1000) ++ four_bytes (length x.1) ++ four_bytes (length x.1) ++ x.1
+    four_bytes (second_of x.0) ++ four_bytes (x.0 % 1000000000 / 1000) ++ four_bytes (length x.1)
+    ++ four_bytes (length x.1) ++ x.1
 
 -- CaptureText of what left a port
 unfoldable pub capture_text : List Sent → List ℕ

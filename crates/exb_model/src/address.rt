@@ -2,10 +2,12 @@
 ghost use Rattle.std.specs.Prelude.{◌≡◌};
 ghost use Rattle.exb_model.specs.Frames.{is_control_frame, is_group};
 
-/// The destination of control frames, 01-80-C2-00-00-0E (IEEE 802.1Q, clause 8.6.3: nearest bridge).
+/// The destination of control frames, 01-80-C2-00-00-0E (IEEE 802.1Q, clause 8.6.3: nearest
+/// bridge).
 pub const CONTROL_ADDRESS: [u8; 6] = [0x01, 0x80, 0xC2, 0x00, 0x00, 0x0E];
 
-/// Whether the destination of a frame is that of control frames; a shorter frame has no destination.
+/// Whether the destination of a frame is that of control frames; a shorter frame has no
+/// destination.
 #[tactic(auto, unfolding(crate::specs::Frames::is_control_frame))]
 pub fn is_control_frame(frame: &[u8]) -> bool
     ensures { result ≡ is_control_frame frame.now }

@@ -9,8 +9,8 @@ pub struct Arrival {
     pub port: PortId,
     /// Its number among the arrivals of the port, from 1.
     pub index: u64,
-    /// Its moment: its time in nanoseconds since the epoch, or the moment of the arrival before it at this port if that is
-    /// greater.
+    /// Its moment: its time in nanoseconds since the epoch, or the moment of the arrival before it
+    /// at this port if that is greater.
     pub moment: u64,
     /// The frame.
     pub bytes: Bytes,

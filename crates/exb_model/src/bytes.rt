@@ -24,8 +24,8 @@ pub fn number_at(bytes: &[u8], at: usize) -> u16
     u16::from_be_bytes([bytes[at], bytes[at + 1]])
 }
 
-/// Bytes with room in front, seen as the list of them: what is taken out near the front moves the few bytes before it, and not
-/// the many behind it.
+/// Bytes with room in front, seen as the list of them: what is taken out near the front moves the
+/// few bytes before it, and not the many behind it.
 #[derive(Drop)]
 pub struct Bytes {
     /// What is in front of the first byte has no meaning.
@@ -70,7 +70,8 @@ impl Bytes {
         Bytes { items, start: 0 }
     }
 
-    /// Takes `count` bytes out at place `at`: those before it move up, and nothing behind it is touched.
+    /// Takes `count` bytes out at place `at`: those before it move up, and nothing behind it is
+    /// touched.
     #[inline(always)]
     pub fn take_out(&mut self, at: usize, count: usize)
         requires inside { at + count ≤ length self.old }

@@ -15,7 +15,8 @@ pub fn has(bits: u64, number: u8) -> bool
 #[inline(always)]
 pub fn with_bit(bits: u64, number: u8, wanted: bool) -> u64
     requires { IsNumber number }
-    ensures { (n : ℕ) → number_in result n ≡ (if n == number then (if wanted then 1 else 0) else number_in bits n) }
+    ensures { (n : ℕ) → number_in result n
+        ≡ (if n == number then (if wanted then 1 else 0) else number_in bits n) }
 {
     if wanted {
         bits | (1 << (number - 1))

@@ -11,11 +11,12 @@ pub enum Cause {
     Groups { needed: u64, limit: u32 },
 }
 
-/// An event. Commands are numbered from 1 in the order of the topology file, records from 1 at each port.
+/// An event. Commands are numbered from 1 in the order of the topology file, records from 1 at each
+/// port.
 #[derive(Drop)]
 pub enum Event {
-    /// A frame was relayed: by VLAN, targets and learning it was dealt with, and may have left nowhere.
-    /// `moment` is the time of its record in nanoseconds.
+    /// A frame was relayed: by VLAN, targets and learning it was dealt with, and may have left
+    /// nowhere. `moment` is the time of its record in nanoseconds.
     Relay {
         port: PortId,
         index: u64,

@@ -110,7 +110,8 @@ impl Layout {
     /// Whether each extender hangs on a port of the tree.
     fn hang_on_ports(&self) -> bool
         ensures sized { length self.now.ports ≡ 65 }
-        ensures on_ports { IsTrue result ↔ ((n : ℕ) → IsTrue (is_extender self.now n) → IsTrue (is_port self.now (slice_index self.now.on n))) }
+        ensures on_ports { IsTrue result ↔ ((n : ℕ) → IsTrue (is_extender self.now n)
+            → IsTrue (is_port self.now (slice_index self.now.on n))) }
     {
         for number in 1..self.devices() {
             if self.is_extender(number) && !self.is_port(self.on(number)) {
@@ -123,7 +124,8 @@ impl Layout {
     /// Whether no extender of a lower number hangs on the port of that one.
     fn hangs_alone(&self, number: u16) -> bool
         requires { number < 65 }
-        ensures { IsTrue result ↔ ((n : ℕ) → n < number → IsTrue (is_extender self.now n) → slice_index self.now.on n ≢ slice_index self.now.on number) }
+        ensures { IsTrue result ↔ ((n : ℕ) → n < number → IsTrue (is_extender self.now n)
+            → slice_index self.now.on n ≢ slice_index self.now.on number) }
     {
         for lower in 1..number {
             if self.is_extender(lower) && self.on(lower) == self.on(number) {
@@ -135,7 +137,9 @@ impl Layout {
 
     /// Whether no two extenders hang on one port.
     fn hang_alone(&self) -> bool
-        ensures { IsTrue result ↔ ((n m : ℕ) → n < m → IsTrue (is_extender self.now n) → IsTrue (is_extender self.now m) → slice_index self.now.on n ≢ slice_index self.now.on m) }
+        ensures { IsTrue result ↔ ((n m : ℕ) → n < m → IsTrue (is_extender self.now n)
+            → IsTrue (is_extender self.now m) → slice_index self.now.on n
+            ≢ slice_index self.now.on m) }
     {
         for number in 1..self.devices() {
             if self.is_extender(number) && !self.hangs_alone(number) {
@@ -147,7 +151,8 @@ impl Layout {
 
     /// Whether the bridge is reached from each extender.
     fn reach_bridge(&self) -> bool
-        ensures { IsTrue result ↔ ((n : ℕ) → IsTrue (is_extender self.now n) → top self.now.on 63 (slice_index self.now.on n) < 64) }
+        ensures { IsTrue result ↔ ((n : ℕ) → IsTrue (is_extender self.now n)
+            → top self.now.on 63 (slice_index self.now.on n) < 64) }
     {
         for number in 1..self.devices() {
             if self.is_extender(number) && self.top(self.on(number)) >= 64 {
@@ -157,7 +162,8 @@ impl Layout {
         true
     }
 
-    /// Whether it is a tree: each extender hangs on a port of its own, which is there, and the bridge is reached from it.
+    /// Whether it is a tree: each extender hangs on a port of its own, which is there, and the
+    /// bridge is reached from it.
     pub(crate) fn is_tree(&self) -> bool
         ensures { IsTrue result ↔ IsTree self.now }
     {
@@ -180,7 +186,8 @@ impl Layout {
         cascades
     }
 
-    /// Whether a port is one of an extender on which an extender hangs, and below that port of the bridge.
+    /// Whether a port is one of an extender on which an extender hangs, and below that port of the
+    /// bridge.
     fn is_cascade_under(&self, cascades: &PortSet, bridge_port: u16, port: PortId) -> bool
         requires { (q : ℕ) → port_in cascades.now q ≡ is_cascade self.now q }
         ensures { result ≡ is_cascade_under self.now bridge_port port }

@@ -1,6 +1,6 @@
-//! The types that every layer speaks of, and, in `specs/`, the definitions that every contract cites:
-//! frames, the VLAN bridge's configuration, histories, and the texts that a run writes.
-//! It stands on no other crate of the project, and promises exact answers of each call.
+//! The types that every layer speaks of, and, in `specs/`, the definitions that every contract
+//! cites: frames, the VLAN bridge's configuration, histories, and the texts that a run writes. It
+//! stands on no other crate of the project, and promises exact answers of each call.
 #![tactic(auto)]
 
 pub mod address;

@@ -3,8 +3,8 @@ ghost use Rattle.std.specs.Prelude.{◌≡◌, ◌==◌, ℕ, ◌+◌, ◌*◌, 
 
 use crate::port::PortId;
 
-/// A set of ports as bits: port p is in it where bit p modulo 64 of word p / 64 is 1. So word n has the
-/// ports of extender n, and word 0 those of the bridge.
+/// A set of ports as bits: port p is in it where bit p modulo 64 of word p / 64 is 1. So word n has
+/// the ports of extender n, and word 0 those of the bridge.
 #[derive(Clone, Copy, PartialEq, Eq)]
 pub struct PortSet {
     pub words: [u64; 65],
@@ -82,7 +82,8 @@ impl PortSet {
 
     /// Whether each port of the set is in the wider one.
     pub fn is_within(&self, wider: &PortSet) -> bool
-        ensures { IsTrue result ↔ ((q : ℕ) → IsTrue (port_in self.now q) → IsTrue (port_in wider.now q)) }
+        ensures { IsTrue result ↔ ((q : ℕ) → IsTrue (port_in self.now q)
+            → IsTrue (port_in wider.now q)) }
     {
         for device in 0..65usize {
             if self.words[device] & wider.words[device] != self.words[device] {

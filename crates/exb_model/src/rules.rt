@@ -14,8 +14,8 @@ pub enum Accept {
     UntaggedOnly,
 }
 
-/// The rules of a port: its PVID, the frame types that it accepts, whether ingress filtering is on, and
-/// whether it is isolated. Isolated ports exchange nothing with one another.
+/// The rules of a port: its PVID, the frame types that it accepts, whether ingress filtering is on,
+/// and whether it is isolated. Isolated ports exchange nothing with one another.
 #[derive(Clone, Copy, Default)]
 pub struct PortRule {
     pub pvid: Vid,
@@ -24,8 +24,8 @@ pub struct PortRule {
     pub isolated: bool,
 }
 
-/// A static entry: the ports to which frames for an address in a VLAN go (IEEE 802.1Q, static filtering
-/// entries).
+/// A static entry: the ports to which frames for an address in a VLAN go (IEEE 802.1Q, static
+/// filtering entries).
 #[derive(Clone, Copy)]
 pub struct StaticAt {
     pub vid: Vid,

@@ -34,7 +34,8 @@ impl Place {
     }
 }
 
-/// A port extender (IEEE 802.1BR): its number and how many ports it has, both 1 to 64, and where it hangs.
+/// A port extender (IEEE 802.1BR): its number and how many ports it has, both 1 to 64, and where it
+/// hangs.
 #[derive(Clone, Copy)]
 pub struct ExtenderSetup {
     pub number: u8,
@@ -94,7 +95,8 @@ fn are_distinct(extenders: &[ExtenderSetup]) -> bool
 impl Command {
     /// Whether it names ports of this set alone.
     pub fn names_only(&self, external: &PortSet) -> bool
-        ensures { (t : Shape) → ((q : ℕ) → port_in external.now q ≡ is_external t q) → (IsTrue result ↔ NamesExternal t self.now) }
+        ensures { (t : Shape) → ((q : ℕ) → port_in external.now q ≡ is_external t q)
+            → (IsTrue result ↔ NamesExternal t self.now) }
     {
         match self {
             Command::Vlan {
@@ -115,9 +117,11 @@ impl Command {
         }
     }
 
-    /// Whether it may stand at the start: it names ports of this set alone, and makes none present or absent.
+    /// Whether it may stand at the start: it names ports of this set alone, and makes none present
+    /// or absent.
     fn is_start(&self, external: &PortSet) -> bool
-        ensures { (t : Shape) → ((q : ℕ) → port_in external.now q ≡ is_external t q) → (IsTrue result ↔ IsStart t self.now) }
+        ensures { (t : Shape) → ((q : ℕ) → port_in external.now q ≡ is_external t q)
+            → (IsTrue result ↔ IsStart t self.now) }
     {
         match self {
             Command::Up { .. } | Command::Down { .. } => false,
@@ -128,7 +132,8 @@ impl Command {
 
 /// Whether all these commands may stand at the start.
 fn are_start(commands: &[Command], external: &PortSet) -> bool
-    ensures { (t : Shape) → ((q : ℕ) → port_in external.now q ≡ is_external t q) → (IsTrue result ↔ All (IsStart t) commands.now) }
+    ensures { (t : Shape) → ((q : ℕ) → port_in external.now q ≡ is_external t q)
+        → (IsTrue result ↔ All (IsStart t) commands.now) }
 {
     for command in commands {
         if !command.is_start(external) {
@@ -170,7 +175,9 @@ impl Drop for Setup {
 impl Setup {
     /// Whether the bridge's own numbers are in their ranges.
     fn has_ranges(&self) -> bool
-        ensures { IsTrue result ↔ ((1 ≤ self.now.ports) × (self.now.ports ≤ 64) × (1 ≤ self.now.channels) × (self.now.channels ≤ 4094) × (1 ≤ self.now.groups) × (self.now.groups ≤ 12288) × IsAgeing self.now.ageing) }
+        ensures { IsTrue result ↔ ((1 ≤ self.now.ports) × (self.now.ports ≤ 64)
+            × (1 ≤ self.now.channels) × (self.now.channels ≤ 4094) × (1 ≤ self.now.groups)
+            × (self.now.groups ≤ 12288) × IsAgeing self.now.ageing) }
     {
         self.ports >= 1
             && self.ports <= 64
@@ -181,9 +188,10 @@ impl Setup {
             && (self.ageing == 0 || self.ageing >= 10 && self.ageing <= 1_000_000)
     }
 
-    /// Whether it can be set up: all numbers are in their ranges; the extenders have distinct numbers, and each hangs
-    /// on a port of its own in a tree below the bridge; no port of the bridge has more cascade ports below it than
-    /// E-channels; and the start names external ports alone and makes none present or absent.
+    /// Whether it can be set up: all numbers are in their ranges; the extenders have distinct
+    /// numbers, and each hangs on a port of its own in a tree below the bridge; no port of the
+    /// bridge has more cascade ports below it than E-channels; and the start names external ports
+    /// alone and makes none present or absent.
     pub fn valid(&self) -> bool
         ensures { IsTrue result ↔ IsValid self.now }
     {
@@ -198,7 +206,8 @@ impl Setup {
             && are_start(self.start.as_slice(), &layout.external(&cascades))
     }
 
-    /// How many ports each device has, 0 where there is none: the bridge is device 0, an extender has its own number.
+    /// How many ports each device has, 0 where there is none: the bridge is device 0, an extender
+    /// has its own number.
     pub fn port_counts(&self) -> [u8; DEVICES as usize]
         requires { IsValid self.now }
         ensures counts { result ≡ (shape_of self.now).ports }
@@ -226,8 +235,8 @@ pub enum Verdict {
     Later,
 }
 
-/// A command of the topology file: `at` in seconds after the start, and what becomes of the control frames
-/// that follow it.
+/// A command of the topology file: `at` in seconds after the start, and what becomes of the control
+/// frames that follow it.
 #[derive(Drop)]
 pub struct Timed {
     pub at: u32,

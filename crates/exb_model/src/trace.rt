@@ -15,8 +15,9 @@ pub enum TraceWay {
     Journal,
 }
 
-/// A line of a trace. `who` is 0 for the bridge, else an extender's number; `side` is 0 for upstream, else a port's number. Both
-/// are 0 in a beat, whose `bytes` are none, and in a line of the journal, whose `bytes` are its text without a newline.
+/// A line of a trace. `who` is 0 for the bridge, else an extender's number; `side` is 0 for
+/// upstream, else a port's number. Both are 0 in a beat, whose `bytes` are none, and in a line of
+/// the journal, whose `bytes` are its text without a newline.
 #[derive(Drop)]
 pub struct TraceLine {
     pub who: u8,

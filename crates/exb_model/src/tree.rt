@@ -16,8 +16,8 @@ use crate::tree_tables::{hanging, known_ports, order_of, tops_of};
 use std::alloc::Global;
 use std::marker::Model;
 
-/// The tree of a setup: which ports there are, where each extender hangs, and what lies above a port. What
-/// is asked for each frame is looked up in a table.
+/// The tree of a setup: which ports there are, where each extender hangs, and what lies above a
+/// port. What is asked for each frame is looked up in a table.
 pub struct Tree {
     /// How many ports a device has, and where an extender hangs.
     layout: Layout,
@@ -54,7 +54,8 @@ impl Model for Tree {
 
     ghost view = { λ t. t.layout };
 
-    ghost invariant = { λ t. IsSound t.layout t.tops t.known.words t.external.words t.order.items t.below.items };
+    ghost invariant = { λ t. IsSound t.layout t.tops t.known.words t.external.words t.order.items
+        t.below.items };
 }
 
 impl Tree {
@@ -167,8 +168,8 @@ impl Tree {
         ensures { (p : ℕ) → port_in result p ≡ covers self.now (port_in set.now) p }
     {
         let mut marks = set.both(&self.known);
-        // A deeper extender comes after the one on which it hangs, so all below an extender is marked
-        // when its turn comes.
+        // A deeper extender comes after the one on which it hangs, so all below an extender is
+        // marked when its turn comes.
         let order = self.order.as_slice();
         for index in (0..order.len()).rev() {
             let extender = order[index];

@@ -52,7 +52,8 @@ LearnedIsReached =
 
 -- where there is a static entry, its ports
 pub record ByEntry (i : Basis) (h : History) (p n t : ℕ) (f : List ℕ) (v : ℕ) (entry : StaticAt) (q : ℕ) : Type 0 where
-  pub listed : (kind : Kind) → port_in entry.ports q ≡ true → MayGet (bridge_after i h) p v q kind → Reaches i h p n t f v q kind
+  pub listed : (kind : Kind) → port_in entry.ports q ≡ true → MayGet (bridge_after i h) p v q kind
+      → Reaches i h p n t f v q kind
   pub others : port_in entry.ports q ≡ false → Misses i h p n t f q
 
 abbrev pub StaticReachesItsPorts : Type 0

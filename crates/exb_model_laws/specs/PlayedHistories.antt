@@ -39,12 +39,15 @@ IsTimely i = AllPairs (λ c d. c.at ≤ d.at) i.commands
 
 -- where they don't, the commands are played in the order of the file
 abbrev pub CommandsInFileOrder : Type 0
-CommandsInFileOrder = (m : Mode) (i : Input) (h : History) → IsTimely i → Legal m i h → filter_map number_of (reverse h) ≡ all_numbers i
+CommandsInFileOrder = (m : Mode) (i : Input) (h : History) → IsTimely i → Legal m i h
+    → filter_map number_of (reverse h) ≡ all_numbers i
 
 -- The numbers of a summary are those of the input.
 pub record AddsUp (i : Input) (h : History) : Type 0 where
-  pub records : (counts (tree_of i) (basis_of i) h).relayed + (counts (tree_of i) (basis_of i) h).ignored ≡ record_count i
-  pub commands : (counts (tree_of i) (basis_of i) h).commits + (counts (tree_of i) (basis_of i) h).refusals ≡ length i.commands
+  pub records : (counts (tree_of i) (basis_of i) h).relayed + (counts (tree_of i) (basis_of i) h).ignored
+      ≡ record_count i
+  pub commands : (counts (tree_of i) (basis_of i) h).commits + (counts (tree_of i) (basis_of i) h).refusals
+      ≡ length i.commands
 
 abbrev pub SummaryAddsUp : Type 0
 SummaryAddsUp = (m : Mode) (i : Input) (h : History) → Legal m i h → AddsUp i h
@@ -52,7 +55,8 @@ SummaryAddsUp = (m : Mode) (i : Input) (h : History) → Legal m i h → AddsUp 
 -- ---- a history that is allowed
 -- the one in which each segment's tick, commands and arrivals are played at once
 unfoldable pub played_at_once : Mode → Input → History
-played_at_once m i = eagerly (tree_of i) (bounds_of i) (basis_of i) (opening (tree_of i) (bounds_of i) (basis_of i)) (segments m i)
+played_at_once m i = eagerly (tree_of i) (bounds_of i) (basis_of i) (opening (tree_of i) (bounds_of i) (basis_of i))
+    (segments m i)
 
 abbrev pub PlayedAtOnceIsLegal : Type 0
 PlayedAtOnceIsLegal = (m : Mode) (i : Input) → Legal m i (played_at_once m i)

@@ -36,9 +36,9 @@ pub record HasWayUp (s : Setup) (e : ExtenderSetup) : Type 0 where
   pub few : length way ≤ 63
   pub is : IsWayUp e way
 
--- Numbers are in their ranges. No two extenders have one number or hang on one port. Each hangs on a port that is there,
--- and its way up ends at the bridge. No port of the bridge has more cascade ports below it than E-channels. The start
--- names external ports alone, and makes none present or absent.
+-- Numbers are in their ranges. No two extenders have one number or hang on one port. Each hangs on a port that is
+-- there, and its way up ends at the bridge. No port of the bridge has more cascade ports below it than E-channels. The
+-- start names external ports alone, and makes none present or absent.
 pub record IsWellFormed (s : Setup) : Type 0 where
   pub some_ports : 1 ≤ s.ports
   pub ports : s.ports ≤ 64
@@ -65,7 +65,8 @@ IsFree s x = HasPlace s x × All (λ e. e.on ≢ x) s.extenders
 
 -- Those are the external ports of a valid setup.
 abbrev pub ExternalInWords : Type 0
-ExternalInWords = (s : Setup) (x : Place) → IsValid s → IsPlace x → (is_external (shape_of s) (port_at x) ≡ true) ↔ IsFree s x
+ExternalInWords = (s : Setup) (x : Place) → IsValid s → IsPlace x → (is_external (shape_of s) (port_at x) ≡ true)
+    ↔ IsFree s x
 
 -- ---- what is excluded
 -- extenders of the setup, each of which hangs on a port of one of them
@@ -78,13 +79,22 @@ NoRingIsValid = (s : Setup) (e : ExtenderSetup) (ring : List ExtenderSetup) → 
 
 -- ---- a bridge alone
 abbrev pub bridge_alone : (ports channels groups ageing : ℕ) → List Command → Setup
-bridge_alone ports channels groups ageing start = record { ports = ports; extenders = []; channels = channels; groups = groups; ageing = ageing; start = start }
+bridge_alone ports channels groups ageing start = record {
+  ports = ports;
+  extenders = [];
+  channels = channels;
+  groups = groups;
+  ageing = ageing;
+  start = start;
+}
 
 abbrev pub AreInRange : (ports channels groups ageing : ℕ) → Type 0
-AreInRange ports channels groups ageing = (1 ≤ ports) × (ports ≤ 64) × (1 ≤ channels) × (channels ≤ 4094) × (1 ≤ groups) × (groups ≤ 12288) × IsAgeing ageing
+AreInRange ports channels groups ageing = (1 ≤ ports) × (ports ≤ 64) × (1 ≤ channels) × (channels ≤ 4094) × (1 ≤ groups)
+    × (groups ≤ 12288) × IsAgeing ageing
 
 abbrev pub BridgeAloneIsValid : Type 0
-BridgeAloneIsValid = (ports channels groups ageing : ℕ) → IsValid (bridge_alone ports channels groups ageing []) ↔ AreInRange ports channels groups ageing
+BridgeAloneIsValid = (ports channels groups ageing : ℕ) → IsValid (bridge_alone ports channels groups ageing [])
+    ↔ AreInRange ports channels groups ageing
 
 -- where they are, the start decides: isolating port q is valid exactly where the bridge has q, and no port goes up
 abbrev pub StartIsJudged : Type 0
@@ -99,7 +109,14 @@ abbrev pub on_bridge : (number ports port : ℕ) → ExtenderSetup
 on_bridge number ports port = record { number = number; ports = ports; on = place.Bridge port }
 
 abbrev pub two_extenders : ℕ → ExtenderSetup → ExtenderSetup → Setup
-two_extenders ports e f = record { ports = ports; extenders = e ∷ f ∷ []; channels = 1; groups = 1; ageing = 0; start = [] }
+two_extenders ports e f = record {
+  ports = ports;
+  extenders = e ∷ f ∷ [];
+  channels = 1;
+  groups = 1;
+  ageing = 0;
+  start = [];
+}
 
 -- a bridge with b ports, extender n with p ports on port j, and extender m with q ports on port k
 abbrev pub side_by_side : (b n p j m q k : ℕ) → Setup
@@ -115,7 +132,8 @@ pub record AreSideBySide (b n p j m q k : ℕ) : Type 0 where
   pub numbers : n ≢ m
   pub places : j ≢ k
 
--- They are valid exactly where all numbers are in range, both ports are there, and neither the numbers nor the ports are one.
+-- They are valid exactly where all numbers are in range, both ports are there, and neither the numbers nor the ports
+-- are one.
 abbrev pub SideBySideIsValid : Type 0
 SideBySideIsValid = (b n p j m q k : ℕ) → IsValid (side_by_side b n p j m q k) ↔ AreSideBySide b n p j m q k
 
@@ -124,8 +142,8 @@ SideBySideIsValid = (b n p j m q k : ℕ) → IsValid (side_by_side b n p j m q 
 abbrev pub stacked : (p n k : ℕ) → Setup
 stacked p n k = two_extenders 1 (on_bridge 1 p 1) (record { number = 2; ports = 1; on = place.Extender n k })
 
--- They are valid exactly where extender 1 has ports in range and extender 2 hangs on one of them: not on a port that isn't
--- there, on an extender that isn't there, or on itself.
+-- They are valid exactly where extender 1 has ports in range and extender 2 hangs on one of them: not on a port that
+-- isn't there, on an extender that isn't there, or on itself.
 abbrev pub StackedIsValid : Type 0
 StackedIsValid = (p n k : ℕ) → IsValid (stacked p n k) ↔ ((p ≤ 64) × (n ≡ 1) × (1 ≤ k) × (k ≤ p))
 
@@ -140,9 +158,17 @@ abbrev pub link : ℕ → ExtenderSetup
 link n = record { number = n; ports = 2; on = link_at n }
 
 abbrev pub chain : (extenders channels : ℕ) → Setup
-chain n channels = record { ports = 1; extenders = map link (range_with_len 1 n); channels = channels; groups = 1; ageing = 0; start = [] }
+chain n channels = record {
+  ports = 1;
+  extenders = map link (range_with_len 1 n);
+  channels = channels;
+  groups = 1;
+  ageing = 0;
+  start = [];
+}
 
--- A chain of n extenders is valid exactly where there are at most 64, and an E-channel for each cascade port: all but the
--- last extender have one.
+-- A chain of n extenders is valid exactly where there are at most 64, and an E-channel for each cascade port: all but
+-- the last extender have one.
 abbrev pub ChainIsValid : Type 0
-ChainIsValid = (n channels : ℕ) → IsValid (chain n channels) ↔ ((n ≤ 64) × (1 ≤ channels) × (channels ≤ 4094) × (n - 1 ≤ channels))
+ChainIsValid = (n channels : ℕ) → IsValid (chain n channels)
+    ↔ ((n ≤ 64) × (1 ≤ channels) × (channels ≤ 4094) × (n - 1 ≤ channels))

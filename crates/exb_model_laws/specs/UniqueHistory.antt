@@ -32,7 +32,8 @@ IsRecordOf i a = numbered (arrivals_at i a.port) a.index ≡ Some a
 
 -- Ports are ports, other numbers have 64 bits, and a Relay is of a record of the input.
 abbrev pub IsTold : Input → Event → Type 0
-IsTold i (event.Relay p n t f) = IsPort p × IsWord n × IsRecordOf i (record { port = p; index = n; moment = t; bytes = f })
+IsTold i (event.Relay p n t f) = IsPort p × IsWord n
+    × IsRecordOf i (record { port = p; index = n; moment = t; bytes = f })
 IsTold i (event.Ignored p n) = IsPort p × IsWord n
 IsTold i (event.Tick seconds) = IsWord seconds
 IsTold i (event.Commit n) = IsWord n
@@ -43,11 +44,12 @@ IsTold i event.Settled = Unit {0}
 
 -- Two such histories with one journal are the same.
 abbrev pub JournalTellsHistory : Type 0
-JournalTellsHistory = (i : Input) (h g : History) → All (IsTold i) h → All (IsTold i) g → journal_text h ≡ journal_text g → h ≡ g
+JournalTellsHistory = (i : Input) (h g : History) → All (IsTold i) h → All (IsTold i) g
+    → journal_text h ≡ journal_text g → h ≡ g
 
 -- ---- legal histories
--- The input's numbers are those of files: times in nanoseconds of 64 bits, seconds of 32, and fewer than 2^64 records at
--- each port and commands.
+-- The input's numbers are those of files: times in nanoseconds of 64 bits, seconds of 32, and fewer than 2^64 records
+-- at each port and commands.
 pub record IsWritten (i : Input) : Type 0 where
   pub times : (p : ℕ) → All (λ r. IsWord r.time) (i.records p)
   pub records : (p : ℕ) → IsWord (length (i.records p))
@@ -56,7 +58,8 @@ pub record IsWritten (i : Input) : Type 0 where
 
 -- Two histories that such an input allows, in whichever modes, are the same where their journals are.
 abbrev pub JournalTellsLegal : Type 0
-JournalTellsLegal = (i : Input) (m n : Mode) (h g : History) → IsWritten i → Legal m i h → Legal n i g → journal_text h ≡ journal_text g → h ≡ g
+JournalTellsLegal = (i : Input) (m n : Mode) (h g : History) → IsWritten i → Legal m i h → Legal n i g
+    → journal_text h ≡ journal_text g → h ≡ g
 
 -- ---- an input that is written
 -- two commands, of seconds 5 and 6, and one record at each port

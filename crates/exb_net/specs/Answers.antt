@@ -15,7 +15,8 @@ use Rattle.exb_net.specs.Nets.{OnlyNetOutputs, net_of}
 use Rattle.exb_net.specs.Outputs.{AreNetFronts, IsNetPlayed}
 
 -- ---- what is done
--- the file of this name and the topologies that it names make these bridges and wires, and each capture of theirs can be played
+-- the file of this name and the topologies that it names make these bridges and wires, and each capture of theirs can
+-- be played
 pub record IsNetReady (name : List ℕ) (file : Files) (ms : List NetMember) (ws : List Wire) : Type 0 where
   pub holds : HoldsNet name file ms ws
   pub good : AreAllMembersGood ms file
@@ -37,7 +38,8 @@ pub record NetPlayed (name : List ℕ) (counters : Bool) (old new : Files) (line
 -- ---- what has become of the files
 -- whatever net the file of this name makes, no file but its outputs has changed
 abbrev pub OnlyNetAsked : List ℕ → Bool → Files → Files → Type 0
-OnlyNetAsked name counters old new = (ms : List NetMember) (ws : List Wire) → HoldsNet name old ms ws → OnlyNetOutputs counters ms old new
+OnlyNetAsked name counters old new = (ms : List NetMember) (ws : List Wire) → HoldsNet name old ms ws
+    → OnlyNetOutputs counters ms old new
 
 -- what the net in the file of this name leaves: fronts of what it calls for
 pub record LeavesNetFronts (name : List ℕ) (old new : Files) : Type 0 where
@@ -51,8 +53,8 @@ abbrev pub AreFrontsOfNet : List ℕ → Files → Files → Type 0
 AreFrontsOfNet name old new = SameFiles old new ⊎ LeavesNetFronts name old new
 
 -- ---- faults
--- This stops a net, the first in the order in which things are looked at: its file, the topologies, the wires, and then the captures of
--- bridge after bridge.
+-- This stops a net, the first in the order in which things are looked at: its file, the topologies, the wires, and then
+-- the captures of bridge after bridge.
 abbrev pub NetStops : List ℕ → Files → Fault → Type 0
 NetStops name file fault = IsNetRefused name file fault ⊎ NetCaptureFaulty name file fault
 

@@ -12,8 +12,8 @@ use Rattle.exb_net.specs.declared.node.Node.{Node}
 use Rattle.exb_net.specs.Crossings.{all_crossing}
 use Rattle.exb_net.specs.NodeViews.{Holds}
 
--- a frame that arrives at a bridge of a net: what all of them did before, what of that was forgotten, and where they were when that
--- bridge had settled
+-- a frame that arrives at a bridge of a net: what all of them did before, what of that was forgotten, and where they
+-- were when that bridge had settled
 pub record Turn : Type 0 where
   pub net : Net
   pub bridge : ℕ
@@ -32,7 +32,8 @@ pub record IsTurn (m : Turn) : Type 0 where
   pub low : (c p : ℕ) → c < m.net.count → is_wired m.net.wires c p ≡ true → (m.dones c).world.next p ≤ 2 ^ 62
 
 -- After so many deliveries the bridges of the code are there.
-pub record HasDelivered {V : Type 0} {X : V → Type 0} (m : Turn) (k : ℕ) (nodes : List (Node V X)) (waiting : List Crossing) : Type 0 where
+pub record HasDelivered {V : Type 0} {X : V → Type 0} (m : Turn) (k : ℕ) (nodes : List (Node V X))
+    (waiting : List Crossing) : Type 0 where
   pub now : Between
   pub delivered : DeliversTimes m.net k m.given now
   pub run : AreRun m.net now.dones
@@ -42,7 +43,8 @@ pub record HasDelivered {V : Type 0} {X : V → Type 0} (m : Turn) (k : ℕ) (no
 
 -- ---- the whole
 -- A frame may come to a bridge that no wire brings there.
-pub record IsComing {V : Type 0} {X : V → Type 0} (n : Net) (b : ℕ) (a : Arrival) (s told : Dones) (nodes : List (Node V X)) (queue : List Crossing) : Type 0 where
+pub record IsComing {V : Type 0} {X : V → Type 0} (n : Net) (b : ℕ) (a : Arrival) (s told : Dones)
+    (nodes : List (Node V X)) (queue : List Crossing) : Type 0 where
   pub net : IsNet n
   pub vids : HaveVids n
   pub run : AreRun n s
@@ -54,13 +56,16 @@ pub record IsComing {V : Type 0} {X : V → Type 0} (n : Net) (b : ℕ) (a : Arr
   pub none : queue ≡ []
 
 -- It came, and what left for it is between bridges.
-pub record Begins {V : Type 0} {X : V → Type 0} (n : Net) (b : ℕ) (a : Arrival) (s told : Dones) (nodes : List (Node V X)) (queue : List Crossing) : Type 0 where
+pub record Begins {V : Type 0} {X : V → Type 0} (n : Net) (b : ℕ) (a : Arrival) (s told : Dones)
+    (nodes : List (Node V X)) (queue : List Crossing) : Type 0 where
   pub given : Between
   pub turn : IsTurn (record { net = n; bridge = b; arrival = a; dones = s; told = told; given = given })
-  pub delivered : HasDelivered (record { net = n; bridge = b; arrival = a; dones = s; told = told; given = given }) 0 nodes queue
+  pub delivered : HasDelivered (record { net = n; bridge = b; arrival = a; dones = s; told = told; given = given }) 0
+      nodes queue
 
 -- It came, and then all that crossed wires for it, until no frame is between bridges; at each port at most one.
-pub record HasPlayed {V : Type 0} {X : V → Type 0} (n : Net) (b : ℕ) (a : Arrival) (s told : Dones) (nodes : List (Node V X)) (queue : List Crossing) : Type 0 where
+pub record HasPlayed {V : Type 0} {X : V → Type 0} (n : Net) (b : ℕ) (a : Arrival) (s told : Dones)
+    (nodes : List (Node V X)) (queue : List Crossing) : Type 0 where
   pub given : Between
   pub end : Between
   pub times : ℕ

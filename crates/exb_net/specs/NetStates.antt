@@ -31,7 +31,8 @@ pub record IsBegun {V : Type 0} {X : V → Type 0} (n : Net) (x : Bridges V X) :
   pub queue : x.queue.items ≡ []
   pub wires : x.wires ≡ length n.wires
 
--- After its opening its bridges are where they came by what they did, and of that so much was told. No frame is between bridges.
+-- After its opening its bridges are where they came by what they did, and of that so much was told. No frame is between
+-- bridges.
 pub record IsPlaying {V : Type 0} {X : V → Type 0} (n : Net) (s told : Dones) (x : Bridges V X) : Type 0 where
   pub net : IsNet n
   pub vids : HaveVids n
@@ -53,7 +54,8 @@ pub record Opens {V : Type 0} {X : V → Type 0} (n : Net) (x : Bridges V X) : T
   pub playing : IsPlaying n dones (no_dones n) x
 
 -- Bridge b is given something, and then as many deliveries are made as leave no frame between bridges.
-pub record Handled {V : Type 0} {X : V → Type 0} (n : Net) (b : ℕ) (step : Step) (s told : Dones) (x : Bridges V X) : Type 0 where
+pub record Handled {V : Type 0} {X : V → Type 0} (n : Net) (b : ℕ) (step : Step) (s told : Dones)
+    (x : Bridges V X) : Type 0 where
   pub given : Between
   pub end : Between
   pub times : ℕ
@@ -62,6 +64,7 @@ pub record Handled {V : Type 0} {X : V → Type 0} (n : Net) (b : ℕ) (step : S
   pub playing : IsPlaying n end.dones told x
 
 -- Seconds pass at each bridge, where there are any.
-pub record Passes {V : Type 0} {X : V → Type 0} (n : Net) (seconds : ℕ) (s told : Dones) (x : Bridges V X) : Type 0 where
-  pub may : MayPass n seconds s
-  pub playing : IsPlaying n (pass n seconds s) told x
+pub record Passes {V : Type 0} {X : V → Type 0} (n : Net) (seconds : ℕ) (s told : Dones) (x : Bridges V X) : Type 0
+  where
+    pub may : MayPass n seconds s
+    pub playing : IsPlaying n (pass n seconds s) told x

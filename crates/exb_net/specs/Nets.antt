@@ -14,7 +14,11 @@ use Rattle.exb_outputs.specs.Manifests.{Listed}
 
 -- what stands for a bridge that a net doesn't have
 abbrev pub no_input : Input
-no_input = record { setup = record { ports = 0; extenders = []; channels = 0; groups = 0; ageing = 0; start = [] }; commands = []; records = λ q. [] }
+no_input = record {
+  setup = record { ports = 0; extenders = []; channels = 0; groups = 0; ageing = 0; start = [] };
+  commands = [];
+  records = λ q. [];
+}
 
 -- the input of a bridge: that of its topology, and of the captures that this names
 abbrev pub input_in : Files → Option NetMember → Input

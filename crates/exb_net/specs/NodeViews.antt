@@ -10,8 +10,8 @@ use Rattle.exb_net.specs.declared.wired_ports.WiredPort.{WiredPort}
 use Rattle.exb_net.specs.declared.node.Node.{Node}
 use Rattle.exb_net.specs.WiredPorts.{ends_over}
 
--- Bridge b is where it came by what it did. Of that its world keeps what was told and has left since so much was told. Its wired ports are
--- those of the net, each with its next index; and memory hasn't run out in it.
+-- Bridge b is where it came by what it did. Of that its world keeps what was told and has left since so much was told.
+-- Its wired ports are those of the net, each with its next index; and memory hasn't run out in it.
 pub record IsAt (n : Net) (b : ℕ) (done told : Stepped) (w : Network) (wired : List WiredPort) : Type 0 where
   pub tree : tree_of w ≡ tree_in n b
   pub limits : bounds_of w ≡ limits_in n b

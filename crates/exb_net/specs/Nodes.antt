@@ -15,10 +15,13 @@ use Rattle.exb_net.specs.declared.wired_ports.WiredPort.{WiredPort}
 use Rattle.exb_net.specs.Crossings.{all_crossing}
 use Rattle.exb_net.specs.WiredPorts.{ends_over, next_in, sent_over}
 
--- The frame arrived, and all settled and was marked. What has left the wired ports since stands at the end of the queue.
-pub record HasEntered (a : Arrival) (ends : List WiredPort) (old new : Network) (before after : List Crossing) : Type 0 where
-  pub played : IsPlayedOut (Arrive a ∷ []) old new
-  pub sent : (gone : List Left) → all_left new.log.left ≡ all_left old.log.left ++ gone → all_crossing after ≡ all_crossing before ++ sent_over gone ends
+-- The frame arrived, and all settled and was marked. What has left the wired ports since stands at the end of the
+-- queue.
+pub record HasEntered (a : Arrival) (ends : List WiredPort) (old new : Network) (before after : List Crossing) : Type 0
+  where
+    pub played : IsPlayedOut (Arrive a ∷ []) old new
+    pub sent : (gone : List Left) → all_left new.log.left ≡ all_left old.log.left ++ gone
+        → all_crossing after ≡ all_crossing before ++ sent_over gone ends
 
 -- a frame that crossed a wire as it arrives, with the next index of its port
 abbrev pub come_as : List WiredPort → Crossing → Arrival

@@ -1,4 +1,5 @@
--- What is made before the first event: the files of all bridges, one bridge after another; and what is then ready to be played.
+-- What is made before the first event: the files of all bridges, one bridge after another; and what is then ready to be
+-- played.
 use Rattle.std.specs.Prelude.{◌≡◌, ◌<◌, ◌++◌, ℕ, Bool, List, [], Some, map, slice_get}
 use Rattle.std.specs.declared.alloc.Global.{Global}
 use Rattle.std.specs.declared.vec.Vec.{Vec}
@@ -44,7 +45,8 @@ pub record IsSet (tells : Type 0) (now : Files) (ids : ℕ → Id) (d : BridgeOu
 
 -- ---- all bridges
 -- So it is of the desk of each of these manifests, and no other file has changed.
-pub record AreSet (tells : Type 0) (ps : List Listed) (old now : Files) (ids : ℕ → Id) (desks : List BridgeOutputs) : Type 0 where
+pub record AreSet (tells : Type 0) (ps : List Listed) (old now : Files) (ids : ℕ
+    → Id) (desks : List BridgeOutputs) : Type 0 where
   pub manifests : manifests_in desks ≡ ps
   pub each : (b : ℕ) (d : BridgeOutputs) → slice_get desks b ≡ Some d → IsSet tells now ids d
   pub others : tells → OnlyAllListed ps old now
@@ -55,21 +57,29 @@ GoesFrom text = (o : OutputKind) → (rest : List ℕ) × (text o ≡ first_text
 
 -- each file of each manifest is as it was, or holds a front of its text
 pub record AreCutAs (ps : List Listed) (old new : Files) (text : ℕ → OutputKind → List ℕ) : Type 0 where
-  pub each : (b : ℕ) (p : Listed) → slice_get ps b ≡ Some p → (j : ℕ) → j < output_count p → IsCut (old (output_name p j)) (new (output_name p j)) (text b (kind_at p j))
+  pub each : (b : ℕ) (p : Listed) → slice_get ps b ≡ Some p → (j : ℕ) → j < output_count p
+      → IsCut (old (output_name p j)) (new (output_name p j)) (text b (kind_at p j))
 
 -- ---- what is played
 -- the net of these bridges and wires over these files, and what it writes
 abbrev pub run_of : Bool → List NetMember → List Wire → Files → Files → NetRun
-run_of counters ms ws file before = record { net = net_of ms ws file; before = before; manifests = map (manifest_with counters) ms }
+run_of counters ms ws file before = record {
+  net = net_of ms ws file;
+  before = before;
+  manifests = map (manifest_with counters) ms;
+}
 
 -- Bridges that were read, whose captures were checked and are to be opened again.
-pub record IsToBeOpened (tells : Type 0) (ms : List NetMember) (ws : List Wire) (rests : List BridgeInputs) (file : Files) (checked : List (Vec CheckedCapture Global)) : Type 0 where
+pub record IsToBeOpened (tells : Type 0) (ms : List NetMember) (ws : List Wire) (rests : List BridgeInputs)
+    (file : Files) (checked : List (Vec CheckedCapture Global)) : Type 0 where
   pub rests_are : rests ≡ map rest_of ms
   pub read : AreRead ms ws
   pub checked_are : AreMembersChecked tells ms file checked
 
 -- A net that was read and taken apart, whose captures were checked and whose files were made.
-pub record IsPrepared (tells : Type 0) (counters : Bool) (ms : List NetMember) (ws : List Wire) (parts : NetParts) (checked : List (Vec CheckedCapture Global)) (before now : Files) (ids : ℕ → Id) (desks : List BridgeOutputs) : Type 0 where
+pub record IsPrepared (tells : Type 0) (counters : Bool) (ms : List NetMember) (ws : List Wire) (parts : NetParts)
+    (checked : List (Vec CheckedCapture Global)) (before now : Files) (ids : ℕ → Id) (desks : List BridgeOutputs) : Type
+    0 where
   pub parts_are : IsTakenApart ms ws parts
   pub read : AreRead ms ws
   pub checked_are : AreMembersChecked tells ms now checked
@@ -77,7 +87,8 @@ pub record IsPrepared (tells : Type 0) (counters : Bool) (ms : List NetMember) (
   pub noted : AreNoted tells now desks (no_dones (net_of ms ws now))
 
 -- And its programmes: all that comes is still to come.
-pub record CanPlay {V : Type 0} {X : V → Type 0} (tells : Type 0) (r : NetRun) (now : Files) (ids : ℕ → Id) (x : Bridges V X) (desks : List BridgeOutputs) (ps : List Timeline) : Type 0 where
+pub record CanPlay {V : Type 0} {X : V → Type 0} (tells : Type 0) (r : NetRun) (now : Files) (ids : ℕ
+    → Id) (x : Bridges V X) (desks : List BridgeOutputs) (ps : List Timeline) : Type 0 where
   pub timely : AreTimely r.net
   pub begun : IsBegun r.net x
   pub set : AreDesks tells r now ids desks

@@ -31,7 +31,8 @@ pub record IsReopened (start : ℕ) (r : BridgeInputs) (checked : List CheckedCa
   pub left : left_in p.captures ≤ sum_by (λ c. c.told.bytes + 1) checked
 
 -- whose captures were opened through new ids; where files are told, all of them is still to come
-pub record IsOpenedAgain (tells : Type 0) (start : ℕ) (r : BridgeInputs) (checked : List CheckedCapture) (file now : Files) (given ids : ℕ → Id) (p : Timeline) : Type 0 where
+pub record IsOpenedAgain (tells : Type 0) (start : ℕ) (r : BridgeInputs) (checked : List CheckedCapture)
+    (file now : Files) (given ids : ℕ → Id) (p : Timeline) : Type 0 where
   pub is : IsReopened start r checked p
   pub fresh : AllByRecursion (λ k. (given k).given ≡ false) (ids_in p.captures)
   pub named : AllByRecursion (λ k. ReadsCapture r.captures (ids k)) (ids_in p.captures)

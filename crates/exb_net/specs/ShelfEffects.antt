@@ -13,7 +13,8 @@ use Rattle.exb_inputs.specs.declared.fault.Fault.TheVariants.{MemberChanged}
 use Rattle.exb_net.specs.WrittenOutputs.{OnlyAllListed}
 
 -- no file but those of the manifests has changed, and only through these ids was read
-pub record OnlyGoesOnAll (tells : Type 0) (ps : List Listed) (mine : List ℕ) (old new : Files) (given ids : ℕ → Id) : Type 0 where
+pub record OnlyGoesOnAll (tells : Type 0) (ps : List Listed) (mine : List ℕ) (old new : Files) (given ids : ℕ
+    → Id) : Type 0 where
   pub others : tells → OnlyAllListed ps old new
   pub reads : ReadsOn mine given ids
 

@@ -32,7 +32,8 @@ pub record IsMore (told done : Stepped) (n : Network) : Type 0 where
 abbrev pub text_of : Stepped → List ℕ → OutputKind → List ℕ
 text_of d counts = text_so_far d.events d.left [] counts
 
--- The files of a desk hold the texts of what its bridge did, but for what isn't written yet; and what is counted is that.
+-- The files of a desk hold the texts of what its bridge did, but for what isn't written yet; and what is counted is
+-- that.
 pub record IsNoted (tells : Type 0) (now : Files) (d : BridgeOutputs) (done : Stepped) : Type 0 where
   pub counted : IsCounted d.manifest d.counted done.events done.passed done.left
   pub texts : tells → HasTexts d.manifest (pieces_of d.outputs) now now (text_of done [])
@@ -41,7 +42,8 @@ pub record IsNoted (tells : Type 0) (now : Files) (d : BridgeOutputs) (done : St
 -- each file of a manifest holds a front of such a text
 pub record AreFronts (manifest : Listed) (now : Files) (done : Stepped) : Type 0 where
   pub counts : List ℕ
-  pub each : (j : ℕ) → j < output_count manifest → (q : ℕ) × (now (output_name manifest j) ≡ Some (take q (text_of done counts (kind_at manifest j))))
+  pub each : (j : ℕ) → j < output_count manifest → (q : ℕ)
+      × (now (output_name manifest j) ≡ Some (take q (text_of done counts (kind_at manifest j))))
 
 -- each file of a manifest holds the text of its kind
 pub record IsWhole (manifest : Listed) (now : Files) (text : OutputKind → List ℕ) : Type 0 where
@@ -58,7 +60,8 @@ manifests_in ds = map (λ (d : BridgeOutputs). d.manifest) ds
 
 -- no two manifests have a file of one name
 pub record AreManifestsApart (ps : List Listed) : Type 0 where
-  pub each : (a b : ℕ) (p q : Listed) → slice_get ps a ≡ Some p → slice_get ps b ≡ Some q → a ≢ b → (i j : ℕ) → i < output_count p → j < output_count q → output_name p i ≢ output_name q j
+  pub each : (a b : ℕ) (p q : Listed) → slice_get ps a ≡ Some p → slice_get ps b ≡ Some q → a ≢ b → (i j : ℕ)
+      → i < output_count p → j < output_count q → output_name p i ≢ output_name q j
 
 -- the name of no file of any of them
 abbrev pub IsOther : List Listed → List ℕ → Type 0
@@ -97,7 +100,8 @@ pub record AllGoTogether {V : Type 0} {X : V → Type 0} (told : Dones) (nodes :
 pub record CanNoteAll {V : Type 0} {X : V → Type 0} (ds : List BridgeOutputs) (nodes : List (Node V X)) : Type 0 where
   pub whole : length ds ≡ length nodes
   pub few : length ds ≤ 16
-  pub each : (b : ℕ) (d : BridgeOutputs) (x : Node V X) → slice_get ds b ≡ Some d → slice_get nodes b ≡ Some x → CanNote d.manifest d.counted x.world
+  pub each : (b : ℕ) (d : BridgeOutputs) (x : Node V X) → slice_get ds b ≡ Some d → slice_get nodes b ≡ Some x
+      → CanNote d.manifest d.counted x.world
 
 -- ---- the end
 -- what was counted at each desk
@@ -117,4 +121,5 @@ pub record CanEndAll (ds : List BridgeOutputs) : Type 0 where
 
 -- the files of all desks hold the texts of what was done, and of what was counted
 pub record AreWhole (ds : List BridgeOutputs) (now : Files) (dones : Dones) : Type 0 where
-  pub each : (b : ℕ) (d : BridgeOutputs) → slice_get ds b ≡ Some d → IsWhole d.manifest now (text_of (dones b) (counts_text d.manifest d.counted.ports d.outputs))
+  pub each : (b : ℕ) (d : BridgeOutputs) → slice_get ds b ≡ Some d
+      → IsWhole d.manifest now (text_of (dones b) (counts_text d.manifest d.counted.ports d.outputs))

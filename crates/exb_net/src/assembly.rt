@@ -19,9 +19,12 @@ fn make_one(
 ) -> Result<(), NoMemory>
     requires valid { All IsValid setup.now.setups }
     requires within { length nodes.old.items < length setup.now.setups }
-    ensures ok { OnOk result (AreFirst setup.now.wires setup.now.setups nodes.old.items → AreFirst setup.now.wires setup.now.setups nodes.new.items) }
+    ensures ok { OnOk result (AreFirst setup.now.wires setup.now.setups nodes.old.items
+        → AreFirst setup.now.wires setup.now.setups nodes.new.items) }
     ensures long { OnOk result (length nodes.new.items ≡ length nodes.old.items + 1) }
-    ensures fate { OnOk result ((fs : _) → AreEach (λ b f x. left x.fate ≡ left f) fs nodes.old.items → AreEach (λ b f x. left x.fate ≡ left f) (fs ++ fate ∷ []) nodes.new.items) }
+    ensures fate { OnOk result ((fs : _) → AreEach (λ b f x. left x.fate ≡ left f) fs
+        nodes.old.items → AreEach (λ b f x. left x.fate ≡ left f) (fs ++ fate ∷ [])
+        nodes.new.items) }
 {
     let bridge = nodes.len();
     let setups = setup.setups.as_slice();
@@ -43,7 +46,8 @@ pub(crate) fn make_all(
     requires none { nodes.old.items ≡ [] }
     ensures ok { OnOk result (AreFirst setup.now.wires setup.now.setups nodes.new.items) }
     ensures long { OnOk result (length nodes.new.items ≡ length setup.now.setups) }
-    ensures fates { OnOk result (AreEach (λ b f x. left x.fate ≡ left f) fates.old.items nodes.new.items) }
+    ensures fates { OnOk result (AreEach (λ b f x. left x.fate ≡ left f) fates.old.items
+        nodes.new.items) }
 {
     for _bridge in 0..setup.setups.as_slice().len() {
         make_one(alloc, setup, fates.remove(0), nodes)?;

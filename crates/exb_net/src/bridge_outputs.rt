@@ -45,14 +45,20 @@ fn write_new<S: Shelf>(
     requires ready { IsReady manifest.now (S.ids shelf.old) outputs.old }
     requires frames { All (λ x. CanBeWritten manifest.now x) world.now.log.left }
     ensures ready { IsReady manifest.now (S.ids shelf.new) outputs.new }
-    ensures texts { S.tells → OnOk result ((orig : Files) (text : OutputKind → List ℕ) → HasTexts manifest.now (pieces_of outputs.old) orig (S.file shelf.old) text
+    ensures texts { S.tells → OnOk result ((orig : Files) (text : OutputKind → List ℕ)
+        → HasTexts manifest.now (pieces_of outputs.old) orig (S.file shelf.old) text
         → HasTexts manifest.now (pieces_of outputs.new) orig (S.file shelf.new)
-        (with_left_frames (with_more text output.Journal (lines_of world.now.log.events)) world.now.log.left)) }
-    ensures cut { S.tells → OnErr result ((orig : Files) (text : OutputKind → List ℕ) → HasTexts manifest.now (pieces_of outputs.old) orig (S.file shelf.old) text
+        (with_left_frames (with_more text output.Journal (lines_of world.now.log.events))
+        world.now.log.left)) }
+    ensures cut { S.tells → OnErr result ((orig : Files) (text : OutputKind → List ℕ)
+        → HasTexts manifest.now (pieces_of outputs.old) orig (S.file shelf.old) text
         → AreCut manifest.now orig (S.file shelf.new)
-        (with_left_frames (with_more text output.Journal (lines_of world.now.log.events)) world.now.log.left)) }
-    ensures sent { OnOk result ((sent : ℕ → List Sent) → HasSent manifest.now outputs.old sent → HasSent manifest.now outputs.new (sent_with sent world.now.log.left)) }
-    ensures only { OnlyWrites S.tells manifest.now (S.file shelf.old) (S.file shelf.new) (S.ids shelf.old) (S.ids shelf.new) }
+        (with_left_frames (with_more text output.Journal (lines_of world.now.log.events))
+        world.now.log.left)) }
+    ensures sent { OnOk result ((sent : ℕ → List Sent) → HasSent manifest.now outputs.old sent
+        → HasSent manifest.now outputs.new (sent_with sent world.now.log.left)) }
+    ensures only { OnlyWrites S.tells manifest.now (S.file shelf.old) (S.file shelf.new)
+        (S.ids shelf.old) (S.ids shelf.new) }
     ensures faults { CountsWrites result (S.faults shelf.old) (S.faults shelf.new) }
 {
     write_events(shelf, manifest, outputs, &mut room.line, world.events())?;
@@ -70,11 +76,15 @@ pub(crate) fn note<S: Shelf>(
     requires can { CanNote desk.old.manifest desk.old.counted world.now }
     ensures manifest { desk.new.manifest ≡ desk.old.manifest }
     ensures ready { IsReady desk.new.manifest (S.ids shelf.new) desk.new.outputs }
-    ensures noted { OnOk result ((told done : Stepped) → GoTogether told.events told.passed → IsMore told done world.now
-        → IsNoted S.tells (S.file shelf.old) desk.old told → IsNoted S.tells (S.file shelf.new) desk.new done) }
+    ensures noted { OnOk result ((told done : Stepped) → GoTogether told.events told.passed
+        → IsMore told done world.now
+        → IsNoted S.tells (S.file shelf.old) desk.old told
+        → IsNoted S.tells (S.file shelf.new) desk.new done) }
     ensures cut { S.tells → OnErr result ((told done : Stepped) → IsMore told done world.now
-        → IsNoted S.tells (S.file shelf.old) desk.old told → AreFronts desk.old.manifest (S.file shelf.new) done) }
-    ensures only { OnlyWrites S.tells desk.old.manifest (S.file shelf.old) (S.file shelf.new) (S.ids shelf.old) (S.ids shelf.new) }
+        → IsNoted S.tells (S.file shelf.old) desk.old told
+        → AreFronts desk.old.manifest (S.file shelf.new) done) }
+    ensures only { OnlyWrites S.tells desk.old.manifest (S.file shelf.old) (S.file shelf.new)
+        (S.ids shelf.old) (S.ids shelf.new) }
     ensures faults { CountsWrites result (S.faults shelf.old) (S.faults shelf.new) }
 {
     write_new(shelf, room, &desk.manifest, &mut desk.outputs, world)?;
@@ -98,11 +108,16 @@ fn write_counts<S: Shelf>(
     requires counted { AreCountsOf manifest.now counted.now.ports }
     requires sent { AreCountedAt manifest.now outputs.old }
     ensures ready { IsReady manifest.now (S.ids shelf.new) outputs.new }
-    ensures texts { S.tells → OnOk result ((orig : Files) (text : OutputKind → List ℕ) → HasTexts manifest.now (pieces_of outputs.old) orig (S.file shelf.old) text
-        → HasTexts manifest.now (pieces_of outputs.new) orig (S.file shelf.new) (with_more text output.Counters (counts_text manifest.now counted.now.ports outputs.old))) }
-    ensures cut { S.tells → OnErr result ((orig : Files) (text : OutputKind → List ℕ) → HasTexts manifest.now (pieces_of outputs.old) orig (S.file shelf.old) text
-        → AreCut manifest.now orig (S.file shelf.new) (with_more text output.Counters (counts_text manifest.now counted.now.ports outputs.old))) }
-    ensures only { OnlyWrites S.tells manifest.now (S.file shelf.old) (S.file shelf.new) (S.ids shelf.old) (S.ids shelf.new) }
+    ensures texts { S.tells → OnOk result ((orig : Files) (text : OutputKind → List ℕ)
+        → HasTexts manifest.now (pieces_of outputs.old) orig (S.file shelf.old) text
+        → HasTexts manifest.now (pieces_of outputs.new) orig (S.file shelf.new)
+        (with_more text output.Counters (counts_text manifest.now counted.now.ports outputs.old))) }
+    ensures cut { S.tells → OnErr result ((orig : Files) (text : OutputKind → List ℕ)
+        → HasTexts manifest.now (pieces_of outputs.old) orig (S.file shelf.old) text
+        → AreCut manifest.now orig (S.file shelf.new)
+        (with_more text output.Counters (counts_text manifest.now counted.now.ports outputs.old))) }
+    ensures only { OnlyWrites S.tells manifest.now (S.file shelf.old) (S.file shelf.new)
+        (S.ids shelf.old) (S.ids shelf.new) }
     ensures faults { CountsWrites result (S.faults shelf.old) (S.faults shelf.new) }
 {
     match &counted.ports {
@@ -122,10 +137,15 @@ pub(crate) fn finish<S: Shelf>(
     requires sent { AreCountedAt desk.old.manifest desk.old.outputs }
     ensures manifest { desk.new.manifest ≡ desk.old.manifest }
     ensures counted { desk.new.counted ≡ desk.old.counted }
-    ensures texts { S.tells → OnOk result ((done : Stepped) → IsNoted S.tells (S.file shelf.old) desk.old done
-        → IsWhole desk.old.manifest (S.file shelf.new) (text_of done (counts_text desk.old.manifest desk.old.counted.ports desk.old.outputs))) }
-    ensures cut { S.tells → OnErr result ((done : Stepped) → IsNoted S.tells (S.file shelf.old) desk.old done → AreFronts desk.old.manifest (S.file shelf.new) done) }
-    ensures only { OnlyWrites S.tells desk.old.manifest (S.file shelf.old) (S.file shelf.new) (S.ids shelf.old) (S.ids shelf.new) }
+    ensures texts { S.tells → OnOk result ((done : Stepped)
+        → IsNoted S.tells (S.file shelf.old) desk.old done
+        → IsWhole desk.old.manifest (S.file shelf.new)
+        (text_of done (counts_text desk.old.manifest desk.old.counted.ports desk.old.outputs))) }
+    ensures cut { S.tells → OnErr result ((done : Stepped)
+        → IsNoted S.tells (S.file shelf.old) desk.old done
+        → AreFronts desk.old.manifest (S.file shelf.new) done) }
+    ensures only { OnlyWrites S.tells desk.old.manifest (S.file shelf.old) (S.file shelf.new)
+        (S.ids shelf.old) (S.ids shelf.new) }
     ensures faults { CountsWrites result (S.faults shelf.old) (S.faults shelf.new) }
 {
     write_counts(

@@ -47,14 +47,17 @@ impl BridgeSet {
 
     /// Puts the bridges of another set in.
     pub(crate) fn join(&mut self, others: BridgeSet)
-        ensures { (b : ℕ) → mark_of self.new b ≡ 0 → (mark_of self.old b ≡ 0) × (mark_of others b ≡ 0) }
+        ensures { (b : ℕ) → mark_of self.new b ≡ 0 → (mark_of self.old b ≡ 0)
+            × (mark_of others b ≡ 0) }
     {
         self.bits |= others.bits;
     }
 
-    /// A bridge, from this one on, before which none from this one on is in the set; None where none is.
+    /// A bridge, from this one on, before which none from this one on is in the set; None where
+    /// none is.
     pub(crate) fn first_from(&self, from: usize) -> Option<usize>
-        ensures found { IfSome result (λ b. (from ≤ b) × ((c : ℕ) → from ≤ c → c < b → mark_of self.now c ≡ 0)) }
+        ensures found { IfSome result (λ b. (from ≤ b) × ((c : ℕ) → from ≤ c → c < b
+            → mark_of self.now c ≡ 0)) }
         ensures none { IfNone result ((c : ℕ) → from ≤ c → mark_of self.now c ≡ 0) }
     {
         let rest = self.bits >> from.min(LAST);

@@ -15,7 +15,8 @@ use exb_schedule::Left;
 use std::alloc::Global;
 use std::collections::VecDeque;
 
-/// A frame that left a wired port, on its way to the far end of the wire, with the moment of its record.
+/// A frame that left a wired port, on its way to the far end of the wire, with the moment of its
+/// record.
 #[derive(Drop)]
 pub struct Crossing {
     pub to: End,
@@ -31,7 +32,9 @@ fn put(
     frame: &Left,
     queue: &mut VecDeque<Crossing>,
 ) -> Result<(), NoMemory>
-    ensures { OnOk result (all_crossing queue.new.items ≡ all_crossing queue.old.items ++ crosses (Some end.now.far) (left_at end.now.port (copies_at frame.now.moment frame.now.bytes (port ∷ [])))) }
+    ensures { OnOk result (all_crossing queue.new.items ≡ all_crossing queue.old.items
+        ++ crosses (Some end.now.far) (left_at end.now.port
+        (copies_at frame.now.moment frame.now.bytes (port ∷ [])))) }
 {
     if port != end.port {
         return Ok(());
@@ -54,7 +57,9 @@ fn put_or_skip(
     queue: &mut VecDeque<Crossing>,
 ) -> Result<(), NoMemory>
     ensures skip { skip.new ≡ skip.old - 1 }
-    ensures put { OnOk result (all_crossing queue.new.items ≡ all_crossing queue.old.items ++ crosses (Some end.now.far) (left_at end.now.port (drop skip.old (copies_at frame.now.moment frame.now.bytes (port ∷ []))))) }
+    ensures put { OnOk result (all_crossing queue.new.items ≡ all_crossing queue.old.items
+        ++ crosses (Some end.now.far) (left_at end.now.port
+        (drop skip.old (copies_at frame.now.moment frame.now.bytes (port ∷ []))))) }
 {
     if *skip > 0 {
         *skip -= 1;
@@ -72,7 +77,9 @@ fn put_row(
     queue: &mut VecDeque<Crossing>,
 ) -> Result<(), NoMemory>
     ensures skip { OnOk result (skip.new ≡ skip.old - length (copies_of frame.now)) }
-    ensures put { OnOk result (all_crossing queue.new.items ≡ all_crossing queue.old.items ++ crosses (Some end.now.far) (left_at end.now.port (drop skip.old (copies_of frame.now)))) }
+    ensures put { OnOk result (all_crossing queue.new.items ≡ all_crossing queue.old.items
+        ++ crosses (Some end.now.far) (left_at end.now.port
+        (drop skip.old (copies_of frame.now)))) }
 {
     let mut rest = frame.row;
     while let Some(port) = rest.next() {
@@ -81,7 +88,8 @@ fn put_row(
     Ok(())
 }
 
-/// Puts copies of the frames that left a wired port, but for the first so many that left at all, at the end of the queue.
+/// Puts copies of the frames that left a wired port, but for the first so many that left at all, at
+/// the end of the queue.
 fn send_over(
     alloc: Global,
     end: &WiredPort,
@@ -89,7 +97,8 @@ fn send_over(
     before: u128,
     queue: &mut VecDeque<Crossing>,
 ) -> Result<(), NoMemory>
-    ensures { OnOk result (all_crossing queue.new.items ≡ all_crossing queue.old.items ++ crosses (Some end.now.far) (left_at end.now.port (drop before (all_left left.now)))) }
+    ensures { OnOk result (all_crossing queue.new.items ≡ all_crossing queue.old.items
+        ++ crosses (Some end.now.far) (left_at end.now.port (drop before (all_left left.now)))) }
 {
     let mut skip = before;
     for frame in left {
@@ -106,7 +115,8 @@ pub(crate) fn send(
     before: u128,
     queue: &mut VecDeque<Crossing>,
 ) -> Result<(), NoMemory>
-    ensures { OnOk result (all_crossing queue.new.items ≡ all_crossing queue.old.items ++ sent_over (drop before (all_left left.now)) ends.now) }
+    ensures { OnOk result (all_crossing queue.new.items ≡ all_crossing queue.old.items
+        ++ sent_over (drop before (all_left left.now)) ends.now) }
 {
     for end in ends {
         send_over(alloc, end, left, before, queue)?;

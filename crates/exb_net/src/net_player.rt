@@ -56,8 +56,9 @@ fn seconds_since(last: Option<u64>, second: u64) -> u32
     }
 }
 
-/// Takes what comes next; None exactly where nothing is left. A capture of a bridge that is another one than the one that was checked is
-/// a fault of that bridge. A record's bytes come in `buffer`, which is written anew.
+/// Takes what comes next; None exactly where nothing is left. A capture of a bridge that is another
+/// one than the one that was checked is a fault of that bridge. A record's bytes come in `buffer`,
+/// which is written anew.
 fn next_due<S: Shelf>(
     alloc: Global,
     shelf: &mut S,
@@ -68,13 +69,21 @@ fn next_due<S: Shelf>(
     requires agenda { IsAgenda (S.ids shelf.old) agenda.old }
     requires rests { length (programmes_in agenda.old) ≤ length rests.now }
     ensures agenda { OnOk result (IsAgenda (S.ids shelf.new) agenda.new) }
-    ensures coming { IfOk result (λ due. IfSome due (λ d. ComesTo (programmes_in agenda.old) d (programmes_in agenda.new))) }
-    ensures order { S.tells → IfOk result (λ due. (streams : List (List Stream)) → AreAllReplays (S.file shelf.old) (S.ids shelf.old) (programmes_in agenda.old) streams
-        → IsFirstOf (programmes_in agenda.old) streams due (programmes_in agenda.new) (λ rest. AreAllReplays (S.file shelf.new) (S.ids shelf.new) (programmes_in agenda.new) rest)) }
-    ensures never { S.tells → IfErr result (λ fault. IsNetChange fault → AreOthersAll (S.file shelf.old) (S.ids shelf.old) (programmes_in agenda.old)) }
-    ensures ids { OnOk result (all_ids (programmes_in agenda.new) ≡ all_ids (programmes_in agenda.old)) }
-    ensures reads { OnlyReads (all_ids (programmes_in agenda.old)) (S.file shelf.old) (S.file shelf.new) (S.ids shelf.old) (S.ids shelf.new) }
-    ensures changed { (name : List ℕ) (p at : ℕ) → IsErrOf result (Fault.MemberChanged name p at) → IsOfCaptures rests.now (programmes_in agenda.old) name p }
+    ensures coming { IfOk result (λ due.
+        IfSome due (λ d. ComesTo (programmes_in agenda.old) d (programmes_in agenda.new))) }
+    ensures order { S.tells → IfOk result (λ due. (streams : List (List Stream))
+        → AreAllReplays (S.file shelf.old) (S.ids shelf.old) (programmes_in agenda.old) streams
+        → IsFirstOf (programmes_in agenda.old) streams due (programmes_in agenda.new)
+        (λ rest. AreAllReplays (S.file shelf.new) (S.ids shelf.new) (programmes_in agenda.new)
+        rest)) }
+    ensures never { S.tells → IfErr result (λ fault. IsNetChange fault
+        → AreOthersAll (S.file shelf.old) (S.ids shelf.old) (programmes_in agenda.old)) }
+    ensures ids { OnOk result (all_ids (programmes_in agenda.new)
+        ≡ all_ids (programmes_in agenda.old)) }
+    ensures reads { OnlyReads (all_ids (programmes_in agenda.old)) (S.file shelf.old)
+        (S.file shelf.new) (S.ids shelf.old) (S.ids shelf.new) }
+    ensures changed { (name : List ℕ) (p at : ℕ) → IsErrOf result (Fault.MemberChanged name p at)
+        → IsOfCaptures rests.now (programmes_in agenda.old) name p }
     ensures causes { IfErr result IsOfNetPlay }
     ensures faults { CountsFaults result (S.faults shelf.old) (S.faults shelf.new) }
 {
@@ -97,12 +106,18 @@ fn give(
     due: NetNext,
     buffer: &mut Vec<u8>,
 ) -> Result<(), WorldFault>
-    requires can { (n : Wired) × ((s : Dones) × ((told : Dones) × CanGive n s told rests.now due net.old)) }
+    requires can { (n : Wired)
+        × ((s : Dones) × ((told : Dones) × CanGive n s told rests.now due net.old)) }
     requires fates { All (λ x. left x.fate < 2 ^ 57) net.old.nodes.items }
-    requires pays { (x : _) → slice_get net.old.nodes.items due.bridge ≡ Some x → left x.fate + letters_at rests.now due due.bridge < 2 ^ 57 }
-    ensures ok { OnOk result ((n : Wired) (s told : Dones) (can : CanGive n s told rests.now due net.old) → Handled n due.bridge can.step s told net.new) }
+    requires pays { (x : _) → slice_get net.old.nodes.items due.bridge ≡ Some x
+        → left x.fate + letters_at rests.now due due.bridge < 2 ^ 57 }
+    ensures ok { OnOk result ((n : Wired) (s told : Dones)
+        (can : CanGive n s told rests.now due net.old)
+        → Handled n due.bridge can.step s told net.new) }
     ensures came { OnOk result (net.new.came ≡ net.old.came + came_by due.next) }
-    ensures fates { OnOk result (AreEach (λ b x y. left y.fate ≤ left x.fate + letters_at rests.now due b) net.old.nodes.items net.new.nodes.items) }
+    ensures fates { OnOk result
+        (AreEach (λ b x y. left y.fate ≤ left x.fate + letters_at rests.now due b)
+        net.old.nodes.items net.new.nodes.items) }
 {
     let bridge = due.bridge;
     match due.next {
@@ -118,7 +133,8 @@ fn give(
     }
 }
 
-/// Writes and counts what all bridges told, and what left them, since they were cleared; those alone are looked at to which something came.
+/// Writes and counts what all bridges told, and what left them, since they were cleared; those
+/// alone are looked at to which something came.
 fn note_all<S: Shelf>(
     shelf: &mut S,
     room: &mut NetLineScratch,
@@ -130,11 +146,16 @@ fn note_all<S: Shelf>(
     requires can { CanNoteAll desks.old.items net.now.nodes.items }
     ensures manifests { manifests_in desks.new.items ≡ manifests_in desks.old.items }
     ensures ready { AreReady (S.ids shelf.new) desks.new.items }
-    ensures noted { OnOk result ((told dones : Dones) → AllGoTogether told net.now.nodes.items → AreMore told dones net.now.nodes.items
-        → AreNoted S.tells (S.file shelf.old) desks.old.items told → AreNoted S.tells (S.file shelf.new) desks.new.items dones) }
-    ensures cut { S.tells → OnErr result ((told dones : Dones) → AllGoTogether told net.now.nodes.items → AreMore told dones net.now.nodes.items
-        → AreNoted S.tells (S.file shelf.old) desks.old.items told → AreAllFronts (manifests_in desks.old.items) (S.file shelf.new) dones) }
-    ensures only { OnlyWritesAll S.tells (manifests_in desks.old.items) (S.file shelf.old) (S.file shelf.new) (S.ids shelf.old) (S.ids shelf.new) }
+    ensures noted { OnOk result ((told dones : Dones) → AllGoTogether told net.now.nodes.items
+        → AreMore told dones net.now.nodes.items
+        → AreNoted S.tells (S.file shelf.old) desks.old.items told
+        → AreNoted S.tells (S.file shelf.new) desks.new.items dones) }
+    ensures cut { S.tells → OnErr result ((told dones : Dones)
+        → AllGoTogether told net.now.nodes.items → AreMore told dones net.now.nodes.items
+        → AreNoted S.tells (S.file shelf.old) desks.old.items told
+        → AreAllFronts (manifests_in desks.old.items) (S.file shelf.new) dones) }
+    ensures only { OnlyWritesAll S.tells (manifests_in desks.old.items) (S.file shelf.old)
+        (S.file shelf.new) (S.ids shelf.old) (S.ids shelf.new) }
     ensures faults { CountsWrites result (S.faults shelf.old) (S.faults shelf.new) }
 {
     let mut from = 0;
@@ -156,9 +177,14 @@ fn finish_all<S: Shelf>(
     requires can { CanEndAll desks.old.items }
     ensures manifests { manifests_in desks.new.items ≡ manifests_in desks.old.items }
     ensures tallies { tallies_in desks.new.items ≡ tallies_in desks.old.items }
-    ensures texts { S.tells → OnOk result ((dones : Dones) → AreNoted S.tells (S.file shelf.old) desks.old.items dones → AreWhole desks.old.items (S.file shelf.new) dones) }
-    ensures cut { S.tells → OnErr result ((dones : Dones) → AreNoted S.tells (S.file shelf.old) desks.old.items dones → AreAllFronts (manifests_in desks.old.items) (S.file shelf.new) dones) }
-    ensures only { OnlyWritesAll S.tells (manifests_in desks.old.items) (S.file shelf.old) (S.file shelf.new) (S.ids shelf.old) (S.ids shelf.new) }
+    ensures texts { S.tells → OnOk result ((dones : Dones)
+        → AreNoted S.tells (S.file shelf.old) desks.old.items dones
+        → AreWhole desks.old.items (S.file shelf.new) dones) }
+    ensures cut { S.tells → OnErr result ((dones : Dones)
+        → AreNoted S.tells (S.file shelf.old) desks.old.items dones
+        → AreAllFronts (manifests_in desks.old.items) (S.file shelf.new) dones) }
+    ensures only { OnlyWritesAll S.tells (manifests_in desks.old.items) (S.file shelf.old)
+        (S.file shelf.new) (S.ids shelf.old) (S.ids shelf.new) }
     ensures faults { CountsWrites result (S.faults shelf.old) (S.faults shelf.new) }
 {
     for bridge in 0..desks.len() {
@@ -187,14 +213,23 @@ impl NetPlayer {
         requires can { CanNoteAll self.old.desks.items self.old.net.nodes.items }
         ensures manifests { manifests_in self.new.desks.items ≡ manifests_in self.old.desks.items }
         ensures ready { AreReady (S.ids shelf.new) self.new.desks.items }
-        ensures noted { OnOk result ((told dones : Dones) → AllGoTogether told self.old.net.nodes.items → AreMore told dones self.old.net.nodes.items
-            → AreNoted S.tells (S.file shelf.old) self.old.desks.items told → AreNoted S.tells (S.file shelf.new) self.new.desks.items dones) }
-        ensures cut { S.tells → OnErr result ((told dones : Dones) → AllGoTogether told self.old.net.nodes.items → AreMore told dones self.old.net.nodes.items
-            → AreNoted S.tells (S.file shelf.old) self.old.desks.items told → AreAllFronts (manifests_in self.old.desks.items) (S.file shelf.new) dones) }
-        ensures playing { OnOk result ((n : Wired) (s told : Dones) → IsPlaying n s told self.old.net → IsPlaying n s s self.new.net) }
+        ensures noted { OnOk result ((told dones : Dones)
+            → AllGoTogether told self.old.net.nodes.items
+            → AreMore told dones self.old.net.nodes.items
+            → AreNoted S.tells (S.file shelf.old) self.old.desks.items told
+            → AreNoted S.tells (S.file shelf.new) self.new.desks.items dones) }
+        ensures cut { S.tells → OnErr result ((told dones : Dones)
+            → AllGoTogether told self.old.net.nodes.items
+            → AreMore told dones self.old.net.nodes.items
+            → AreNoted S.tells (S.file shelf.old) self.old.desks.items told
+            → AreAllFronts (manifests_in self.old.desks.items) (S.file shelf.new) dones) }
+        ensures playing { OnOk result ((n : Wired) (s told : Dones)
+            → IsPlaying n s told self.old.net → IsPlaying n s s self.new.net) }
         ensures came { OnOk result (self.new.net.came ≡ self.old.net.came) }
-        ensures fates { OnOk result (AreEach (λ b x y. left y.fate ≤ left x.fate) self.old.net.nodes.items self.new.net.nodes.items) }
-        ensures only { OnlyWritesAll S.tells (manifests_in self.old.desks.items) (S.file shelf.old) (S.file shelf.new) (S.ids shelf.old) (S.ids shelf.new) }
+        ensures fates { OnOk result (AreEach (λ b x y. left y.fate ≤ left x.fate)
+            self.old.net.nodes.items self.new.net.nodes.items) }
+        ensures only { OnlyWritesAll S.tells (manifests_in self.old.desks.items) (S.file shelf.old)
+            (S.file shelf.new) (S.ids shelf.old) (S.ids shelf.new) }
         ensures faults { CountsWrites result (S.faults shelf.old) (S.faults shelf.new) }
     {
         note_all(shelf, &mut self.room, &mut self.desks, &self.net)?;
@@ -202,7 +237,8 @@ impl NetPlayer {
         Ok(())
     }
 
-    /// Lets seconds pass, plays what comes then, and writes and counts what happens. A record's buffer is given back.
+    /// Lets seconds pass, plays what comes then, and writes and counts what happens. A record's
+    /// buffer is given back.
     fn turn<S: Shelf>(
         &mut self,
         shelf: &mut S,
@@ -211,14 +247,25 @@ impl NetPlayer {
         due: NetNext,
         buffer: &mut Vec<u8>,
     ) -> Result<(), ShelfFault>
-        requires due { (r : NetRun) × ((second : ℕ) × ((ps : List Timeline) × (IsDue S.tells r (S.file shelf.old) (S.ids shelf.old) seconds second self.old due ps × (AreOfRests rests.now ps × IsPaid self.old.net.nodes.items (λ x. left x.fate) rests.now due ps)))) }
+        requires due { (r : NetRun)
+            × ((second : ℕ) × ((ps : List Timeline)
+            × (IsDue S.tells r (S.file shelf.old) (S.ids shelf.old) seconds second self.old due ps
+            × (AreOfRests rests.now ps × IsPaid self.old.net.nodes.items (λ x. left x.fate)
+            rests.now due ps)))) }
         ensures manifests { manifests_in self.new.desks.items ≡ manifests_in self.old.desks.items }
-        ensures told { OnOk result ((r : NetRun) (second : ℕ) (ps : List Timeline) → IsDue S.tells r (S.file shelf.old) (S.ids shelf.old) seconds second self.old due ps → AreOfRests rests.now ps
+        ensures told { OnOk result ((r : NetRun) (second : ℕ) (ps : List Timeline)
+            → IsDue S.tells r (S.file shelf.old) (S.ids shelf.old) seconds second self.old due ps
+            → AreOfRests rests.now ps
             → IsGoing S.tells r (S.file shelf.new) (S.ids shelf.new) (Some second) self.new ps) }
-        ensures budget { OnOk result ((ps : List Timeline) → IsPaid self.old.net.nodes.items (λ x. left x.fate) rests.now due ps → IsWithin self.new.net.nodes.items (λ x. left x.fate) ps) }
-        ensures cut { S.tells → OnErr result ((r : NetRun) (second : ℕ) (ps : List Timeline) → IsDue S.tells r (S.file shelf.old) (S.ids shelf.old) seconds second self.old due ps → AreOfRests rests.now ps
+        ensures budget { OnOk result ((ps : List Timeline)
+            → IsPaid self.old.net.nodes.items (λ x. left x.fate) rests.now due ps
+            → IsWithin self.new.net.nodes.items (λ x. left x.fate) ps) }
+        ensures cut { S.tells → OnErr result ((r : NetRun) (second : ℕ) (ps : List Timeline)
+            → IsDue S.tells r (S.file shelf.old) (S.ids shelf.old) seconds second self.old due ps
+            → AreOfRests rests.now ps
             → IsCutOff r (S.file shelf.new)) }
-        ensures only { OnlyWritesAll S.tells (manifests_in self.old.desks.items) (S.file shelf.old) (S.file shelf.new) (S.ids shelf.old) (S.ids shelf.new) }
+        ensures only { OnlyWritesAll S.tells (manifests_in self.old.desks.items) (S.file shelf.old)
+            (S.file shelf.new) (S.ids shelf.old) (S.ids shelf.new) }
         ensures faults { CountsWrites result (S.faults shelf.old) (S.faults shelf.new) }
     {
         agendas_stay();
@@ -244,19 +291,30 @@ impl NetPlayer {
     ) -> Result<(), Fault>
         requires agenda { IsAgenda (S.ids shelf.old) agenda.old }
         requires rests { AreOfRests rests.now (programmes_in agenda.old) }
-        requires going { (r : NetRun) × IsGoing S.tells r (S.file shelf.old) (S.ids shelf.old) None self.old (programmes_in agenda.old) }
-        requires budget { IsWithin self.old.net.nodes.items (λ x. left x.fate) (programmes_in agenda.old) }
+        requires going { (r : NetRun) × IsGoing S.tells r (S.file shelf.old) (S.ids shelf.old) None
+            self.old (programmes_in agenda.old) }
+        requires budget { IsWithin self.old.net.nodes.items (λ x. left x.fate)
+            (programmes_in agenda.old) }
         ensures manifests { manifests_in self.new.desks.items ≡ manifests_in self.old.desks.items }
         ensures ready { OnOk result (AreReady (S.ids shelf.new) self.new.desks.items) }
         ensures can { OnOk result (CanEndAll self.new.desks.items) }
-        ensures told { S.tells → OnOk result ((r : NetRun) → IsGoing S.tells r (S.file shelf.old) (S.ids shelf.old) None self.old (programmes_in agenda.old)
+        ensures told { S.tells → OnOk result ((r : NetRun)
+            → IsGoing S.tells r (S.file shelf.old) (S.ids shelf.old) None self.old
+            (programmes_in agenda.old)
             → IsAllTold S.tells r (S.file shelf.new) (S.ids shelf.new) self.new) }
-        ensures cut { S.tells → OnErr result ((r : NetRun) → IsGoing S.tells r (S.file shelf.old) (S.ids shelf.old) None self.old (programmes_in agenda.old)
+        ensures cut { S.tells → OnErr result ((r : NetRun)
+            → IsGoing S.tells r (S.file shelf.old) (S.ids shelf.old) None self.old
+            (programmes_in agenda.old)
             → IsCutOff r (S.file shelf.new)) }
         ensures never { S.tells → IfErr result (λ fault. IsNetChange fault → (r : NetRun)
-            → IsGoing S.tells r (S.file shelf.old) (S.ids shelf.old) None self.old (programmes_in agenda.old) → ⊥) }
-        ensures only { OnlyGoesOnAll S.tells (manifests_in self.old.desks.items) (all_ids (programmes_in agenda.old)) (S.file shelf.old) (S.file shelf.new) (S.ids shelf.old) (S.ids shelf.new) }
-        ensures changed { (name : List ℕ) (p at : ℕ) → IsErrOf result (Fault.MemberChanged name p at) → IsOfCaptures rests.now (programmes_in agenda.old) name p }
+            → IsGoing S.tells r (S.file shelf.old) (S.ids shelf.old) None self.old
+            (programmes_in agenda.old) → ⊥) }
+        ensures only { OnlyGoesOnAll S.tells (manifests_in self.old.desks.items)
+            (all_ids (programmes_in agenda.old)) (S.file shelf.old) (S.file shelf.new)
+            (S.ids shelf.old) (S.ids shelf.new) }
+        ensures changed { (name : List ℕ) (p at : ℕ)
+            → IsErrOf result (Fault.MemberChanged name p at)
+            → IsOfCaptures rests.now (programmes_in agenda.old) name p }
         ensures causes { IfErr result IsOfNetPlay }
         ensures faults { CountsFaults result (S.faults shelf.old) (S.faults shelf.new) }
     {
@@ -277,10 +335,16 @@ impl NetPlayer {
         requires ready { AreReady (S.ids shelf.old) self.old.desks.items }
         requires apart { AreManifestsApart (manifests_in self.old.desks.items) }
         requires can { CanEndAll self.old.desks.items }
-        ensures texts { S.tells → OnOk result ((dones : Dones) → AreNoted S.tells (S.file shelf.old) self.old.desks.items dones → AreWhole self.old.desks.items (S.file shelf.new) dones) }
-        ensures cut { S.tells → OnErr result ((dones : Dones) → AreNoted S.tells (S.file shelf.old) self.old.desks.items dones → AreAllFronts (manifests_in self.old.desks.items) (S.file shelf.new) dones) }
-        ensures line { IfOk result (λ line. string_bytes line ≡ summary_line (added (tallies_in self.old.desks.items))) }
-        ensures only { OnlyWritesAll S.tells (manifests_in self.old.desks.items) (S.file shelf.old) (S.file shelf.new) (S.ids shelf.old) (S.ids shelf.new) }
+        ensures texts { S.tells → OnOk result ((dones : Dones)
+            → AreNoted S.tells (S.file shelf.old) self.old.desks.items dones
+            → AreWhole self.old.desks.items (S.file shelf.new) dones) }
+        ensures cut { S.tells → OnErr result ((dones : Dones)
+            → AreNoted S.tells (S.file shelf.old) self.old.desks.items dones
+            → AreAllFronts (manifests_in self.old.desks.items) (S.file shelf.new) dones) }
+        ensures line { IfOk result (λ line. string_bytes line
+            ≡ summary_line (added (tallies_in self.old.desks.items))) }
+        ensures only { OnlyWritesAll S.tells (manifests_in self.old.desks.items) (S.file shelf.old)
+            (S.file shelf.new) (S.ids shelf.old) (S.ids shelf.new) }
         ensures causes { IfErr result IsOfWriting }
         ensures faults { CountsFaults result (S.faults shelf.old) (S.faults shelf.new) }
     {
@@ -298,17 +362,28 @@ impl NetPlayer {
     ) -> Result<String, Fault>
         requires agenda { IsAgenda (S.ids shelf.old) agenda.old }
         requires rests { AreOfRests rests.now (programmes_in agenda.old) }
-        requires going { (r : NetRun) × IsGoing S.tells r (S.file shelf.old) (S.ids shelf.old) None self.old (programmes_in agenda.old) }
-        requires budget { IsWithin self.old.net.nodes.items (λ x. left x.fate) (programmes_in agenda.old) }
-        ensures done { S.tells → IfOk result (λ line. (r : NetRun) → IsGoing S.tells r (S.file shelf.old) (S.ids shelf.old) None self.old (programmes_in agenda.old)
+        requires going { (r : NetRun) × IsGoing S.tells r (S.file shelf.old) (S.ids shelf.old) None
+            self.old (programmes_in agenda.old) }
+        requires budget { IsWithin self.old.net.nodes.items (λ x. left x.fate)
+            (programmes_in agenda.old) }
+        ensures done { S.tells → IfOk result (λ line. (r : NetRun)
+            → IsGoing S.tells r (S.file shelf.old) (S.ids shelf.old) None self.old
+            (programmes_in agenda.old)
             → HasWritten r (S.file shelf.new) (string_bytes line)) }
         ensures says { IfOk result (λ line. IsSummary (string_bytes line)) }
-        ensures cut { S.tells → OnErr result ((r : NetRun) → IsGoing S.tells r (S.file shelf.old) (S.ids shelf.old) None self.old (programmes_in agenda.old)
+        ensures cut { S.tells → OnErr result ((r : NetRun)
+            → IsGoing S.tells r (S.file shelf.old) (S.ids shelf.old) None self.old
+            (programmes_in agenda.old)
             → IsCutOff r (S.file shelf.new)) }
         ensures never { S.tells → IfErr result (λ fault. IsNetChange fault → (r : NetRun)
-            → IsGoing S.tells r (S.file shelf.old) (S.ids shelf.old) None self.old (programmes_in agenda.old) → ⊥) }
-        ensures only { OnlyGoesOnAll S.tells (manifests_in self.old.desks.items) (all_ids (programmes_in agenda.old)) (S.file shelf.old) (S.file shelf.new) (S.ids shelf.old) (S.ids shelf.new) }
-        ensures changed { (name : List ℕ) (p at : ℕ) → IsErrOf result (Fault.MemberChanged name p at) → IsOfCaptures rests.now (programmes_in agenda.old) name p }
+            → IsGoing S.tells r (S.file shelf.old) (S.ids shelf.old) None self.old
+            (programmes_in agenda.old) → ⊥) }
+        ensures only { OnlyGoesOnAll S.tells (manifests_in self.old.desks.items)
+            (all_ids (programmes_in agenda.old)) (S.file shelf.old) (S.file shelf.new)
+            (S.ids shelf.old) (S.ids shelf.new) }
+        ensures changed { (name : List ℕ) (p at : ℕ)
+            → IsErrOf result (Fault.MemberChanged name p at)
+            → IsOfCaptures rests.now (programmes_in agenda.old) name p }
         ensures causes { IfErr result IsOfNetPlay }
         ensures faults { CountsFaults result (S.faults shelf.old) (S.faults shelf.new) }
     {
@@ -328,17 +403,28 @@ impl NetPlayer {
     ) -> Result<String, Fault>
         requires agenda { IsAgenda (S.ids shelf.old) agenda.old }
         requires rests { AreOfRests rests.now (programmes_in agenda.old) }
-        requires begins { (r : NetRun) × CanBegin S.tells r (S.file shelf.old) (S.ids shelf.old) self.old (programmes_in agenda.old) }
-        requires budget { IsWithin self.old.net.nodes.items (λ x. left x.fate) (programmes_in agenda.old) }
-        ensures done { S.tells → IfOk result (λ line. (r : NetRun) → CanBegin S.tells r (S.file shelf.old) (S.ids shelf.old) self.old (programmes_in agenda.old)
+        requires begins { (r : NetRun) × CanBegin S.tells r (S.file shelf.old) (S.ids shelf.old)
+            self.old (programmes_in agenda.old) }
+        requires budget { IsWithin self.old.net.nodes.items (λ x. left x.fate)
+            (programmes_in agenda.old) }
+        ensures done { S.tells → IfOk result (λ line. (r : NetRun)
+            → CanBegin S.tells r (S.file shelf.old) (S.ids shelf.old) self.old
+            (programmes_in agenda.old)
             → HasWritten r (S.file shelf.new) (string_bytes line)) }
         ensures says { IfOk result (λ line. IsSummary (string_bytes line)) }
-        ensures cut { S.tells → OnErr result ((r : NetRun) → CanBegin S.tells r (S.file shelf.old) (S.ids shelf.old) self.old (programmes_in agenda.old)
+        ensures cut { S.tells → OnErr result ((r : NetRun)
+            → CanBegin S.tells r (S.file shelf.old) (S.ids shelf.old) self.old
+            (programmes_in agenda.old)
             → IsCutOff r (S.file shelf.new)) }
         ensures never { S.tells → IfErr result (λ fault. IsNetChange fault → (r : NetRun)
-            → CanBegin S.tells r (S.file shelf.old) (S.ids shelf.old) self.old (programmes_in agenda.old) → ⊥) }
-        ensures only { OnlyGoesOnAll S.tells (manifests_in self.old.desks.items) (all_ids (programmes_in agenda.old)) (S.file shelf.old) (S.file shelf.new) (S.ids shelf.old) (S.ids shelf.new) }
-        ensures changed { (name : List ℕ) (p at : ℕ) → IsErrOf result (Fault.MemberChanged name p at) → IsOfCaptures rests.now (programmes_in agenda.old) name p }
+            → CanBegin S.tells r (S.file shelf.old) (S.ids shelf.old) self.old
+            (programmes_in agenda.old) → ⊥) }
+        ensures only { OnlyGoesOnAll S.tells (manifests_in self.old.desks.items)
+            (all_ids (programmes_in agenda.old)) (S.file shelf.old) (S.file shelf.new)
+            (S.ids shelf.old) (S.ids shelf.new) }
+        ensures changed { (name : List ℕ) (p at : ℕ)
+            → IsErrOf result (Fault.MemberChanged name p at)
+            → IsOfCaptures rests.now (programmes_in agenda.old) name p }
         ensures causes { IfErr result IsOfNetPlay }
         ensures faults { CountsFaults result (S.faults shelf.old) (S.faults shelf.new) }
     {

@@ -45,7 +45,8 @@ impl Node {
         ensures world { IfOk result (λ made. world_of made.world ≡ beginning setup.now) }
         ensures quiet { IfOk result (λ made. IsQuiet made.world) }
         ensures awake { IfOk result (λ made. made.world.failed ≡ false) }
-        ensures ends { IfOk result (λ made. made.ends.items ≡ ends_over wires.now bridge (λ q. 1) (external_ports (shape_of setup.now))) }
+        ensures ends { IfOk result (λ made. made.ends.items
+            ≡ ends_over wires.now bridge (λ q. 1) (external_ports (shape_of setup.now))) }
         ensures vids { IfOk result (λ made. All HasVid setup.now.start) }
         ensures fate { IfOk result (λ made. left made.fate ≡ left fate) }
     {
@@ -79,7 +80,8 @@ fn take_in(node: &mut Node, arrival: &Arrival) -> Result<(), NoMemory>
 /// A bridge is opened: it settles and is marked.
 pub(crate) fn open_one(node: &mut Node) -> Result<(), WorldFault>
     requires { left node.old.fate < 2 ^ 57 }
-    ensures ok { OnOk result (HasDone [] node.old.world node.new.world node.old.ends.items node.new.ends.items) }
+    ensures ok { OnOk result (HasDone [] node.old.world node.new.world node.old.ends.items
+        node.new.ends.items) }
     ensures fate { left node.new.fate ≤ left node.old.fate }
 {
     eager(&mut node.world, &mut *node.fate, 0, &[], &[])
@@ -88,7 +90,8 @@ pub(crate) fn open_one(node: &mut Node) -> Result<(), WorldFault>
 /// Seconds pass at a bridge.
 pub(crate) fn let_pass(node: &mut Node, seconds: u32) -> Result<(), WorldFault>
     requires { Can (tree_of node.old.world) (world_of node.old.world) (Tick seconds) }
-    ensures ok { OnOk result (HasPassed seconds node.old.world node.new.world node.old.ends.items node.new.ends.items) }
+    ensures ok { OnOk result (HasPassed seconds node.old.world node.new.world node.old.ends.items
+        node.new.ends.items) }
     ensures fate { left node.new.fate ≤ left node.old.fate }
 {
     node.world.tick(seconds)
@@ -96,7 +99,8 @@ pub(crate) fn let_pass(node: &mut Node, seconds: u32) -> Result<(), WorldFault>
 
 /// A bridge forgets what was told and has left.
 pub(crate) fn forget(node: &mut Node)
-    ensures forgotten { HasForgotten node.old.world node.new.world node.old.ends.items node.new.ends.items }
+    ensures forgotten { HasForgotten node.old.world node.new.world node.old.ends.items
+        node.new.ends.items }
     ensures fate { left node.new.fate ≤ left node.old.fate }
 {
     node.world.clear();
@@ -104,16 +108,19 @@ pub(crate) fn forget(node: &mut Node)
 
 /// A command is given to a bridge, which settles and is marked.
 pub fn order(node: &mut Node, command: &Timed) -> Result<(), WorldFault>
-    requires can { Can (tree_of node.old.world) (world_of node.old.world) (Order command.now.command) }
+    requires can { Can (tree_of node.old.world) (world_of node.old.world)
+        (Order command.now.command) }
     requires few { left node.old.fate + length command.now.fate < 2 ^ 57 }
-    ensures ok { OnOk result (HasDone (Order command.now.command ∷ []) node.old.world node.new.world node.old.ends.items node.new.ends.items) }
+    ensures ok { OnOk result (HasDone (Order command.now.command ∷ []) node.old.world node.new.world
+        node.old.ends.items node.new.ends.items) }
     ensures fate { left node.new.fate ≤ left node.old.fate + length command.now.fate }
 {
     let fate = &mut *node.fate;
     eager(&mut node.world, fate, 0, slice::from_ref(command), &[])
 }
 
-/// A frame arrives at a bridge, which settles; and what has left its wired ports for it is put at the end of the queue.
+/// A frame arrives at a bridge, which settles; and what has left its wired ports for it is put at
+/// the end of the queue.
 pub fn enter(
     alloc: Global,
     node: &mut Node,
@@ -122,7 +129,8 @@ pub fn enter(
 ) -> Result<(), NoMemory>
     requires can { Can (tree_of node.old.world) (world_of node.old.world) (Arrive arrival.now) }
     requires few { left node.old.fate < 2 ^ 57 }
-    ensures ok { OnOk result (HasEntered arrival.now node.old.ends.items node.old.world node.new.world queue.old.items queue.new.items) }
+    ensures ok { OnOk result (HasEntered arrival.now node.old.ends.items node.old.world
+        node.new.world queue.old.items queue.new.items) }
     ensures ends { node.new.ends ≡ node.old.ends }
     ensures fate { left node.new.fate ≤ left node.old.fate }
 {
@@ -139,10 +147,14 @@ pub fn let_come(
     crossing: Crossing,
     queue: &mut VecDeque<Crossing>,
 ) -> Result<(), NoMemory>
-    requires can { Can (tree_of node.old.world) (world_of node.old.world) (Arrive (come_as node.old.ends.items crossing)) }
+    requires can { Can (tree_of node.old.world) (world_of node.old.world)
+        (Arrive (come_as node.old.ends.items crossing)) }
     requires few { left node.old.fate < 2 ^ 57 }
-    ensures ok { OnOk result (HasEntered (come_as node.old.ends.items crossing) node.old.ends.items node.old.world node.new.world queue.old.items queue.new.items) }
-    ensures ends { node.new.ends.items ≡ map (with_next crossing.to.port (next_in node.old.ends.items crossing.to.port + 1)) node.old.ends.items }
+    ensures ok { OnOk result (HasEntered (come_as node.old.ends.items crossing) node.old.ends.items
+        node.old.world node.new.world queue.old.items queue.new.items) }
+    ensures ends { node.new.ends.items
+        ≡ map (with_next crossing.to.port (next_in node.old.ends.items crossing.to.port + 1))
+        node.old.ends.items }
     ensures fate { left node.new.fate ≤ left node.old.fate }
 {
     let port = crossing.to.port;

@@ -38,7 +38,8 @@ use exb_shelf::Shelf;
 use exb_timeline::NetTimeline;
 use std::alloc::Global;
 
-/// Plays what is on the agenda in a net that was made, into files that were made, and answers the summary line.
+/// Plays what is on the agenda in a net that was made, into files that were made, and answers the
+/// summary line.
 fn play_agenda<S: Shelf>(
     alloc: Global,
     shelf: &mut S,
@@ -49,17 +50,26 @@ fn play_agenda<S: Shelf>(
 ) -> Result<String, Fault>
     requires agenda { IsAgenda (S.ids shelf.old) agenda.old }
     requires rests { AreOfRests rests.now (programmes_in agenda.old) }
-    requires can { (r : NetRun) × CanPlay S.tells r (S.file shelf.old) (S.ids shelf.old) net desks.items (programmes_in agenda.old) }
+    requires can { (r : NetRun) × CanPlay S.tells r (S.file shelf.old) (S.ids shelf.old) net
+        desks.items (programmes_in agenda.old) }
     requires budget { IsWithin net.nodes.items (λ x. left x.fate) (programmes_in agenda.old) }
-    ensures done { S.tells → IfOk result (λ line. (r : NetRun) → CanPlay S.tells r (S.file shelf.old) (S.ids shelf.old) net desks.items (programmes_in agenda.old)
+    ensures done { S.tells → IfOk result (λ line. (r : NetRun)
+        → CanPlay S.tells r (S.file shelf.old) (S.ids shelf.old) net desks.items
+        (programmes_in agenda.old)
         → HasWritten r (S.file shelf.new) (string_bytes line)) }
     ensures says { IfOk result (λ line. IsSummary (string_bytes line)) }
-    ensures cut { S.tells → OnErr result ((r : NetRun) → CanPlay S.tells r (S.file shelf.old) (S.ids shelf.old) net desks.items (programmes_in agenda.old)
+    ensures cut { S.tells → OnErr result ((r : NetRun)
+        → CanPlay S.tells r (S.file shelf.old) (S.ids shelf.old) net desks.items
+        (programmes_in agenda.old)
         → IsCutOff r (S.file shelf.new)) }
     ensures never { S.tells → IfErr result (λ fault. IsNetChange fault → (r : NetRun)
-        → CanPlay S.tells r (S.file shelf.old) (S.ids shelf.old) net desks.items (programmes_in agenda.old) → ⊥) }
-    ensures only { OnlyGoesOnAll S.tells (manifests_in desks.items) (all_ids (programmes_in agenda.old)) (S.file shelf.old) (S.file shelf.new) (S.ids shelf.old) (S.ids shelf.new) }
-    ensures changed { (name : List ℕ) (p at : ℕ) → IsErrOf result (Fault.MemberChanged name p at) → IsOfCaptures rests.now (programmes_in agenda.old) name p }
+        → CanPlay S.tells r (S.file shelf.old) (S.ids shelf.old) net desks.items
+        (programmes_in agenda.old) → ⊥) }
+    ensures only { OnlyGoesOnAll S.tells (manifests_in desks.items)
+        (all_ids (programmes_in agenda.old)) (S.file shelf.old) (S.file shelf.new) (S.ids shelf.old)
+        (S.ids shelf.new) }
+    ensures changed { (name : List ℕ) (p at : ℕ) → IsErrOf result (Fault.MemberChanged name p at)
+        → IsOfCaptures rests.now (programmes_in agenda.old) name p }
     ensures causes { IfErr result IsOfNetPlay }
     ensures faults { CountsFaults result (S.faults shelf.old) (S.faults shelf.new) }
 {
@@ -86,19 +96,31 @@ fn play_into<S: Shelf>(
     fates: Vec<Box<dyn Fate>>,
     desks: Vec<BridgeOutputs>,
 ) -> Result<String, Fault>
-    requires prepared { (counters : Bool) × ((ms : List NetMember) × ((ws : List Wire) × ((before : Files) × IsPrepared S.tells counters ms ws parts.now checked.now before (S.file shelf.old) (S.ids shelf.old) desks.items))) }
-    requires fates { AreEach (λ b r f. left f < 2 ^ 56 + length r.fate) parts.now.rests fates.items }
-    ensures done { S.tells → IfOk result (λ line. (counters : Bool) (ms : List NetMember) (ws : List Wire) (before : Files)
-        → IsPrepared S.tells counters ms ws parts.now checked.now before (S.file shelf.old) (S.ids shelf.old) desks.items
-        → HasWritten (run_of counters ms ws (S.file shelf.old) before) (S.file shelf.new) (string_bytes line)) }
+    requires prepared { (counters : Bool) × ((ms : List NetMember)
+        × ((ws : List Wire) × ((before : Files) × IsPrepared S.tells counters ms ws parts.now
+        checked.now before (S.file shelf.old) (S.ids shelf.old) desks.items))) }
+    requires fates { AreEach (λ b r f. left f < 2 ^ 56 + length r.fate) parts.now.rests
+        fates.items }
+    ensures done { S.tells → IfOk result (λ line. (counters : Bool) (ms : List NetMember)
+        (ws : List Wire) (before : Files)
+        → IsPrepared S.tells counters ms ws parts.now checked.now before (S.file shelf.old)
+        (S.ids shelf.old) desks.items
+        → HasWritten (run_of counters ms ws (S.file shelf.old) before) (S.file shelf.new)
+        (string_bytes line)) }
     ensures says { IfOk result (λ line. IsSummary (string_bytes line)) }
-    ensures cut { S.tells → OnErr result ((counters : Bool) (ms : List NetMember) (ws : List Wire) (before : Files)
-        → IsPrepared S.tells counters ms ws parts.now checked.now before (S.file shelf.old) (S.ids shelf.old) desks.items
+    ensures cut { S.tells → OnErr result ((counters : Bool) (ms : List NetMember) (ws : List Wire)
+        (before : Files)
+        → IsPrepared S.tells counters ms ws parts.now checked.now before (S.file shelf.old)
+        (S.ids shelf.old) desks.items
         → IsCutOff (run_of counters ms ws (S.file shelf.old) before) (S.file shelf.new)) }
     ensures never { S.tells → IfErr result (λ fault. IsNetChange fault → ⊥) }
-    ensures only { S.tells → OnlyAllListed (manifests_in desks.items) (S.file shelf.old) (S.file shelf.new) }
-    ensures opens { (ms : List NetMember) (ws : List Wire) → IsTakenApart ms ws parts.now → Opens (ReadsMemberCapture ms) (S.ids shelf.old) (S.ids shelf.new) }
-    ensures changed { (ms : List NetMember) (ws : List Wire) → IsTakenApart ms ws parts.now → (name : List ℕ) (p at : ℕ) → IsErrOf result (Fault.MemberChanged name p at) → HasCaptureAt ms name p }
+    ensures only { S.tells → OnlyAllListed (manifests_in desks.items) (S.file shelf.old)
+        (S.file shelf.new) }
+    ensures opens { (ms : List NetMember) (ws : List Wire) → IsTakenApart ms ws parts.now
+        → Opens (ReadsMemberCapture ms) (S.ids shelf.old) (S.ids shelf.new) }
+    ensures changed { (ms : List NetMember) (ws : List Wire) → IsTakenApart ms ws parts.now
+        → (name : List ℕ) (p at : ℕ) → IsErrOf result (Fault.MemberChanged name p at)
+        → HasCaptureAt ms name p }
     ensures causes { IfErr result IsOfNetPlay }
     ensures faults { CountsFaults result (S.faults shelf.old) (S.faults shelf.new) }
 {
@@ -121,19 +143,33 @@ fn play_checked<S: Shelf>(
     counters: bool,
     fates: Vec<Box<dyn Fate>>,
 ) -> Result<String, Fault>
-    requires read { (ms : List NetMember) × ((ws : List Wire) × (IsTakenApart ms ws parts.now × (AreRead ms ws × AreMembersChecked S.tells ms (S.file shelf.old) checked.now))) }
-    requires fates { AreEach (λ b r f. left f < 2 ^ 56 + length r.fate) parts.now.rests fates.items }
-    ensures done { S.tells → IfOk result (λ line. (ms : List NetMember) (ws : List Wire) → IsTakenApart ms ws parts.now → AreRead ms ws → AreMembersChecked S.tells ms (S.file shelf.old) checked.now
-        → IsNetPlayed counters ms (net_of ms ws (S.file shelf.old)) (S.file shelf.old) (S.file shelf.new) (string_bytes line)) }
+    requires read { (ms : List NetMember)
+        × ((ws : List Wire) × (IsTakenApart ms ws parts.now
+        × (AreRead ms ws × AreMembersChecked S.tells ms (S.file shelf.old) checked.now))) }
+    requires fates { AreEach (λ b r f. left f < 2 ^ 56 + length r.fate) parts.now.rests
+        fates.items }
+    ensures done { S.tells → IfOk result (λ line. (ms : List NetMember) (ws : List Wire)
+        → IsTakenApart ms ws parts.now → AreRead ms ws
+        → AreMembersChecked S.tells ms (S.file shelf.old) checked.now
+        → IsNetPlayed counters ms (net_of ms ws (S.file shelf.old)) (S.file shelf.old)
+        (S.file shelf.new) (string_bytes line)) }
     ensures says { IfOk result (λ line. IsSummary (string_bytes line)) }
-    ensures fronts { S.tells → (ms : List NetMember) (ws : List Wire) → IsTakenApart ms ws parts.now → AreRead ms ws → AreMembersChecked S.tells ms (S.file shelf.old) checked.now
+    ensures fronts { S.tells → (ms : List NetMember) (ws : List Wire) → IsTakenApart ms ws parts.now
+        → AreRead ms ws → AreMembersChecked S.tells ms (S.file shelf.old) checked.now
         → AreNetFronts ms (net_of ms ws (S.file shelf.old)) (S.file shelf.old) (S.file shelf.new) }
     ensures never { S.tells → IfErr result (λ fault. IsNetChange fault → ⊥) }
-    ensures only { S.tells → (ms : List NetMember) (ws : List Wire) → IsTakenApart ms ws parts.now → AreRead ms ws → OnlyAllListed (map (manifest_with counters) ms) (S.file shelf.old) (S.file shelf.new) }
-    ensures opens { (ms : List NetMember) (ws : List Wire) → IsTakenApart ms ws parts.now → AreRead ms ws
-        → Opens (λ i. ReadsMemberCapture ms i ⊎ WritesNetOutput counters ms i) (S.ids shelf.old) (S.ids shelf.new) }
-    ensures made { (ms : List NetMember) (ws : List Wire) → IsTakenApart ms ws parts.now → AreRead ms ws → MakesNet counters ms result (S.ids shelf.old) (S.ids shelf.new) }
-    ensures changed { (ms : List NetMember) (ws : List Wire) → IsTakenApart ms ws parts.now → (name : List ℕ) (p at : ℕ) → IsErrOf result (Fault.MemberChanged name p at) → HasCaptureAt ms name p }
+    ensures only { S.tells → (ms : List NetMember) (ws : List Wire) → IsTakenApart ms ws parts.now
+        → AreRead ms ws → OnlyAllListed (map (manifest_with counters) ms) (S.file shelf.old)
+        (S.file shelf.new) }
+    ensures opens { (ms : List NetMember) (ws : List Wire) → IsTakenApart ms ws parts.now
+        → AreRead ms ws
+        → Opens (λ i. ReadsMemberCapture ms i ⊎ WritesNetOutput counters ms i) (S.ids shelf.old)
+        (S.ids shelf.new) }
+    ensures made { (ms : List NetMember) (ws : List Wire) → IsTakenApart ms ws parts.now
+        → AreRead ms ws → MakesNet counters ms result (S.ids shelf.old) (S.ids shelf.new) }
+    ensures changed { (ms : List NetMember) (ws : List Wire) → IsTakenApart ms ws parts.now
+        → (name : List ℕ) (p at : ℕ) → IsErrOf result (Fault.MemberChanged name p at)
+        → HasCaptureAt ms name p }
     ensures causes { IfErr result IsOfNetPlay }
     ensures faults { CountsFaults result (S.faults shelf.old) (S.faults shelf.new) }
 {
@@ -146,8 +182,8 @@ fn play_checked<S: Shelf>(
     play_into(alloc, shelf, parts, checked, fates, desks)
 }
 
-/// Reads the net in the file of this name, with its topologies, checks its captures, plays it, and answers the summary line. The first
-/// bridge has this fate, and each other the next one of more.
+/// Reads the net in the file of this name, with its topologies, checks its captures, plays it, and
+/// answers the summary line. The first bridge has this fate, and each other the next one of more.
 pub fn play_net<S: Shelf>(
     alloc: Global,
     shelf: &mut S,
@@ -159,19 +195,30 @@ pub fn play_net<S: Shelf>(
     requires fate { left fate < 2 ^ 56 }
     requires many { 15 ≤ length more.items }
     requires each { All (λ f. left f < 2 ^ 56) more.items }
-    ensures done { S.tells → IfOk result (λ line. NetPlayed name.now counters (S.file shelf.old) (S.file shelf.new) (string_bytes line)) }
+    ensures done { S.tells → IfOk result (λ line. NetPlayed name.now counters (S.file shelf.old)
+        (S.file shelf.new) (string_bytes line)) }
     ensures says { IfOk result (λ line. IsSummary (string_bytes line)) }
-    ensures cause { S.tells → IfErr result (λ fault. NetStops name.now (S.file shelf.old) fault ⊎ IsNetFailure fault) }
-    ensures stops { S.tells → (fault : Fault) → NetStops name.now (S.file shelf.old) fault → IsErrOf result fault ⊎ IsErrOf result Fault.Read ⊎ IsErrOf result Fault.Memory }
+    ensures cause { S.tells → IfErr result (λ fault. NetStops name.now (S.file shelf.old) fault
+        ⊎ IsNetFailure fault) }
+    ensures stops { S.tells → (fault : Fault) → NetStops name.now (S.file shelf.old) fault
+        → IsErrOf result fault ⊎ IsErrOf result Fault.Read ⊎ IsErrOf result Fault.Memory }
     ensures causes { IfErr result IsOfNet }
-    ensures early { IfErr result (λ fault. IsOfNetPlay fault ⊎ SameFiles (S.file shelf.old) (S.file shelf.new)) }
-    ensures stopped { S.tells → (fault : Fault) → NetStops name.now (S.file shelf.old) fault → SameFiles (S.file shelf.old) (S.file shelf.new) }
-    ensures others { S.tells → OnlyNetAsked name.now counters (S.file shelf.old) (S.file shelf.new) }
+    ensures early { IfErr result (λ fault. IsOfNetPlay fault
+        ⊎ SameFiles (S.file shelf.old) (S.file shelf.new)) }
+    ensures stopped { S.tells → (fault : Fault) → NetStops name.now (S.file shelf.old) fault
+        → SameFiles (S.file shelf.old) (S.file shelf.new) }
+    ensures others { S.tells → OnlyNetAsked name.now counters (S.file shelf.old)
+        (S.file shelf.new) }
     ensures fronts { S.tells → AreFrontsOfNet name.now (S.file shelf.old) (S.file shelf.new) }
-    ensures reads { IfErr result (λ fault. IsOfNetPlay fault ⊎ Opens IsReading (S.ids shelf.old) (S.ids shelf.new)) }
-    ensures wanted { S.tells → IfErr result (λ fault. IsOfNetPlay fault ⊎ Opens (IsNetWanted name.now (S.file shelf.old)) (S.ids shelf.old) (S.ids shelf.new)) }
-    ensures only { S.tells → Opens (λ i. IsNetWanted name.now (S.file shelf.old) i ⊎ MakesNetOutputOf name.now counters (S.file shelf.old) i) (S.ids shelf.old) (S.ids shelf.new) }
-    ensures order { NetOpensInOrder S.tells name.now counters result (S.file shelf.old) (S.ids shelf.old) (S.ids shelf.new) }
+    ensures reads { IfErr result (λ fault. IsOfNetPlay fault
+        ⊎ Opens IsReading (S.ids shelf.old) (S.ids shelf.new)) }
+    ensures wanted { S.tells → IfErr result (λ fault. IsOfNetPlay fault
+        ⊎ Opens (IsNetWanted name.now (S.file shelf.old)) (S.ids shelf.old) (S.ids shelf.new)) }
+    ensures only { S.tells → Opens (λ i. IsNetWanted name.now (S.file shelf.old) i
+        ⊎ MakesNetOutputOf name.now counters (S.file shelf.old) i) (S.ids shelf.old)
+        (S.ids shelf.new) }
+    ensures order { NetOpensInOrder S.tells name.now counters result (S.file shelf.old)
+        (S.ids shelf.old) (S.ids shelf.new) }
     ensures faults { CountsFaults result (S.faults shelf.old) (S.faults shelf.new) }
 {
     histories_hold_all();

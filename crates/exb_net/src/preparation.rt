@@ -1,4 +1,5 @@
-//! What is made before the first event: the desk of each bridge, its captures opened again, and its fate.
+//! What is made before the first event: the desk of each bridge, its captures opened again, and its
+//! fate.
 ghost use Rattle.std.specs.Prelude.{◌≡◌, ◌<◌, ◌++◌, ◌∷◌, [], false, ℕ, List, IfErr, IfOk, IsErrOf, OnErr, OnOk, length, map, All, ◌≤◌, ◌+◌, ◌^◌, AllPairs, true};
 ghost use Rattle.std.specs.List.{AllByRecursion};
 ghost use Rattle.exb_inputs.specs.declared.fault.Fault.{Fault};
@@ -71,10 +72,16 @@ fn set_desk<S: Shelf>(
     desks: &mut Vec<BridgeOutputs>,
 ) -> Result<(), Fault>
     requires valid { IsValid setup.now }
-    ensures set { OnOk result ((d : BridgeOutputs) × (desks.new.items ≡ desks.old.items ++ d ∷ []) × (d.manifest ≡ manifest_under setup.now name.now counters) × IsSet S.tells (S.file shelf.new) (S.ids shelf.new) d) }
-    ensures cut { S.tells → OnErr result ((text : OutputKind → List ℕ) → GoesFrom text → AreCut (manifest_under setup.now name.now counters) (S.file shelf.old) (S.file shelf.new) text) }
-    ensures only { OnlyMakes S.tells (manifest_under setup.now name.now counters) (S.file shelf.old) (S.file shelf.new) (S.ids shelf.old) (S.ids shelf.new) }
-    ensures made { MakesInOrder (manifest_under setup.now name.now counters) result (S.ids shelf.old) (S.ids shelf.new) }
+    ensures set { OnOk result ((d : BridgeOutputs) × (desks.new.items ≡ desks.old.items ++ d ∷ [])
+        × (d.manifest ≡ manifest_under setup.now name.now counters)
+        × IsSet S.tells (S.file shelf.new) (S.ids shelf.new) d) }
+    ensures cut { S.tells → OnErr result ((text : OutputKind → List ℕ) → GoesFrom text
+        → AreCut (manifest_under setup.now name.now counters) (S.file shelf.old)
+        (S.file shelf.new) text) }
+    ensures only { OnlyMakes S.tells (manifest_under setup.now name.now counters) (S.file shelf.old)
+        (S.file shelf.new) (S.ids shelf.old) (S.ids shelf.new) }
+    ensures made { MakesInOrder (manifest_under setup.now name.now counters) result
+        (S.ids shelf.old) (S.ids shelf.new) }
     ensures causes { IfErr result IsOfWriting }
     ensures faults { CountsFaults result (S.faults shelf.old) (S.faults shelf.new) }
 {
@@ -100,14 +107,23 @@ pub(crate) fn set_desks<S: Shelf>(
     parts: &NetParts,
     counters: bool,
 ) -> Result<Vec<BridgeOutputs>, Fault>
-    requires read { (ms : List NetMember) × ((ws : List Wire) × (IsTakenApart ms ws parts.now × AreRead ms ws)) }
-    ensures set { IfOk result (λ desks. (ms : List NetMember) (ws : List Wire) → IsTakenApart ms ws parts.now → AreRead ms ws
-        → AreSet S.tells (map (manifest_with counters) ms) (S.file shelf.old) (S.file shelf.new) (S.ids shelf.new) desks.items) }
-    ensures cut { S.tells → OnErr result ((ms : List NetMember) (ws : List Wire) → IsTakenApart ms ws parts.now → AreRead ms ws
-        → (text : ℕ → OutputKind → List ℕ) → ((b : ℕ) → GoesFrom (text b)) → AreCutAs (map (manifest_with counters) ms) (S.file shelf.old) (S.file shelf.new) text) }
-    ensures only { S.tells → (ms : List NetMember) (ws : List Wire) → IsTakenApart ms ws parts.now → AreRead ms ws → OnlyAllListed (map (manifest_with counters) ms) (S.file shelf.old) (S.file shelf.new) }
-    ensures opened { (ms : List NetMember) (ws : List Wire) → IsTakenApart ms ws parts.now → AreRead ms ws → Opens (WritesNetOutput counters ms) (S.ids shelf.old) (S.ids shelf.new) }
-    ensures made { (ms : List NetMember) (ws : List Wire) → IsTakenApart ms ws parts.now → AreRead ms ws → MakesNet counters ms result (S.ids shelf.old) (S.ids shelf.new) }
+    requires read { (ms : List NetMember)
+        × ((ws : List Wire) × (IsTakenApart ms ws parts.now × AreRead ms ws)) }
+    ensures set { IfOk result (λ desks. (ms : List NetMember) (ws : List Wire)
+        → IsTakenApart ms ws parts.now → AreRead ms ws
+        → AreSet S.tells (map (manifest_with counters) ms) (S.file shelf.old) (S.file shelf.new)
+        (S.ids shelf.new) desks.items) }
+    ensures cut { S.tells → OnErr result ((ms : List NetMember) (ws : List Wire)
+        → IsTakenApart ms ws parts.now → AreRead ms ws
+        → (text : ℕ → OutputKind → List ℕ) → ((b : ℕ) → GoesFrom (text b))
+        → AreCutAs (map (manifest_with counters) ms) (S.file shelf.old) (S.file shelf.new) text) }
+    ensures only { S.tells → (ms : List NetMember) (ws : List Wire) → IsTakenApart ms ws parts.now
+        → AreRead ms ws → OnlyAllListed (map (manifest_with counters) ms) (S.file shelf.old)
+        (S.file shelf.new) }
+    ensures opened { (ms : List NetMember) (ws : List Wire) → IsTakenApart ms ws parts.now
+        → AreRead ms ws → Opens (WritesNetOutput counters ms) (S.ids shelf.old) (S.ids shelf.new) }
+    ensures made { (ms : List NetMember) (ws : List Wire) → IsTakenApart ms ws parts.now
+        → AreRead ms ws → MakesNet counters ms result (S.ids shelf.old) (S.ids shelf.new) }
     ensures causes { IfErr result IsOfWriting }
     ensures faults { CountsFaults result (S.faults shelf.old) (S.faults shelf.new) }
 {
@@ -122,7 +138,8 @@ pub(crate) fn set_desks<S: Shelf>(
     Ok(desks)
 }
 
-/// The second from which commands count: the least whole second of any first record of any bridge, or 0.
+/// The second from which commands count: the least whole second of any first record of any bridge,
+/// or 0.
 fn start_of_all(checked: &[Vec<CheckedCapture>]) -> u64
     ensures { result ≡ start_of_told checked.now }
 {
@@ -133,7 +150,8 @@ fn start_of_all(checked: &[Vec<CheckedCapture>]) -> u64
     least.unwrap_or(0)
 }
 
-/// Opens the captures of a bridge again, and puts its programme behind those of the bridges before it.
+/// Opens the captures of a bridge again, and puts its programme behind those of the bridges before
+/// it.
 fn open_bridge<'a, S: Shelf>(
     alloc: Global,
     shelf: &mut S,
@@ -149,14 +167,19 @@ fn open_bridge<'a, S: Shelf>(
     requires rising { AllPairs (λ c d. c.at ≤ d.at) rest.now.commands }
     requires agenda { IsAgenda (S.ids shelf.old) agenda.old }
     requires room { length (programmes_in agenda.old) < 256 }
-    requires given { AllByRecursion (λ k. (S.ids shelf.old k).given ≡ true) (all_ids (programmes_in agenda.old)) }
+    requires given { AllByRecursion (λ k. (S.ids shelf.old k).given ≡ true)
+        (all_ids (programmes_in agenda.old)) }
     ensures agenda { OnOk result (IsAgenda (S.ids shelf.new) agenda.new) }
-    ensures programme { OnOk result ((p : Timeline) × (programmes_in agenda.new ≡ programmes_in agenda.old ++ p ∷ [])
-        × IsOpenedAgain S.tells start rest.now checked.now (S.file shelf.old) (S.file shelf.new) (S.ids shelf.old) (S.ids shelf.new) p) }
+    ensures programme { OnOk result ((p : Timeline)
+        × (programmes_in agenda.new ≡ programmes_in agenda.old ++ p ∷ [])
+        × IsOpenedAgain S.tells start rest.now checked.now (S.file shelf.old) (S.file shelf.new)
+        (S.ids shelf.old) (S.ids shelf.new) p) }
     ensures never { S.tells → IfErr result (λ fault. IsNetChange fault → ⊥) }
     ensures opens { Opens (ReadsCapture rest.now.captures) (S.ids shelf.old) (S.ids shelf.new) }
     ensures files { SameFiles (S.file shelf.old) (S.file shelf.new) }
-    ensures changed { IfErr result (λ fault. (name : List ℕ) (p at : ℕ) → fault ≡ Fault.MemberChanged name p at → (name ≡ rest.now.name) × (is_named rest.now.captures p ≡ true)) }
+    ensures changed { IfErr result (λ fault. (name : List ℕ) (p at : ℕ)
+        → fault ≡ Fault.MemberChanged name p at → (name ≡ rest.now.name)
+        × (is_named rest.now.captures p ≡ true)) }
     ensures causes { IfErr result IsOfNetPlay }
     ensures faults { CountsFaults result (S.faults shelf.old) (S.faults shelf.new) }
 {
@@ -178,21 +201,32 @@ pub(crate) fn open_agenda<'a, S: Shelf>(
     rests: &'a [BridgeInputs],
     checked: &[Vec<CheckedCapture>],
 ) -> Result<NetTimeline<'a>, Fault>
-    requires read { (ms : List NetMember) × ((ws : List Wire) × IsToBeOpened S.tells ms ws rests.now (S.file shelf.old) checked.now) }
+    requires read { (ms : List NetMember)
+        × ((ws : List Wire) × IsToBeOpened S.tells ms ws rests.now (S.file shelf.old) checked.now) }
     ensures agenda { IfOk result (IsAgenda (S.ids shelf.new)) }
     ensures rests { IfOk result (λ agenda. AreOfRests rests.now (programmes_in agenda)) }
-    ensures fresh { IfOk result (λ agenda. AllByRecursion (λ k. (S.ids shelf.old k).given ≡ false) (all_ids (programmes_in agenda))) }
+    ensures fresh { IfOk result (λ agenda. AllByRecursion (λ k. (S.ids shelf.old k).given ≡ false)
+        (all_ids (programmes_in agenda))) }
     ensures named { IfOk result (λ agenda. (ms : List NetMember) → rests.now ≡ map rest_of ms
-        → AllByRecursion (λ k. ReadsMemberCapture ms (S.ids shelf.new k)) (all_ids (programmes_in agenda))) }
-    ensures ports { IfOk result (λ agenda. (ms : List NetMember) → rests.now ≡ map rest_of ms → (name : List ℕ) (q : ℕ) → IsOfCaptures rests.now (programmes_in agenda) name q → HasCaptureAt ms name q) }
-    ensures begins { IfOk result (λ agenda. (ms : List NetMember) (ws : List Wire) → IsToBeOpened S.tells ms ws rests.now (S.file shelf.old) checked.now
+        → AllByRecursion (λ k. ReadsMemberCapture ms (S.ids shelf.new k))
+        (all_ids (programmes_in agenda))) }
+    ensures ports { IfOk result (λ agenda. (ms : List NetMember) → rests.now ≡ map rest_of ms
+        → (name : List ℕ) (q : ℕ) → IsOfCaptures rests.now (programmes_in agenda) name q
+        → HasCaptureAt ms name q) }
+    ensures begins { IfOk result (λ agenda. (ms : List NetMember) (ws : List Wire)
+        → IsToBeOpened S.tells ms ws rests.now (S.file shelf.old) checked.now
         → Begins (net_of ms ws (S.file shelf.old)) (programmes_in agenda)) }
-    ensures leads { S.tells → IfOk result (λ agenda. (ms : List NetMember) (ws : List Wire) → IsToBeOpened S.tells ms ws rests.now (S.file shelf.old) checked.now
-        → LeadsOn (net_of ms ws (S.file shelf.old)) [] (S.file shelf.new) (S.ids shelf.new) (programmes_in agenda)) }
+    ensures leads { S.tells → IfOk result (λ agenda. (ms : List NetMember) (ws : List Wire)
+        → IsToBeOpened S.tells ms ws rests.now (S.file shelf.old) checked.now
+        → LeadsOn (net_of ms ws (S.file shelf.old)) [] (S.file shelf.new) (S.ids shelf.new)
+        (programmes_in agenda)) }
     ensures never { S.tells → IfErr result (λ fault. IsNetChange fault → ⊥) }
-    ensures opens { (ms : List NetMember) → rests.now ≡ map rest_of ms → Opens (ReadsMemberCapture ms) (S.ids shelf.old) (S.ids shelf.new) }
+    ensures opens { (ms : List NetMember) → rests.now ≡ map rest_of ms
+        → Opens (ReadsMemberCapture ms) (S.ids shelf.old) (S.ids shelf.new) }
     ensures files { SameFiles (S.file shelf.old) (S.file shelf.new) }
-    ensures changed { (ms : List NetMember) → rests.now ≡ map rest_of ms → (name : List ℕ) (p at : ℕ) → IsErrOf result (Fault.MemberChanged name p at) → HasCaptureAt ms name p }
+    ensures changed { (ms : List NetMember) → rests.now ≡ map rest_of ms
+        → (name : List ℕ) (p at : ℕ) → IsErrOf result (Fault.MemberChanged name p at)
+        → HasCaptureAt ms name p }
     ensures causes { IfErr result IsOfNetPlay }
     ensures faults { CountsFaults result (S.faults shelf.old) (S.faults shelf.new) }
 {
@@ -226,7 +260,8 @@ fn arm_one(
 ) -> Result<(), NoMemory>
     requires low { left fate < 2 ^ 56 }
     requires plan { length plan.now ≤ 60000 }
-    ensures { OnOk result ((rs : List BridgeInputs) (r : BridgeInputs) → r.fate ≡ plan.now → AreEach (λ b r f. left f < 2 ^ 56 + length r.fate) rs fates.old.items
+    ensures { OnOk result ((rs : List BridgeInputs) (r : BridgeInputs) → r.fate ≡ plan.now
+        → AreEach (λ b r f. left f < 2 ^ 56 + length r.fate) rs fates.old.items
         → AreEach (λ b r f. left f < 2 ^ 56 + length r.fate) (rs ++ r ∷ []) fates.new.items) }
 {
     let mut fate = fate;
@@ -235,7 +270,8 @@ fn arm_one(
     Ok(())
 }
 
-/// A fate for each bridge, armed for its opening: this one for the first, and the next of more for each other.
+/// A fate for each bridge, armed for its opening: this one for the first, and the next of more for
+/// each other.
 pub(crate) fn arm_all(
     alloc: Global,
     rests: &[BridgeInputs],
@@ -247,7 +283,8 @@ pub(crate) fn arm_all(
     requires fate { left fate < 2 ^ 56 }
     requires enough { length rests.now ≤ length more.old.items + 1 }
     requires low { All (λ f. left f < 2 ^ 56) more.old.items }
-    ensures armed { IfOk result (λ fates. AreEach (λ b r f. left f < 2 ^ 56 + length r.fate) rests.now fates.items) }
+    ensures armed { IfOk result (λ fates. AreEach (λ b r f. left f < 2 ^ 56 + length r.fate)
+        rests.now fates.items) }
 {
     let mut fates = Vec::new(alloc);
     arm_one(&mut fates, fate, rests[0].fate.as_slice())?;

@@ -10,7 +10,8 @@ use exb_model::tree::Tree;
 use exb_net_spec::wires::{End, Wire};
 use std::alloc::Global;
 
-/// A wired port of a bridge: what is at the far end of its wire, and the index of the next frame that arrives at it.
+/// A wired port of a bridge: what is at the far end of its wire, and the index of the next frame
+/// that arrives at it.
 #[derive(Clone, Copy)]
 pub struct WiredPort {
     pub port: PortId,
@@ -51,7 +52,8 @@ fn far_end(wires: &[Wire], bridge: usize, port: PortId) -> Option<End>
     None
 }
 
-/// Puts a port of a bridge behind others, where it is an external one and wired. No frame has arrived there.
+/// Puts a port of a bridge behind others, where it is an external one and wired. No frame has
+/// arrived there.
 fn add_end(
     wires: &[Wire],
     bridge: usize,
@@ -59,7 +61,9 @@ fn add_end(
     port: PortId,
     ends: &mut Vec<WiredPort>,
 ) -> Result<(), NoMemory>
-    ensures { OnOk result (ends.new.items ≡ ends.old.items ++ (if is_external tree.now port then end_at 1 port (far_end wires.now bridge port) else [])) }
+    ensures { OnOk result (ends.new.items ≡ ends.old.items
+        ++ (if is_external tree.now port then end_at 1 port (far_end wires.now bridge port)
+        else [])) }
 {
     if !tree.is_external(port) {
         return Ok(());
@@ -80,7 +84,8 @@ pub(crate) fn ends_of(
     bridge: usize,
     tree: &Tree,
 ) -> Result<Vec<WiredPort>, NoMemory>
-    ensures { IfOk result (λ ends. ends.items ≡ ends_over wires.now bridge (λ q. 1) (external_ports tree.now)) }
+    ensures { IfOk result (λ ends. ends.items ≡ ends_over wires.now bridge (λ q. 1)
+        (external_ports tree.now)) }
 {
     let mut ends = Vec::new(alloc);
     for number in 0..PORTS {

@@ -14,7 +14,8 @@ is_name text = nat_le 1 (length text) && nat_le (length text) 32 && list_all is_
 
 -- a bridge's name and a port's
 abbrev pub end_between : List ℕ × List ℕ → Option EndName
-end_between parts = if is_name parts.0 then option_map (λ p. record { bridge = parts.0; port = p }) (port_of parts.1) else None
+end_between parts = if is_name parts.0 then option_map (λ p. record { bridge = parts.0; port = p })
+    (port_of parts.1) else None
 
 -- NAME:PORT
 unfoldable pub end_of : List ℕ → Option EndName

@@ -10,7 +10,12 @@ abbrev pub setup_in : NetMember → Setup
 setup_in m = m.topology.setup
 
 abbrev pub rest_of : NetMember → BridgeInputs
-rest_of m = record { name = m.name; commands = m.topology.commands; fate = m.topology.fate; captures = m.topology.captures }
+rest_of m = record {
+  name = m.name;
+  commands = m.topology.commands;
+  fate = m.topology.fate;
+  captures = m.topology.captures;
+}
 
 -- The parts are those of these bridges and wires, each in the order of the bridges.
 pub record IsTakenApart (ms : List NetMember) (ws : List Wire) (p : NetParts) : Type 0 where

@@ -40,16 +40,20 @@ pub record MakesNets (ms : List NetMember) (xs : List Wire) : Type 0 where
 abbrev pub FilesAreSound : Type 0
 FilesAreSound = (file : List ℕ) (f : NetFile) → net_file_of file ≡ Ok f → IsNetFile f
 
--- By the definition of the wires alone, of bridges with valid setups: what is made of them is a valid net, and as large as a file's.
+-- By the definition of the wires alone, of bridges with valid setups: what is made of them is a valid net, and as large
+-- as a file's.
 abbrev pub WiresMakeNets : Type 0
-WiresMakeNets = (ms : List NetMember) (ws : List NetWire) (xs : List Wire) (n : Net) → AreValid ms → wires_of ms ws ≡ Ok xs → IsMadeOf ms xs n → IsNet n
+WiresMakeNets = (ms : List NetMember) (ws : List NetWire) (xs : List Wire) (n : Net) → AreValid ms
+    → wires_of ms ws ≡ Ok xs → IsMadeOf ms xs n → IsNet n
 
 abbrev pub NetsAreOfFile : Type 0
-NetsAreOfFile = (ms : List NetMember) (ws : List NetWire) (xs : List Wire) (n : Net) → 1 ≤ length ms → length ms ≤ 16 → length ws ≤ 15 → wires_of ms ws ≡ Ok xs → IsMadeOf ms xs n → IsOfFile n
+NetsAreOfFile = (ms : List NetMember) (ws : List NetWire) (xs : List Wire) (n : Net) → 1 ≤ length ms → length ms ≤ 16
+    → length ws ≤ 15 → wires_of ms ws ≡ Ok xs → IsMadeOf ms xs n → IsOfFile n
 
 -- Commands of sound topologies come in their order.
 abbrev pub NetsAreTimely : Type 0
-NetsAreTimely = (ms : List NetMember) (xs : List Wire) (n : Net) → All (λ m. IsSound m.topology) ms → IsMadeOf ms xs n → AreTimely n
+NetsAreTimely = (ms : List NetMember) (xs : List Wire) (n : Net) → All (λ m. IsSound m.topology) ms → IsMadeOf ms xs n
+    → AreTimely n
 
 -- What the test of loops joins is what wires join.
 abbrev pub JoinedIsExact : Type 0
@@ -58,4 +62,5 @@ JoinedIsExact = (xs : List Wire) (b c : ℕ) → (are_joined xs b c ≡ true) �
 -- Bridges with two names write no file of one name.
 abbrev pub BridgesWriteApart : Type 0
 BridgesWriteApart =
-    (m k : List ℕ) (x y : OutputKind) → is_name m ≡ true → is_name k ≡ true → IsOfPort x → IsOfPort y → file_name (prefix_of m) x ≡ file_name (prefix_of k) y → (m ≡ k) × (x ≡ y)
+    (m k : List ℕ) (x y : OutputKind) → is_name m ≡ true → is_name k ≡ true → IsOfPort x → IsOfPort y
+    → file_name (prefix_of m) x ≡ file_name (prefix_of k) y → (m ≡ k) × (x ≡ y)

@@ -37,7 +37,8 @@ port_free m taken key e = do
 
 abbrev pub end_of_member : List End → List ℕ → ℕ → Option (ℕ × NetMember) → Result End Refusal
 end_of_member taken key p None = Err (at fault.Name key)
-end_of_member taken key p (Some (b, m)) = port_free m taken key (record { bridge = b; port = p }) >>= λ _. Ok (record { bridge = b; port = p })
+end_of_member taken key p (Some (b, m)) = port_free m taken key (record { bridge = b; port = p }) >>= λ _.
+    Ok (record { bridge = b; port = p })
 
 unfoldable pub end_in : List NetMember → List End → List ℕ → EndName → Result End Refusal
 end_in ms taken key e = end_of_member taken key e.port (member_from 0 e.bridge ms)
@@ -75,7 +76,8 @@ unfoldable pub wires_from : List NetMember → List Wire → ℕ → List NetWir
 wires_from ms before i [] = Ok before
 wires_from ms before i (w ∷ ws) = wire_in ms before i w >>= λ x. wires_from ms (before ++ x ∷ []) (i + 1) ws
 
--- The wires of a net, once all topologies are read: the ports together, then the captures of each bridge, then the wires in order.
+-- The wires of a net, once all topologies are read: the ports together, then the captures of each bridge, then the
+-- wires in order.
 unfoldable pub wires_of : List NetMember → List NetWire → Result (List Wire) Refusal
 wires_of ms ws = do
   _ports ← refuse (nat_lt 4160 (ports_together ms)) fault.Range (codes "bridge")

@@ -1,7 +1,9 @@
-//! The file of a net: which bridges it has, each with its topology, and which external ports are wired to one another. Upwards it
-//! promises that `read` answers exactly what the definition `net_file_of` says of the file alone, that `wired`, over the
-//! topologies of all bridges, answers exactly what `wires_of` says, and that the wires which it answers make a valid net
-//! (`IsNet`). It stands on `exb_topology`, which reads each topology, and on `exb_net_spec`, which says when a net is valid.
+//! The file of a net: which bridges it has, each with its topology, and which external ports are
+//! wired to one another. Upwards it promises that `read` answers exactly what the definition
+//! `net_file_of` says of the file alone, that `wired`, over the topologies of all bridges, answers
+//! exactly what `wires_of` says, and that the wires which it answers make a valid net (`IsNet`). It
+//! stands on `exb_topology`, which reads each topology, and on `exb_net_spec`, which says when a
+//! net is valid.
 #![tactic(auto)]
 
 mod elements;

@@ -1,4 +1,5 @@
-//! The bridges of a net with their topologies: their external ports together, and the files that they read and write.
+//! The bridges of a net with their topologies: their external ports together, and the files that
+//! they read and write.
 ghost use Rattle.std.specs.Prelude.{◌≡◌, ◌≤◌, ◌<◌, ◌+◌, ◌*◌, nat_lt, if◌then◌else◌, IfOk, All, List, [], codes, length, map, string_bytes};
 ghost use Rattle.std.specs.List.{list_any};
 ghost use Rattle.std.specs.Str.{bytes_eq};
@@ -156,7 +157,8 @@ fn has_written(
     captures: &[Named],
 ) -> Result<bool, NoMemory>
     requires { ends.now ≡ map (λ m. output_names [] (tree_in m)) members.now }
-    ensures { IfOk result (λ is. is ≡ list_any (λ capture. is_output_of_net members.now capture.name) captures.now) }
+    ensures { IfOk result (λ is. is ≡ list_any (λ capture.
+        is_output_of_net members.now capture.name) captures.now) }
 {
     for capture in captures {
         if is_written(alloc, members, ends, capture.name.as_str())? {

@@ -87,10 +87,11 @@ fn checked(alloc: Global, file: &[u8]) -> Result<NetFile, TopoFault>
     Ok(file)
 }
 
-/// What a file says, or its first fault. A file of more than 1,048,576 bytes is Large, and one that isn't TOML is NotToml.
-/// Then comes its shape: unknown keys at the top, in byte order, the bridges, and the wires, each element with its unknown keys
-/// first and then its own in their order; and then names that were given earlier. Memory is the one answer that the file
-/// doesn't decide.
+/// What a file says, or its first fault. A file of more than 1,048,576 bytes is Large, and one that
+/// isn't TOML is NotToml. Then comes its shape: unknown keys at the top, in byte order, the
+/// bridges, and the wires, each element with its unknown keys first and then its own in their
+/// order; and then names that were given earlier. Memory is the one answer that the file doesn't
+/// decide.
 pub fn read(alloc: Global, file: &[u8]) -> Result<NetFile, TopoFault>
     ensures exact { Gives result (net_file_of file.now) }
     ensures sound { IfOk result IsNetFile }

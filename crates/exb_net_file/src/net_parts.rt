@@ -1,4 +1,5 @@
-//! The parts of a net as they are played: its setups and wires, and beside them what else is said of each bridge.
+//! The parts of a net as they are played: its setups and wires, and beside them what else is said
+//! of each bridge.
 ghost use Rattle.std.specs.Prelude.{◌≡◌, ◌∷◌, ◌++◌, [], IfOk, OnOk, map, reverse};
 ghost use Rattle.exb_net_file.specs.SetupParts.{IsTakenApart, rest_of, setup_in};
 
@@ -11,7 +12,8 @@ use exb_net_spec::wires::{NetSetup, Wire};
 use exb_topology::{Named, Topology};
 use std::alloc::Global;
 
-/// What is said of a bridge of a net beside its setup. Its outputs have a prefix of the net's, so that of its topology is gone.
+/// What is said of a bridge of a net beside its setup. Its outputs have a prefix of the net's, so
+/// that of its topology is gone.
 #[derive(Drop)]
 pub struct BridgeInputs {
     pub name: Text,

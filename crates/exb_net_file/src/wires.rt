@@ -132,7 +132,8 @@ fn next_end(
 ) -> Result<End, TopoFault>
     requires valid { AreValid members.now }
     requires few { length members.now ≤ 16 }
-    ensures value { Gives result (end_in members.now ends.old (place_text place ++ key.now) named.now) }
+    ensures value { Gives result (end_in members.now ends.old (place_text place ++ key.now)
+        named.now) }
     ensures kept { IfOk result (λ end. ends.new ≡ ends.old ++ end ∷ []) }
 {
     let End { bridge, port } = end_in(alloc, members, ends.as_slice(), place, key, named)?;
@@ -169,14 +170,16 @@ fn renamed(label: u8, from: u8, to: u8) -> u8
 /// Gives one label to all that have another one.
 fn relabel(labels: &mut [u8; 256], from: u8, to: u8)
     ensures sized { length labels.new ≡ 256 }
-    ensures named { (b : ℕ) → b < 256 → slice_index labels.new b ≡ (if slice_index labels.old b == from then to else slice_index labels.old b) }
+    ensures named { (b : ℕ) → b < 256 → slice_index labels.new b
+        ≡ (if slice_index labels.old b == from then to else slice_index labels.old b) }
 {
     for bridge in 0..256usize {
         labels[bridge] = renamed(labels[bridge], from, to);
     }
 }
 
-/// Whether bridges are the same, or these wires join them. Each wire gives one label to all bridges that it joins.
+/// Whether bridges are the same, or these wires join them. Each wire gives one label to all bridges
+/// that it joins.
 fn are_joined(wires: &[Wire], bridge: u8, other: u8) -> bool
     ensures { result ≡ are_joined wires.now bridge other }
 {
@@ -248,9 +251,10 @@ fn checked(alloc: Global, members: &[NetMember], wires: &[NetWire]) -> Result<Li
     wires_in(alloc, members, wires)
 }
 
-/// The wires of a net, or the first fault once all topologies are read: the external ports together, at most 4,160; captures that
-/// are files which some bridge may write; and the wires in order, at each the end `a`, the end `b`, and a loop. Memory is the one
-/// answer that the files don't decide. Where there is none, whatever net is made of these bridges and wires is valid.
+/// The wires of a net, or the first fault once all topologies are read: the external ports
+/// together, at most 4,160; captures that are files which some bridge may write; and the wires in
+/// order, at each the end `a`, the end `b`, and a loop. Memory is the one answer that the files
+/// don't decide. Where there is none, whatever net is made of these bridges and wires is valid.
 pub fn wired(
     alloc: Global,
     members: &[NetMember],

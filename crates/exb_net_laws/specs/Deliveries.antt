@@ -1,5 +1,5 @@
--- Several worlds, however they came where they are, one event after another: that each frame between them may arrive, and that this
--- ends soon.
+-- Several worlds, however they came where they are, one event after another: that each frame between them may arrive,
+-- and that this ends soon.
 use Rattle.std.specs.Prelude.{◌≡◌, ◌≢◌, ℕ, zero, suc, ◌+◌, ◌<◌, ◌≤◌, ◌==◌, true, if◌then◌else◌, List, [], length, All}
 use Rattle.exb_model.specs.declared.command.Command.{Command}
 use Rattle.exb_model.specs.History.{◌then◌}
@@ -16,8 +16,8 @@ use Rattle.exb_net_spec.specs.NetHistory.{Crossing, named_at}
 use Rattle.exb_net_laws.specs.NetRuns.{Dones, Between, Handles, Delivers, MayPass, AreOpened, tree_in, limits_in, pass}
 
 -- ---- where worlds are
--- Steps that may be made led a bridge from its beginning here, where it is settled. The next index of each of its ports is one more
--- than the arrivals of that port that it told.
+-- Steps that may be made led a bridge from its beginning here, where it is settled. The next index of each of its ports
+-- is one more than the arrivals of that port that it told.
 pub record IsRun (n : Net) (b : ℕ) (d : Stepped) : Type 0 where
   pub steps : List Step
   pub is : d ≡ run (tree_in n b) (limits_in n b) steps (beginning (n.input b).setup)
@@ -45,7 +45,8 @@ pub record HavePassed (n : Net) (s e : Dones) : Type 0 where
   pub next : (b p : ℕ) → b < n.count → (e b).world.next p ≡ (s b).world.next p
 
 abbrev pub SecondsPass : Type 0
-SecondsPass = (n : Net) (seconds : ℕ) (s : Dones) → IsNet n → HaveVids n → AreRun n s → MayPass n seconds s → HavePassed n s (pass n seconds s)
+SecondsPass = (n : Net) (seconds : ℕ) (s : Dones) → IsNet n → HaveVids n → AreRun n s → MayPass n seconds s
+    → HavePassed n s (pass n seconds s)
 
 -- ---- one event
 -- the next index of a port after a step that gives something
@@ -60,8 +61,8 @@ pub record MayCome (n : Net) (x : Crossing) : Type 0 where
   pub wired : is_wired n.wires x.bridge x.port ≡ true
   pub short : length x.bytes ≤ 9220
 
--- A bridge was given something, and nothing became of the others. Where all frames between bridges might come, they still may, and a
--- command adds none.
+-- A bridge was given something, and nothing became of the others. Where all frames between bridges might come, they
+-- still may, and a command adds none.
 pub record IsHandledOn (n : Net) (b : ℕ) (step : Step) (s e : Between) : Type 0 where
   pub run : AreRun n e.dones
   pub next : (p : ℕ) → (e.dones b).world.next p ≡ next_after step p ((s.dones b).world.next p)
@@ -71,7 +72,8 @@ pub record IsHandledOn (n : Net) (b : ℕ) (step : Step) (s e : Between) : Type 
 
 abbrev pub BridgesHandle : Type 0
 BridgesHandle =
-    (n : Net) (b : ℕ) (step : Step) (s e : Between) → IsNet n → HaveVids n → AreRun n s.dones → b < n.count → Handles n b step s e → IsHandledOn n b step s e
+    (n : Net) (b : ℕ) (step : Step) (s e : Between) → IsNet n → HaveVids n → AreRun n s.dones → b < n.count
+    → Handles n b step s e → IsHandledOn n b step s e
 
 -- ---- deliveries
 -- so many were made
@@ -79,12 +81,15 @@ abbrev pub DeliversTimes : Net → ℕ → Between → Between → Type 0
 DeliversTimes n zero s e = s ≡ e
 DeliversTimes n (suc k) s e = (u : Between) × Delivers n s u × DeliversTimes n k u e
 
--- Since an event each port had at most one arrival; and after as many deliveries as there are wires none is left to be made.
+-- Since an event each port had at most one arrival; and after as many deliveries as there are wires none is left to be
+-- made.
 pub record IsSoon (n : Net) (k : ℕ) (s : Dones) (u : Between) : Type 0 where
   pub few : (c p : ℕ) → c < n.count → (u.dones c).world.next p ≤ (s c).world.next p + 1
   pub empty : k ≡ length n.wires → u.queue ≡ []
 
 abbrev pub DeliveriesEndSoon : Type 0
 DeliveriesEndSoon =
-    (n : Net) (b k : ℕ) (a : Arrival) (s : Dones) (given u : Between) → IsNet n → HaveVids n → AreRun n s → b < n.count →
-    Handles n b (Arrive a) (record { dones = s; queue = [] }) given → DeliversTimes n k given u → k ≤ length n.wires → IsSoon n k s u
+    (n : Net) (b k : ℕ) (a : Arrival) (s : Dones) (given u : Between) → IsNet n → HaveVids n → AreRun n s
+    → b < n.count →
+    Handles n b (Arrive a) (record { dones = s; queue = [] }) given → DeliversTimes n k given u → k ≤ length n.wires
+    → IsSoon n k s u

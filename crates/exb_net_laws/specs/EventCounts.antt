@@ -48,8 +48,9 @@ pub record LeftAt (n : Net) (b time : ℕ) (x : Left) : Type 0 where
   pub moment : x.moment ≡ time
   pub short : length x.bytes ≤ 9220
 
--- Of one bridge: its clock goes on by the seconds. Where a command comes to it, it is given and told of at most one more. Records come to ports
--- without a wire alone. Where a record comes to the net, at most one arrives here, and at most one frame leaves each port, at that moment.
+-- Of one bridge: its clock goes on by the seconds. Where a command comes to it, it is given and told of at most one
+-- more. Records come to ports without a wire alone. Where a record comes to the net, at most one arrives here, and at
+-- most one frame leaves each port, at that moment.
 pub record IsOneMore (n : Net) (seconds : ℕ) (d : Due) (b : ℕ) (s e : Stepped) : Type 0 where
   pub clock : e.world.table.clock ≡ s.world.table.clock + seconds
   pub given : e.world.control.given ≡ s.world.control.given + orders_at d b
@@ -68,7 +69,8 @@ pub record AreOneMore (n : Net) (seconds : ℕ) (d : Due) (s e : Dones) : Type 0
 
 abbrev pub EventsAddOne : Type 0
 EventsAddOne =
-    (n : Net) (seconds : ℕ) (d : Due) (s e : Dones) → IsNet n → HaveVids n → AreRun n s → d.bridge < n.count → PlaysOne n seconds d s e → AreOneMore n seconds d s e
+    (n : Net) (seconds : ℕ) (d : Due) (s e : Dones) → IsNet n → HaveVids n → AreRun n s → d.bridge < n.count
+    → PlaysOne n seconds d s e → AreOneMore n seconds d s e
 
 -- ---- after the opening
 -- No second has passed, nothing was given, and nothing has left.

@@ -25,7 +25,8 @@ pub record ArePlayed (n : Net) (ds : List Due) (s : Dones) : Type 0 where
 -- A run of a net that plays what comes, in that order, shows the histories that the net gives its bridges.
 abbrev pub NetsArePlayed : Type 0
 NetsArePlayed =
-    (n : Net) (ds : List Due) (s e : Dones) → IsNet n → ((b : ℕ) → b < n.count → All HasVid (n.input b).setup.start) → AreHere n ds → AreInOrder (λ b. 0) ds →
+    (n : Net) (ds : List Due) (s e : Dones) → IsNet n → ((b : ℕ) → b < n.count → All HasVid (n.input b).setup.start)
+    → AreHere n ds → AreInOrder (λ b. 0) ds →
     AreOpened n s → Plays n ds s e → ArePlayed n ds e
 
 -- So a run that plays all that comes shows NetEager(I).
@@ -36,4 +37,5 @@ pub record ArePlayedEagerly (n : Net) (s : Dones) : Type 0 where
 
 abbrev pub NetsArePlayedEagerly : Type 0
 NetsArePlayedEagerly =
-    (n : Net) (s e : Dones) → IsNet n → ((b : ℕ) → b < n.count → All HasVid (n.input b).setup.start) → AreTimely n → AreOpened n s → Plays n (dues n) s e → ArePlayedEagerly n e
+    (n : Net) (s e : Dones) → IsNet n → ((b : ℕ) → b < n.count → All HasVid (n.input b).setup.start) → AreTimely n
+    → AreOpened n s → Plays n (dues n) s e → ArePlayedEagerly n e

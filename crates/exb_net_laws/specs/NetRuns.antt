@@ -45,7 +45,8 @@ abbrev pub crossed : Net → ℕ → List Left → List Crossing
 crossed n b left = flat_map (λ q. crosses (far_end n.wires b q) (left_at q left)) (external_ports (tree_in n b))
 
 -- ---- one event
--- A bridge is given something, settles by moves and is marked; what left its wired ports is put at the end of the queue.
+-- A bridge is given something, settles by moves and is marked; what left its wired ports is put at the end of the
+-- queue.
 pub record Handles (n : Net) (b : ℕ) (step : Step) (s e : Between) : Type 0 where
   pub moves : List Step
   pub gives : IsGiving step
@@ -64,7 +65,8 @@ pub record Delivers (n : Net) (s e : Between) : Type 0 where
   pub first : Crossing
   pub rest : List Crossing
   pub is : s.queue ≡ first ∷ rest
-  pub handles : Handles n first.bridge (Arrive (coming_at first (s.dones first.bridge).world)) (record { dones = s.dones; queue = rest }) e
+  pub handles : Handles n first.bridge (Arrive (coming_at first (s.dones first.bridge).world))
+      (record { dones = s.dones; queue = rest }) e
 
 -- After so many deliveries the queue is empty.
 abbrev pub Empties : Net → ℕ → Between → Between → Type 0
@@ -98,7 +100,8 @@ pub record PlaysOne (n : Net) (seconds : ℕ) (d : Due) (s e : Dones) : Type 0 w
 
 abbrev pub PlaysSince : Net → ℕ → List Due → Dones → Dones → Type 0
 PlaysSince n second [] s e = s ≡ e
-PlaysSince n second (d ∷ ds) s e = (u : Dones) × PlaysOne n (due_second d - second) d s u × PlaysSince n (due_second d) ds u e
+PlaysSince n second (d ∷ ds) s e = (u : Dones) × PlaysOne n (due_second d - second) d s u
+    × PlaysSince n (due_second d) ds u e
 
 abbrev pub Plays : Net → List Due → Dones → Dones → Type 0
 Plays n [] s e = s ≡ e

@@ -11,9 +11,10 @@ use exb_relay::laws::{sends_are_words, sends_leave_as_flat};
 use exb_world_laws::laws::runs::{runs_are_few, runs_are_under_way};
 use exb_world_spec::laws::steps_stay_written;
 
-/// A run of several worlds that opens each, and then gives each event to its bridge and each frame that leaves a wired port to the
-/// bridge at its far end, in the order of their queue until none is left, tells each the history that the net gives it. What has
-/// left each external port is what the one bridge sends there over it, and of each Relay it is told whether its frame passed.
+/// A run of several worlds that opens each, and then gives each event to its bridge and each frame
+/// that leaves a wired port to the bridge at its far end, in the order of their queue until none is
+/// left, tells each the history that the net gives it. What has left each external port is what the
+/// one bridge sends there over it, and of each Relay it is told whether its frame passed.
 pub fn nets_are_played()
     ensures { NetsArePlayed }
 {
@@ -24,7 +25,8 @@ pub fn nets_are_played()
     steps_stay_written();
 }
 
-/// So where it is all that comes to the net, in its order, these are the histories of the eager run of the net.
+/// So where it is all that comes to the net, in its order, these are the histories of the eager run
+/// of the net.
 pub fn nets_are_played_eagerly()
     ensures { NetsArePlayedEagerly }
 {
@@ -35,13 +37,14 @@ pub fn nets_are_played_eagerly()
     steps_stay_written();
 }
 
-/// The counts of a port after more events are those before them and what the events add; which Relays pass nowhere is what is said of
-/// each.
+/// The counts of a port after more events are those before them and what the events add; which
+/// Relays pass nowhere is what is said of each.
 pub fn counts_go_on()
     ensures { CountsGoOn }
 {}
 
-/// Worlds that are opened run: each came where it is by steps that may be made, and no record of any port has come.
+/// Worlds that are opened run: each came where it is by steps that may be made, and no record of
+/// any port has come.
 pub fn opened_nets_run()
     ensures { OpenedNetsRun }
 {
@@ -63,8 +66,8 @@ pub fn seconds_pass()
     steps_stay_written();
 }
 
-/// Worlds that run do so after one of them was given something; and each frame that leaves for it may arrive at the far end of its
-/// wire. For a command none does.
+/// Worlds that run do so after one of them was given something; and each frame that leaves for it
+/// may arrive at the far end of its wire. For a command none does.
 pub fn bridges_handle()
     ensures { BridgesHandle }
 {
@@ -75,8 +78,8 @@ pub fn bridges_handle()
     steps_stay_written();
 }
 
-/// After a frame arrived no more deliveries follow than there are wires, and at each port at most one: so far as indices go, all of
-/// them may be made.
+/// After a frame arrived no more deliveries follow than there are wires, and at each port at most
+/// one: so far as indices go, all of them may be made.
 pub fn deliveries_end_soon()
     ensures { DeliveriesEndSoon }
 {
@@ -88,7 +91,8 @@ pub fn deliveries_end_soon()
     steps_stay_written();
 }
 
-/// One event adds to each bridge at most one arrival, and at each port at most one frame that leaves; the clocks go on by its seconds.
+/// One event adds to each bridge at most one arrival, and at each port at most one frame that
+/// leaves; the clocks go on by its seconds.
 pub fn events_add_one()
     ensures { EventsAddOne }
 {

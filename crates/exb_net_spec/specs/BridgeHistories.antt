@@ -50,8 +50,9 @@ IsEventOf a (event.Relay p n t f) = a ≡ record { port = p; index = n; moment =
 IsEventOf a (event.Ignored p n) = (a.port ≡ p) × (a.index ≡ n)
 IsEventOf a _ = ⊥
 
--- The history of bridge b holds its commands, each once and in order, and one is refused exactly where rule 2 of legal histories says
--- so; and of each port what arrives there, each once and by rising index, and one is relayed exactly where rule 5 says so.
+-- The history of bridge b holds its commands, each once and in order, and one is refused exactly where rule 2 of legal
+-- histories says so; and of each port what arrives there, each once and by rising index, and one is relayed exactly
+-- where rule 5 says so.
 pub record HoldsAll (n : Net) (hs : Histories) (b : ℕ) : Type 0 where
   pub commands : filter_map number_of (reverse (hs b)) ≡ range_with_len 1 (length (n.input b).commands)
   pub refused_exactly : EachEvent (IsDecided (tree_of (n.input b)) (bounds_of (n.input b)) (basis_in n b)) (hs b)
@@ -67,4 +68,5 @@ CrossingsArrive =
 
 -- The history of each bridge holds all that comes to it.
 abbrev pub HistoriesHoldAll : Type 0
-HistoriesHoldAll = (n : Net) (hs : Histories) (b : ℕ) → IsNet n → AreTimely n → NetEager n hs → b < n.count → HoldsAll n hs b
+HistoriesHoldAll = (n : Net) (hs : Histories) (b : ℕ) → IsNet n → AreTimely n → NetEager n hs → b < n.count
+    → HoldsAll n hs b

@@ -1,4 +1,5 @@
--- The histories of a net: each event in its turn, at its bridge, and then what leaves wired ports, until nothing is left.
+-- The histories of a net: each event in its turn, at its bridge, and then what leaves wired ports, until nothing is
+-- left.
 use Rattle.std.specs.Prelude.{◌≡◌, ℕ, zero, suc, ◌-◌, ◌==◌, nat_lt, if◌then◌else◌, List, [], ◌∷◌, ◌++◌, Option, Some, None, map, flat_map}
 use Rattle.exb_model.specs.declared.event.Event.{Event}
 use Rattle.exb_model.specs.declared.event.Event.TheVariants as event
@@ -35,7 +36,8 @@ due_at b xs = map (λ (x : Coming). record { bridge = b; coming = x }) xs
 
 -- the least whole second of any record of any bridge, or 0
 unfoldable pub start_of_all : Net → ℕ
-start_of_all n = least_or 0 (map (λ (a : Arrival). second_of a.moment) (flat_map (λ b. all_arrivals (n.input b)) (below n.count)))
+start_of_all n = least_or 0 (map (λ (a : Arrival). second_of a.moment)
+    (flat_map (λ b. all_arrivals (n.input b)) (below n.count)))
 
 -- the commands of all bridges, each in file order, and then the records, each by port order and index
 abbrev pub all_due : Net → List Due
@@ -74,7 +76,8 @@ crosses (Some e) xs = map (λ (x : Sent). record { bridge = e.bridge; port = e.p
 -- the frames by which `flat` of bridge b's history grows at its wired ports by an event, in port order
 unfoldable pub grown_by : Net → ℕ → History → Event → List Crossing
 grown_by n b h e =
-    flat_map (λ q. crosses (far_end n.wires b q) (sent_by (bridge_after (basis_in n b) h) (learned (basis_in n b) h) e q)) (external_ports (tree_of (n.input b)))
+    flat_map (λ q. crosses (far_end n.wires b q) (sent_by (bridge_after (basis_in n b) h) (learned (basis_in n b) h) e
+    q)) (external_ports (tree_of (n.input b)))
 
 -- The histories so far, and the queue of the frames that are between bridges.
 pub record State : Type 0 where
@@ -102,7 +105,8 @@ abbrev pub arrival_of : Crossing → History → Arrival
 arrival_of x h = record { port = x.port; index = suc (named_at h x.port); moment = x.moment; bytes = x.bytes }
 
 abbrev pub arrives : Net → Crossing → State → State
-arrives n x s = happens n x.bridge (arrival_event (bridge_after (basis_in n x.bridge) (s.histories x.bridge)) (arrival_of x (s.histories x.bridge))) s
+arrives n x s = happens n x.bridge (arrival_event (bridge_after (basis_in n x.bridge) (s.histories x.bridge))
+    (arrival_of x (s.histories x.bridge))) s
 
 -- the first of a queue arrives; of an empty one nothing
 abbrev pub delivered : Net → Histories → List Crossing → State
@@ -126,7 +130,8 @@ ticked seconds hs b = with_tick seconds (hs b)
 
 -- what becomes of a command or a captured record at bridge b after its history
 abbrev pub event_of : Net → ℕ → History → Coming → Event
-event_of n b h (Ordered moment k) = command_event (tree_of (n.input b)) (bounds_of (n.input b)) (basis_in n b) (bridge_after (basis_in n b) h) k
+event_of n b h (Ordered moment k) = command_event (tree_of (n.input b)) (bounds_of (n.input b)) (basis_in n b)
+    (bridge_after (basis_in n b) h) k
 event_of n b h (Captured a) = arrival_event (bridge_after (basis_in n b) h) a
 
 -- after the seconds, with nothing between bridges
@@ -140,7 +145,8 @@ due_second d = second_of (due_moment d)
 abbrev pub GoesSince : Net → ℕ → List Due → Histories → Histories → Type 0
 GoesSince n second [] hs end = hs ≡ end
 GoesSince n second (d ∷ ds) hs end =
-    (next : Histories) × IsDrained n (comes n d (ticked (due_second d - second) hs)) next × GoesSince n (due_second d) ds next end
+    (next : Histories) × IsDrained n (comes n d (ticked (due_second d - second) hs)) next
+    × GoesSince n (due_second d) ds next end
 
 -- the first has no seconds before it
 abbrev pub Goes : Net → List Due → Histories → Histories → Type 0

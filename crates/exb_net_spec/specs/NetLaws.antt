@@ -19,7 +19,8 @@ HistoriesAreOne = (n : Net) (hs ks : Histories) → NetEager n hs → NetEager n
 -- Histories only go on: what more of what comes adds stands behind what there was.
 abbrev pub HistoriesGoOn : Type 0
 HistoriesGoOn =
-    (n : Net) (ds rest : List Due) (hs ks : Histories) → Goes n ds (openings n) hs → Goes n (ds ++ rest) (openings n) ks → (b : ℕ) → (more : List Event) × (ks b ≡ (hs b then more))
+    (n : Net) (ds rest : List Due) (hs ks : Histories) → Goes n ds (openings n) hs → Goes n (ds ++ rest) (openings n) ks
+    → (b : ℕ) → (more : List Event) × (ks b ≡ (hs b then more))
 
 -- All that comes does so to bridges of the net, and at each the commands in their order.
 abbrev pub DuesAreInOrder : Type 0

@@ -63,8 +63,8 @@ pub record IsEnd (n : Net) (e : End) : Type 0 where
   pub port : is_external (tree_of (n.input e.bridge)) e.port ≡ true
   pub free : (n.input e.bridge).records e.port ≡ []
 
--- Each bridge has a valid setup, each end is a port of a bridge that is in no other end and has no capture, and the wires have no
--- loop.
+-- Each bridge has a valid setup, each end is a port of a bridge that is in no other end and has no capture, and the
+-- wires have no loop.
 pub record IsNet (n : Net) : Type 0 where
   pub setups : (b : ℕ) → b < n.count → IsValid (n.input b).setup
   pub ends : All (IsEnd n) (ends_of n.wires)

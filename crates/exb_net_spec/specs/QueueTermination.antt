@@ -20,10 +20,12 @@ named_in (event.Relay p n t f ∷ h) = suc (named_in h)
 named_in (event.Ignored p n ∷ h) = suc (named_in h)
 named_in (e ∷ h) = named_in h
 
--- It takes no more deliveries than there are wires, and meanwhile each bridge has one arrival at most, and so each port.
+-- It takes no more deliveries than there are wires, and meanwhile each bridge has one arrival at most, and so each
+-- port.
 pub record EndsSoon (n : Net) (d : Due) (hs : Histories) : Type 0 where
   pub empty : (delivered_times n (length n.wires) (comes n d hs)).queue ≡ []
-  pub few : (b p : ℕ) → named_at ((delivered_times n (length n.wires) (comes n d hs)).histories b) p ≤ named_at (hs b) p + 1
+  pub few : (b p : ℕ) → named_at ((delivered_times n (length n.wires) (comes n d hs)).histories b) p
+      ≤ named_at (hs b) p + 1
   pub once : (b : ℕ) → named_in ((delivered_times n (length n.wires) (comes n d hs)).histories b) ≤ named_in (hs b) + 1
 
 abbrev pub QueuesEndSoon : Type 0

@@ -13,7 +13,8 @@ pub fn histories_go_on()
     ensures { HistoriesGoOn }
 {}
 
-/// All that comes does so to bridges of the net, and at each of them the commands come in their order.
+/// All that comes does so to bridges of the net, and at each of them the commands come in their
+/// order.
 pub fn dues_are_in_order()
     ensures { DuesAreInOrder }
 {}
@@ -23,13 +24,14 @@ pub fn nothing_goes_back()
     ensures { NothingGoesBack }
 {}
 
-/// After some deliveries nothing is left of what one event of a valid net sent, since its wires have no loop.
+/// After some deliveries nothing is left of what one event of a valid net sent, since its wires
+/// have no loop.
 pub fn queues_end()
     ensures { QueuesEnd }
 {}
 
-/// That takes no more deliveries than there are wires, and meanwhile each bridge has one arrival at most: one wire leads down to each
-/// bridge, so it is reached once.
+/// That takes no more deliveries than there are wires, and meanwhile each bridge has one arrival at
+/// most: one wire leads down to each bridge, so it is reached once.
 pub fn queues_end_soon()
     ensures { QueuesEndSoon }
 {}
@@ -44,8 +46,9 @@ pub fn crossings_arrive()
     ensures { CrossingsArrive }
 {}
 
-/// The history of each bridge holds its commands, each once and in order, and of each port what arrives there, each once and by rising
-/// index; which of them are refused and relayed is by the rules of legal histories.
+/// The history of each bridge holds its commands, each once and in order, and of each port what
+/// arrives there, each once and by rising index; which of them are refused and relayed is by the
+/// rules of legal histories.
 pub fn histories_hold_all()
     ensures { HistoriesHoldAll }
 {}

@@ -24,7 +24,8 @@ joined key piece = (key * 13787848793156543929 % 2 ^ 64 + piece) % 2 ^ 64
 -- a number of a set's words, by which most sets are told apart, of four pieces; that of no port is 0
 unfoldable pub key_of : List ℕ → ℕ
 key_of words =
-    joined (joined (joined (digits (slice_range words 0 16)) (digits (slice_range words 16 32))) (digits (slice_range words 32 48))) (digits (slice_range words 48 65))
+    joined (joined (joined (digits (slice_range words 0 16)) (digits (slice_range words 16 32)))
+    (digits (slice_range words 32 48))) (digits (slice_range words 48 65))
 
 -- the keys are those of the sets
 abbrev pub HaveKeys : List PortSet → List ℕ → Type 0
@@ -52,7 +53,8 @@ is_held sets n = not (is_empty_set (slice_index_or sets n []))
 
 -- the words rise along the places
 abbrev pub IsRising : (ℕ → List ℕ) → List ℕ → Type 0
-IsRising words order = (i j : ℕ) → i < j → j < length order → compared (words (slice_index order i)) (words (slice_index order j)) ≡ Less
+IsRising words order = (i j : ℕ) → i < j → j < length order
+    → compared (words (slice_index order i)) (words (slice_index order j)) ≡ Less
 
 -- the words are less than w before the index, and greater from it on
 pub record SplitsAt (words : ℕ → List ℕ) (order w : List ℕ) (i : ℕ) : Type 0 where

@@ -11,8 +11,8 @@ use std::marker::Model;
 #[derive(Clone, Copy)]
 pub struct NoChannel;
 
-/// The channels of a space: each is free, or of one port, and a port has at most one. Contracts see the
-/// port of each channel, channel 0 being of none.
+/// The channels of a space: each is free, or of one port, and a port has at most one. Contracts see
+/// the port of each channel, channel 0 being of none.
 #[derive(Drop)]
 pub struct Channels {
     /// The port of each channel.
@@ -66,7 +66,8 @@ fn no_channels(alloc: Global, count: usize) -> Result<Vec<Option<u16>>, NoMemory
 }
 
 impl Channels {
-    /// Channels 1 to `limit`, all free, with the room for every later claim. The limit is at most 4,094.
+    /// Channels 1 to `limit`, all free, with the room for every later claim. The limit is at most
+    /// 4,094.
     pub fn new(alloc: Global, limit: u16) -> Result<Channels, NoMemory>
         requires { limit ≤ 4094 }
         ensures { IfOk result (λ made. made ≡ replicate (limit + 1) None) }
@@ -89,13 +90,15 @@ impl Channels {
         })
     }
 
-    /// Gives a port the lowest free channel. The port has none before. `NoChannel` exactly where all are in
-    /// use.
+    /// Gives a port the lowest free channel. The port has none before. `NoChannel` exactly where
+    /// all are in use.
     pub fn claim(&mut self, port: PortId) -> Result<u16, NoChannel>
         requires { channel_of self.old port ≡ None }
-        ensures lowest { MatchResult result (λ c. lowest_channel self.old ≡ Some c) (λ _. lowest_channel self.old ≡ None) }
+        ensures lowest { MatchResult result (λ c. lowest_channel self.old ≡ Some c)
+            (λ _. lowest_channel self.old ≡ None) }
         ensures ok { IfOk result (λ c. self.new ≡ slice_set self.old c (Some port)) }
-        ensures holders { IfOk result (λ c. (e : ℕ) → holder self.new e ≡ (if e == c then Some port else holder self.old e)) }
+        ensures holders { IfOk result (λ c. (e : ℕ) → holder self.new e
+            ≡ (if e == c then Some port else holder self.old e)) }
         ensures err { OnErr result (self.new ≡ self.old) }
     {
         let channel = self.free;
@@ -112,7 +115,8 @@ impl Channels {
     pub fn release(&mut self, channel: u16)
         requires { is_used self.old channel ≡ true }
         ensures table { self.new ≡ slice_set self.old channel None }
-        ensures holders { (e : ℕ) → holder self.new e ≡ (if e == channel then None else holder self.old e) }
+        ensures holders { (e : ℕ) → holder self.new e
+            ≡ (if e == channel then None else holder self.old e) }
     {
         let Some(port) = self.ports[channel as usize] else {
             return;

@@ -24,17 +24,19 @@ const FAR: u64 = 13787848793156543929;
 #[derive(Clone, Copy)]
 pub struct NoGroup;
 
-/// The groups of a space: each is free, or of one set of ports that isn't empty, and a set has at most one.
-/// Contracts see the limit, and the ports of each group in order; a free one has none.
+/// The groups of a space: each is free, or of one set of ports that isn't empty, and a set has at
+/// most one. Contracts see the limit, and the ports of each group in order; a free one has none.
 #[derive(Drop)]
 pub struct Groups {
     limit: u16,
-    /// The set of each group, from the lowest number on as far as one was ever claimed; empty where it is
-    /// free.
+    /// The set of each group, from the lowest number on as far as one was ever claimed; empty where
+    /// it is free.
     sets: Vec<PortSet>,
-    /// The key of each of these sets, 0 where the group is free, so that a search looks at few sets.
+    /// The key of each of these sets, 0 where the group is free, so that a search looks at few
+    /// sets.
     keys: Vec<u64>,
-    /// The places of the groups in use, in the order of the keys of their sets, and then of their words.
+    /// The places of the groups in use, in the order of the keys of their sets, and then of their
+    /// words.
     order: Vec<u16>,
     /// The place of the lowest free group.
     free: u16,
@@ -51,7 +53,8 @@ impl Model for Groups {
 
     ghost view = { λ g. record { limit = g.limit; sets = sets_of g.sets.items } };
 
-    ghost invariant = { λ g. AreOrdered g.limit g.sets.items g.order.items g.free × (g.limit ≤ vec_capacity g.sets) × (g.limit ≤ vec_capacity g.order)
+    ghost invariant = { λ g. AreOrdered g.limit g.sets.items g.order.items g.free
+        × (g.limit ≤ vec_capacity g.sets) × (g.limit ≤ vec_capacity g.order)
         × (g.limit ≤ vec_capacity g.keys) × HaveKeys g.sets.items g.keys.items };
 }
 
@@ -92,7 +95,8 @@ fn joined(key: u64, piece: u64) -> u64
     key.wrapping_mul(FAR).wrapping_add(piece)
 }
 
-// The key of a set, by which most sets are told apart. The digits of one piece wait for each other, and those of four go side by side.
+// The key of a set, by which most sets are told apart. The digits of one piece wait for each other,
+// and those of four go side by side.
 #[tactic(auto, unfolding(crate::specs::GroupOrder::key_of))]
 #[inline(always)]
 fn key_of(set: &PortSet) -> u64
@@ -149,9 +153,11 @@ fn enter(keys: &[u64], sets: &[PortSet], order: &mut Vec<u16>, place: u16, key: 
     requires rising { IsRising (ranks_at sets.now) order.old.items }
     requires keys { HaveKeys sets.now keys.now }
     requires key { key ≡ key_of set.now.words }
-    requires absent { (k : ℕ) → k < length order.old.items → ranks_at sets.now (slice_index order.old.items k) ≢ rank_of set.now }
+    requires absent { (k : ℕ) → k < length order.old.items
+        → ranks_at sets.now (slice_index order.old.items k) ≢ rank_of set.now }
     requires room { length order.old.items < vec_capacity order.old }
-    ensures order { IsEntered (ranks_at sets.now) order.old.items (rank_of set.now) place order.new.items }
+    ensures order { IsEntered (ranks_at sets.now) order.old.items (rank_of set.now) place
+        order.new.items }
     ensures room { vec_capacity order.old ≤ vec_capacity order.new }
 {
     if let Err(index) = search(keys, sets, order.as_slice(), key, set) {
@@ -164,7 +170,8 @@ fn leave(keys: &[u64], sets: &[PortSet], order: &mut Vec<u16>, key: u64, set: &P
     requires rising { IsRising (ranks_at sets.now) order.old.items }
     requires keys { HaveKeys sets.now keys.now }
     requires key { key ≡ key_of set.now.words }
-    requires there { (k : ℕ) × (k < length order.old.items) × (ranks_at sets.now (slice_index order.old.items k) ≡ rank_of set.now) }
+    requires there { (k : ℕ) × (k < length order.old.items)
+        × (ranks_at sets.now (slice_index order.old.items k) ≡ rank_of set.now) }
     ensures order { IsLeft (ranks_at sets.now) order.old.items (rank_of set.now) order.new.items }
     ensures room { vec_capacity order.old ≤ vec_capacity order.new }
 {
@@ -238,8 +245,8 @@ fn copied<T: Copy>(alloc: Global, items: &[T], room: usize) -> Result<Vec<T>, No
 }
 
 impl Groups {
-    /// Groups 4096 to 4095 + `limit`, all free, with the room for every later claim. The limit is at most
-    /// 12,288.
+    /// Groups 4096 to 4095 + `limit`, all free, with the room for every later claim. The limit is
+    /// at most 12,288.
     pub fn new(alloc: Global, limit: u16) -> Result<Groups, NoMemory>
         requires { limit ≤ 12288 }
         ensures free { IfOk result (λ made. (g : ℕ) → set_of made g ≡ []) }
@@ -278,7 +285,8 @@ impl Groups {
 
     /// The set of a group; None exactly where the group is free or there is no such group.
     pub fn set(&self, group: u16) -> Option<&PortSet>
-        ensures { MatchOption result (set_of self.now group ≡ []) (λ s. (ports_of s.now ≡ set_of self.now group) × (is_used self.now group ≡ true)) }
+        ensures { MatchOption result (set_of self.now group ≡ []) (λ s.
+            (ports_of s.now ≡ set_of self.now group) × (is_used self.now group ≡ true)) }
     {
         if group < FIRST {
             return None;
@@ -326,13 +334,15 @@ impl Groups {
         are_same(&self.sets[place], set)
     }
 
-    /// Gives a set the lowest free group. The set isn't empty, and has none before. `NoGroup` exactly where
-    /// all are in use.
+    /// Gives a set the lowest free group. The set isn't empty, and has none before. `NoGroup`
+    /// exactly where all are in use.
     pub fn claim(&mut self, set: &PortSet) -> Result<u16, NoGroup>
         requires some { is_empty_set (ports_of set.now) ≡ false }
         requires absent { group_of self.old (ports_of set.now) ≡ None }
-        ensures lowest { MatchResult result (λ g. lowest_group self.old ≡ Some g) (λ _. lowest_group self.old ≡ None) }
-        ensures sets { IfOk result (λ g. (e : ℕ) → set_of self.new e ≡ (if e == g then ports_of set.now else set_of self.old e)) }
+        ensures lowest { MatchResult result (λ g. lowest_group self.old ≡ Some g)
+            (λ _. lowest_group self.old ≡ None) }
+        ensures sets { IfOk result (λ g. (e : ℕ) → set_of self.new e
+            ≡ (if e == g then ports_of set.now else set_of self.old e)) }
         ensures limit { self.new.limit ≡ self.old.limit }
         ensures err { OnErr result (self.new ≡ self.old) }
     {
@@ -352,7 +362,8 @@ impl Groups {
     /// Frees a group that is in use.
     pub fn release(&mut self, group: u16)
         requires { is_used self.old group ≡ true }
-        ensures sets { (e : ℕ) → set_of self.new e ≡ (if e == group then [] else set_of self.old e) }
+        ensures sets { (e : ℕ) → set_of self.new e
+            ≡ (if e == group then [] else set_of self.old e) }
         ensures limit { self.new.limit ≡ self.old.limit }
     {
         let place = group - FIRST;

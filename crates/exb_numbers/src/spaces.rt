@@ -16,8 +16,8 @@ use std::marker::Model;
 /// How many ports the bridge can have.
 const BRIDGE_PORTS: u8 = 64;
 
-/// The channels and groups of each cascade port of the bridge, each in a space of its own. In contracts
-/// bridge port k is place k - 1.
+/// The channels and groups of each cascade port of the bridge, each in a space of its own. In
+/// contracts bridge port k is place k - 1.
 pub struct Spaces {
     /// Whether a bridge port has a space.
     cascades: Vec<bool>,
@@ -43,7 +43,11 @@ impl Model for Spaces {
 
     ghost Value = { Spaces };
 
-    ghost view = { λ s. record { cascades = s.cascades.items; channels = s.channels.items; groups = s.groups.items } };
+    ghost view = { λ s. record {
+      cascades = s.cascades.items;
+      channels = s.channels.items;
+      groups = s.groups.items;
+    } };
 }
 
 // How many numbers a bridge port gets.
@@ -60,10 +64,14 @@ impl Spaces {
     pub fn new(alloc: Global, tree: &Tree, channels: u16, groups: u16) -> Result<Spaces, NoMemory>
         requires channels { channels ≤ 4094 }
         requires groups { groups ≤ 12288 }
-        ensures spaces { IfOk result (λ made. (k : ℕ) → has_space made k ≡ (nat_lt k 64 && is_cascade tree.now k)) }
-        ensures channels { IfOk result (λ made. (k : ℕ) → has_space made k ≡ true → channels_at made k ≡ replicate (channels + 1) None) }
-        ensures groups { IfOk result (λ made. (k : ℕ) → has_space made k ≡ true → (g : ℕ) → set_of (groups_at made k) g ≡ []) }
-        ensures limits { IfOk result (λ made. (k : ℕ) → has_space made k ≡ true → (groups_at made k).limit ≡ groups) }
+        ensures spaces { IfOk result (λ made. (k : ℕ) → has_space made k
+            ≡ (nat_lt k 64 && is_cascade tree.now k)) }
+        ensures channels { IfOk result (λ made. (k : ℕ) → has_space made k ≡ true
+            → channels_at made k ≡ replicate (channels + 1) None) }
+        ensures groups { IfOk result (λ made. (k : ℕ) → has_space made k ≡ true → (g : ℕ)
+            → set_of (groups_at made k) g ≡ []) }
+        ensures limits { IfOk result (λ made. (k : ℕ) → has_space made k ≡ true
+            → (groups_at made k).limit ≡ groups) }
     {
         let mut spaces = Spaces {
             cascades: Vec::new(alloc),

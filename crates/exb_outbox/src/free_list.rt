@@ -1,4 +1,5 @@
-//! Buffers and boxes that are kept, so that a word on a link and a frame that leaves ask for no memory where one that is gone had some.
+//! Buffers and boxes that are kept, so that a word on a link and a frame that leaves ask for no
+//! memory where one that is gone had some.
 ghost use Rattle.std.specs.Prelude.{◌≡◌, IfOk};
 
 use exb_link::{BoxedFrame, LinkFrame, Stamp};
@@ -6,7 +7,8 @@ use exb_model::bytes::Bytes;
 use exb_model::memory::NoMemory;
 use std::alloc::Global;
 
-/// The most buffers, and the most boxes, that are kept. Each is of a word, so it has room for some ten thousand bytes at most.
+/// The most buffers, and the most boxes, that are kept. Each is of a word, so it has room for some
+/// ten thousand bytes at most.
 const MOST: usize = 1024;
 
 /// Buffers and boxes of words that are gone. What they hold has no meaning.
@@ -50,7 +52,8 @@ impl FreeList {
         Ok(Bytes::from_vec(buffer))
     }
 
-    /// Keeps the buffer of bytes that nobody needs, unless enough are kept or there is no memory to note it.
+    /// Keeps the buffer of bytes that nobody needs, unless enough are kept or there is no memory to
+    /// note it.
     #[inline(always)]
     pub fn keep(&mut self, bytes: Bytes) {
         if self.kept.len() < MOST {
@@ -80,7 +83,8 @@ impl FreeList {
         }
     }
 
-    /// Takes the bytes of a word out of its box, which is kept unless enough are kept or there is no memory to note it.
+    /// Takes the bytes of a word out of its box, which is kept unless enough are kept or there is
+    /// no memory to note it.
     #[inline(always)]
     pub fn unboxed(&mut self, alloc: Global, mut boxed: BoxedFrame) -> Bytes
         ensures { result ≡ boxed.bytes }

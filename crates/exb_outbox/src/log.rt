@@ -14,7 +14,8 @@ use exb_model::trace::{TraceLine, TraceWay};
 use std::alloc::Global;
 use std::mem;
 
-/// A frame that left a device, at each port of a row, with the moment of its records in nanoseconds.
+/// A frame that left a device, at each port of a row, with the moment of its records in
+/// nanoseconds.
 #[derive(Drop)]
 pub struct Left {
     /// The ports at which it left.
@@ -73,8 +74,8 @@ impl Log {
         }
     }
 
-    /// Forgets what happened. Its lists keep their memory, and the store keeps that of the frames that were relayed and of those
-    /// that left.
+    /// Forgets what happened. Its lists keep their memory, and the store keeps that of the frames
+    /// that were relayed and of those that left.
     #[inline(always)]
     pub fn clear(&mut self, store: &mut FreeList)
         ensures events { self.new.events ≡ [] }
@@ -161,7 +162,8 @@ fn copy_events(alloc: Global, events: &[Event], to: &mut List<Event>) -> Result<
     Ok(())
 }
 
-/// Puts events behind others. Where there were none these are moved, and not copied; and so is the last one.
+/// Puts events behind others. Where there were none these are moved, and not copied; and so is the
+/// last one.
 #[inline(always)]
 pub fn add_events(
     alloc: Global,
@@ -190,7 +192,8 @@ fn add_behind(alloc: Global, events: &mut List<Event>, to: &mut List<Event>) -> 
     to.push(last)
 }
 
-/// A frame goes out by a side of a device: 0 is upstream, else a port's number. Where no trace is kept nothing is copied.
+/// A frame goes out by a side of a device: 0 is upstream, else a port's number. Where no trace is
+/// kept nothing is copied.
 #[inline(always)]
 pub fn note_out(
     alloc: Global,
@@ -200,7 +203,8 @@ pub fn note_out(
     frame: &[u8],
     outs: &mut Vec<TraceLine>,
 ) -> Result<(), NoMemory>
-    ensures { OnOk result (outs.new.items ≡ outs.old.items ++ if_tracing tracing (Out who side frame.now ∷ [])) }
+    ensures { OnOk result (outs.new.items ≡ outs.old.items ++ if_tracing tracing
+        (Out who side frame.now ∷ [])) }
 {
     if !tracing {
         return Ok(());
@@ -217,7 +221,8 @@ pub fn note_row(
     frame: &[u8],
     outs: &mut Vec<TraceLine>,
 ) -> Result<(), NoMemory>
-    ensures { OnOk result (outs.new.items ≡ outs.old.items ++ if_tracing tracing (row_outs frame.now (ports_in row.now))) }
+    ensures { OnOk result (outs.new.items ≡ outs.old.items ++ if_tracing tracing
+        (row_outs frame.now (ports_in row.now))) }
 {
     if !tracing {
         return Ok(());

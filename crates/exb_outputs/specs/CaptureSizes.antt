@@ -26,11 +26,13 @@ size_at manifest o q = slice_index (sizes_of o) (place_in manifest.tree q)
 pub record GrowsAt (at bytes : ℕ) (old new : Outputs) : Type 0 where
   pub records : (j : ℕ) → slice_index (records_of new) j ≡ slice_index (records_of old) j
   pub others : (j : ℕ) → j ≢ at → slice_index (sizes_of new) j ≡ slice_index (sizes_of old) j
-  pub here : slice_index (sizes_of old) at + bytes < 2 ^ 64 → slice_index (sizes_of new) at ≡ slice_index (sizes_of old) at + bytes
+  pub here : slice_index (sizes_of old) at + bytes < 2 ^ 64 → slice_index (sizes_of new) at
+      ≡ slice_index (sizes_of old) at + bytes
 
 -- what was counted of each capture is the same
 pub record SameCaptures (manifest : Listed) (old new : Outputs) : Type 0 where
-  pub each : (q : ℕ) → q < 4160 → is_external manifest.tree q ≡ true → (frames_at manifest new q ≡ frames_at manifest old q) × (size_at manifest new q ≡ size_at manifest old q)
+  pub each : (q : ℕ) → q < 4160 → is_external manifest.tree q ≡ true
+      → (frames_at manifest new q ≡ frames_at manifest old q) × (size_at manifest new q ≡ size_at manifest old q)
 
 -- ---- frames
 -- how many bytes a capture of these frames has: 24 before the first record, and 16 before each frame
@@ -39,7 +41,8 @@ capture_size xs = 24 + 16 * length xs + octets_of xs
 
 -- These frames were put into the capture of each external port: records and bytes are counted, as far as 64 bits do.
 pub record HasSent (manifest : Listed) (o : Outputs) (sent : ℕ → List Sent) : Type 0 where
-  pub each : (q : ℕ) → q < 4160 → is_external manifest.tree q ≡ true → capture_size (sent q) < 2 ^ 64 → (frames_at manifest o q ≡ length (sent q)) × (size_at manifest o q ≡ capture_size (sent q))
+  pub each : (q : ℕ) → q < 4160 → is_external manifest.tree q ≡ true → capture_size (sent q) < 2 ^ 64
+      → (frames_at manifest o q ≡ length (sent q)) × (size_at manifest o q ≡ capture_size (sent q))
 
 -- with one frame more at port p
 abbrev pub sent_more : (ℕ → List Sent) → ℕ → Sent → ℕ → List Sent

@@ -22,7 +22,13 @@ counts_so_far told gone = with_left (length gone) (fold (λ c e. counted e c) no
 -- the counts of port q, with these frames more
 abbrev pub with_frames : List Sent → Counts5 → Counts5
 with_frames xs c =
-    record { relayed = c.relayed; dropped = c.dropped; ignored = c.ignored; left = c.left + length xs; octets = c.octets + octets_of xs }
+    record {
+      relayed = c.relayed;
+      dropped = c.dropped;
+      ignored = c.ignored;
+      left = c.left + length xs;
+      octets = c.octets + octets_of xs;
+    }
 
 abbrev pub port_counts_so_far : List Event → List Bool → List Left → ℕ → Counts5
 port_counts_so_far told passed gone q = with_frames (left_at q gone) (plus_events told passed q nothing)
@@ -31,12 +37,14 @@ port_counts_so_far told passed gone q = with_frames (left_at q gone) (plus_event
 abbrev pub AreCounted : Listed → Option Counters → List Event → List Bool → Type 0
 AreCounted manifest None told passed = manifest.options.counters ≡ false
 AreCounted manifest (Some c) told passed =
-    (manifest.options.counters ≡ true) × ((q : ℕ) → q < 4160 → is_external manifest.tree q ≡ true → HasPort c q) × ((q : ℕ) → HasPort c q → counts_at c q ≡ plus_events told passed q nothing)
+    (manifest.options.counters ≡ true) × ((q : ℕ) → q < 4160 → is_external manifest.tree q ≡ true → HasPort c q)
+    × ((q : ℕ) → HasPort c q → counts_at c q ≡ plus_events told passed q nothing)
 
 -- there are counts by port exactly where they are asked for, and of each external port
 abbrev pub AreCountsOf : Listed → Option Counters → Type 0
 AreCountsOf manifest None = manifest.options.counters ≡ false
-AreCountsOf manifest (Some c) = (manifest.options.counters ≡ true) × ((q : ℕ) → q < 4160 → is_external manifest.tree q ≡ true → HasPort c q)
+AreCountsOf manifest (Some c) = (manifest.options.counters ≡ true)
+    × ((q : ℕ) → q < 4160 → is_external manifest.tree q ≡ true → HasPort c q)
 
 -- the counts of port q: what came in, by the counters, and what left, by the capture
 abbrev pub counts_with : Listed → Outputs → Counters → ℕ → Counts5
@@ -55,13 +63,15 @@ counts_text manifest None o = []
 counts_text manifest (Some c) o = count_lines (counts_with manifest o c) (external_ports manifest.tree)
 
 -- what is counted is what was told and has left
-pub record IsCounted (manifest : Listed) (c : RunCounts) (told : List Event) (passed : List Bool) (gone : List Left) : Type 0 where
+pub record IsCounted (manifest : Listed) (c : RunCounts) (told : List Event) (passed : List Bool)
+    (gone : List Left) : Type 0 where
   pub tally : counts_of c.tally ≡ counts_so_far told gone
   pub ports : AreCounted manifest c.ports told passed
 
 -- what was said of Relays goes with what was told: the drops of more are those of what comes more
 abbrev pub GoTogether : List Event → List Bool → Type 0
-GoTogether told passed = (more : List Event) (said : List Bool) (q : ℕ) → drops_in (told ++ more) (passed ++ said) q ≡ drops_in told passed q + drops_in more said q
+GoTogether told passed = (more : List Event) (said : List Bool) (q : ℕ) → drops_in (told ++ more) (passed ++ said) q
+    ≡ drops_in told passed q + drops_in more said q
 
 -- events more can be counted
 abbrev pub CanCountAt : List Event → List Bool → Counters → Type 0
@@ -76,7 +86,8 @@ pub record CanCount (c : RunCounts) (events : List Event) (passed : List Bool) (
 abbrev pub CountsOn : Option Counters → Option Counters → List Event → List Bool → Type 0
 CountsOn None None events passed = Unit {0}
 CountsOn (Some c) (Some d) events passed =
-    (length d.counts.items ≡ length c.counts.items) × ((q : ℕ) → HasPort c q → counts_at d q ≡ plus_events events passed q (counts_at c q))
+    (length d.counts.items ≡ length c.counts.items) × ((q : ℕ) → HasPort c q
+    → counts_at d q ≡ plus_events events passed q (counts_at c q))
 CountsOn _ _ events passed = ⊥
 
 -- the line of some counts

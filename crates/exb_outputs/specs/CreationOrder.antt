@@ -12,15 +12,16 @@ pub record MakesFile (id : ℕ) (name : List ℕ) (given ids : ℕ → Id) : Typ
   pub named : ids id ≡ writing name
   pub others : (j : ℕ) → j ≢ id → ids j ≡ given j
 
--- The first k outputs of a manifest were made, one after the other and each once, and no other file: `at` says through which ids. Since ids
--- rise, their order is that in which the files were made.
+-- The first k outputs of a manifest were made, one after the other and each once, and no other file: `at` says through
+-- which ids. Since ids rise, their order is that in which the files were made.
 pub record MadeInOrder (manifest : Listed) (k : ℕ) (given ids : ℕ → Id) : Type 0 where
   pub at : ℕ → ℕ
   pub within : k ≤ output_count manifest
   pub fresh : (j : ℕ) → j < k → (given (at j)).given ≡ false
   pub named : (j : ℕ) → j < k → ids (at j) ≡ writing (output_name manifest j)
   pub rises : (i j : ℕ) → i < j → j < k → at i < at j
-  pub only : (id : ℕ) → (given id).given ≡ false → (ids id).given ≡ true → (ids id).reads ≡ false → (j : ℕ) × (j < k) × (id ≡ at j)
+  pub only : (id : ℕ) → (given id).given ≡ false → (ids id).given ≡ true → (ids id).reads ≡ false
+      → (j : ℕ) × (j < k) × (id ≡ at j)
 
 -- a result that comes only after all outputs were made
 abbrev pub IsLate : {X : Type 0} → Result X Fault → Type 0
@@ -28,8 +29,8 @@ IsLate (Ok x) = ⊤
 IsLate (Err (Changed p at)) = ⊤
 IsLate (Err _) = ⊥
 
--- The first outputs were made, and all of them where all went well or a capture turned out to be another one. Where the shelf failed to read
--- that was before the first one was made, or behind the last.
+-- The first outputs were made, and all of them where all went well or a capture turned out to be another one. Where the
+-- shelf failed to read that was before the first one was made, or behind the last.
 pub record MakesInOrder {X : Type 0} (manifest : Listed) (result : Result X Fault) (given ids : ℕ → Id) : Type 0 where
   pub count : ℕ
   pub made : MadeInOrder manifest count given ids

@@ -33,7 +33,9 @@ GrowsEagerly output.Counters = ⊥
 -- these are as they were, or hold a front of their text over the eager history
 abbrev pub AreCutEagerly : Input → Listed → Files → Files → Type 0
 AreCutEagerly i manifest old new =
-    (j : ℕ) → j < output_count manifest → GrowsEagerly (kind_at manifest j) → IsCut (old (output_name manifest j)) (new (output_name manifest j)) (output_text i (eager_history i) [] (kind_at manifest j))
+    (j : ℕ) → j < output_count manifest → GrowsEagerly (kind_at manifest j)
+    → IsCut (old (output_name manifest j)) (new (output_name manifest j))
+    (output_text i (eager_history i) [] (kind_at manifest j))
 
 -- a kind that is written as things happen; the counters are written at the end
 abbrev pub IsWrittenAlong : OutputKind → Type 0
@@ -45,7 +47,8 @@ IsWrittenAlong output.Counters = ⊥
 -- ---- the outputs of a manifest
 -- each that is written along is as it was, or holds a front of its text
 abbrev pub AreCutAlong : Listed → Files → Files → (OutputKind → List ℕ) → Type 0
-AreCutAlong manifest old new text = (j : ℕ) → j < output_count manifest → IsWrittenAlong (kind_at manifest j) → IsCut (old (output_name manifest j)) (new (output_name manifest j)) (text (kind_at manifest j))
+AreCutAlong manifest old new text = (j : ℕ) → j < output_count manifest → IsWrittenAlong (kind_at manifest j)
+    → IsCut (old (output_name manifest j)) (new (output_name manifest j)) (text (kind_at manifest j))
 
 -- ---- what is told
 -- the text of each kind after this was told and this has left; counters have theirs at the end

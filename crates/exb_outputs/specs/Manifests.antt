@@ -40,7 +40,8 @@ port_at manifest j = slice_index (external_ports manifest.tree) j
 
 -- the kind of file j, counted from 0: the captures come first
 abbrev pub kind_at : Listed → ℕ → OutputKind
-kind_at manifest j = if nat_lt j (port_count manifest) then output.Capture (port_at manifest j) else get_or (kinds_behind manifest.options) (j - port_count manifest) output.Journal
+kind_at manifest j = if nat_lt j (port_count manifest) then output.Capture (port_at manifest j) else get_or
+    (kinds_behind manifest.options) (j - port_count manifest) output.Journal
 
 -- the place of port q among the external ports of a tree
 abbrev pub place_in : Shape → ℕ → ℕ
@@ -67,4 +68,5 @@ output_name manifest j = file_name manifest.prefix (kind_at manifest j)
 
 -- no file but the outputs has changed
 abbrev pub OnlyListed : Listed → Files → Files → Type 0
-OnlyListed manifest old new = (m : List ℕ) → ((j : ℕ) → j < output_count manifest → m ≢ output_name manifest j) → new m ≡ old m
+OnlyListed manifest old new = (m : List ℕ) → ((j : ℕ) → j < output_count manifest → m ≢ output_name manifest j)
+    → new m ≡ old m

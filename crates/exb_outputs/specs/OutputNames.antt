@@ -1,4 +1,5 @@
--- The outputs of a tree by their names: which files they are, that no other has changed, and what a file holds where writing ended early.
+-- The outputs of a tree by their names: which files they are, that no other has changed, and what a file holds where
+-- writing ended early.
 use Rattle.std.specs.Prelude.{◌≡◌, ◌≢◌, ◌⊎◌, ℕ, List, Option, Some, take}
 use Rattle.exb_model.specs.Tree.{Shape}
 use Rattle.exb_shelf.specs.Files.{Files}
@@ -9,11 +10,13 @@ use Rattle.exb_outputs.specs.Manifests.{IsMade}
 
 -- no file but those of the kinds that are made has changed
 abbrev pub OnlyOutputs : Options → Shape → List ℕ → Files → Files → Type 0
-OnlyOutputs options tree prefix old new = (m : List ℕ) → ((o : OutputKind) → IsMade options tree o → m ≢ file_name prefix o) → new m ≡ old m
+OnlyOutputs options tree prefix old new = (m : List ℕ) → ((o : OutputKind) → IsMade options tree o
+    → m ≢ file_name prefix o) → new m ≡ old m
 
 -- the file of each kind that is made holds the text of its kind
 abbrev pub AreWhole : Options → Shape → List ℕ → Files → (OutputKind → List ℕ) → Type 0
-AreWhole options tree prefix new text = (o : OutputKind) → IsMade options tree o → new (file_name prefix o) ≡ Some (text o)
+AreWhole options tree prefix new text = (o : OutputKind) → IsMade options tree o
+    → new (file_name prefix o) ≡ Some (text o)
 
 -- ---- where a run ended early
 -- a file is as it was, or holds a front of a text

@@ -13,8 +13,8 @@ use Rattle.exb_outputs.specs.Manifests.{Listed, OnlyListed, output_count, output
 abbrev pub IsOfWriting : Fault → Type 0
 IsOfWriting fault = (fault ≡ Write) ⊎ (fault ≡ Memory)
 
--- No count has fallen, and a failure to write came only where its count rose. It was counted once, and nothing else was: where a call did
--- its work, or memory ran out, nothing was.
+-- No count has fallen, and a failure to write came only where its count rose. It was counted once, and nothing else
+-- was: where a call did its work, or memory ran out, nothing was.
 pub record CountsWrites {X : Type 0} (result : Result X ShelfFault) (old new : Faults) : Type 0 where
   pub none_fell : NoFewer old new
   pub write : IsErrOf result Failed → Rose old.writes new.writes

@@ -14,7 +14,8 @@ use Rattle.exb_outputs.specs.SentFrames.{with_left_frames}
 
 -- the texts with what was told, has left and was traced more
 abbrev pub with_told : (OutputKind → List ℕ) → List Event → List Left → List TraceLine → OutputKind → List ℕ
-with_told text told left lines = with_more (with_left_frames (with_more text output.Journal (lines_of told)) left) output.Trace (trace_text lines)
+with_told text told left lines = with_more (with_left_frames (with_more text output.Journal (lines_of told)) left)
+    output.Trace (trace_text lines)
 
 -- and with what is written where nothing more is told: the counters
 abbrev pub with_end : (OutputKind → List ℕ) → Listed → Option Counters → Outputs → OutputKind → List ℕ

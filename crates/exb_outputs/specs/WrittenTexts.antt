@@ -25,11 +25,13 @@ Holds pieces text j bytes = bytes ++ slice_index_or pieces j [] ≡ text j
 
 -- each output has the text of its kind, and no other file has changed
 abbrev pub HasTexts : Listed → List (List ℕ) → Files → Files → (OutputKind → List ℕ) → Type 0
-HasTexts manifest pieces old new text = Filled old new (output_count manifest) (output_name manifest) (Holds pieces (λ j. text (kind_at manifest j)))
+HasTexts manifest pieces old new text = Filled old new (output_count manifest) (output_name manifest)
+    (Holds pieces (λ j. text (kind_at manifest j)))
 
 -- each output is as it was or holds a front of the text of its kind, and no other file has changed
 abbrev pub AreCut : Listed → Files → Files → (OutputKind → List ℕ) → Type 0
-AreCut manifest old new text = Cut old new (output_count manifest) (output_name manifest) (λ j. text (kind_at manifest j))
+AreCut manifest old new text = Cut old new (output_count manifest) (output_name manifest)
+    (λ j. text (kind_at manifest j))
 
 -- the outputs of a manifest, each with an id of its file
 pub record IsReady (manifest : Listed) (given : ℕ → Id) (o : Outputs) : Type 0 where

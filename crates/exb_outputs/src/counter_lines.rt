@@ -56,12 +56,17 @@ fn add_count<S: Shelf>(
     requires asked { manifest.now.options.counters ≡ true }
     requires ready { IsReady manifest.now (S.ids shelf.old) outputs.old }
     ensures ready { IsReady manifest.now (S.ids shelf.new) outputs.new }
-    ensures texts { S.tells → OnOk result ((orig : Files) (text : OutputKind → List ℕ) → HasTexts manifest.now (pieces_of outputs.old) orig (S.file shelf.old) text
-        → HasTexts manifest.now (pieces_of outputs.new) orig (S.file shelf.new) (with_more text output.Counters (count_line port counts.now))) }
-    ensures cut { S.tells → OnErr result ((orig : Files) (text : OutputKind → List ℕ) → HasTexts manifest.now (pieces_of outputs.old) orig (S.file shelf.old) text
-        → AreCut manifest.now orig (S.file shelf.new) (with_more text output.Counters (count_line port counts.now))) }
+    ensures texts { S.tells → OnOk result ((orig : Files) (text : OutputKind → List ℕ)
+        → HasTexts manifest.now (pieces_of outputs.old) orig (S.file shelf.old) text
+        → HasTexts manifest.now (pieces_of outputs.new) orig (S.file shelf.new)
+        (with_more text output.Counters (count_line port counts.now))) }
+    ensures cut { S.tells → OnErr result ((orig : Files) (text : OutputKind → List ℕ)
+        → HasTexts manifest.now (pieces_of outputs.old) orig (S.file shelf.old) text
+        → AreCut manifest.now orig (S.file shelf.new)
+        (with_more text output.Counters (count_line port counts.now))) }
     ensures same { OnOk result (SameCaptures manifest.now outputs.old outputs.new) }
-    ensures only { OnlyWrites S.tells manifest.now (S.file shelf.old) (S.file shelf.new) (S.ids shelf.old) (S.ids shelf.new) }
+    ensures only { OnlyWrites S.tells manifest.now (S.file shelf.old) (S.file shelf.new)
+        (S.ids shelf.old) (S.ids shelf.new) }
     ensures faults { CountsWrites result (S.faults shelf.old) (S.faults shelf.new) }
 {
     line.clear();
@@ -71,8 +76,8 @@ fn add_count<S: Shelf>(
     outputs.write(shelf, manifest, OutputKind::Counters, line.as_slice())
 }
 
-/// Puts the lines of all counts behind the counters, which are asked for: what came in, by these counters, and what left, by the
-/// captures. `line` is room for one line.
+/// Puts the lines of all counts behind the counters, which are asked for: what came in, by these
+/// counters, and what left, by the captures. `line` is room for one line.
 pub fn write_counters<S: Shelf>(
     shelf: &mut S,
     manifest: &Manifest,
@@ -81,16 +86,26 @@ pub fn write_counters<S: Shelf>(
     counters: &Counters,
 ) -> Result<(), ShelfFault>
     requires asked { manifest.now.options.counters ≡ true }
-    requires ports { (q : ℕ) → q < 4160 → is_external manifest.now.tree q ≡ true → HasPort counters.now q }
+    requires ports { (q : ℕ) → q < 4160 → is_external manifest.now.tree q ≡ true
+        → HasPort counters.now q }
     requires counted { AreCountedAt manifest.now outputs.old }
     requires ready { IsReady manifest.now (S.ids shelf.old) outputs.old }
     ensures ready { IsReady manifest.now (S.ids shelf.new) outputs.new }
-    ensures texts { S.tells → OnOk result ((orig : Files) (text : OutputKind → List ℕ) → HasTexts manifest.now (pieces_of outputs.old) orig (S.file shelf.old) text
-        → HasTexts manifest.now (pieces_of outputs.new) orig (S.file shelf.new) (with_more text output.Counters (count_lines (counts_with manifest.now outputs.old counters.now) (external_ports manifest.now.tree)))) }
-    ensures cut { S.tells → OnErr result ((orig : Files) (text : OutputKind → List ℕ) → HasTexts manifest.now (pieces_of outputs.old) orig (S.file shelf.old) text
-        → AreCut manifest.now orig (S.file shelf.new) (with_more text output.Counters (count_lines (counts_with manifest.now outputs.old counters.now) (external_ports manifest.now.tree)))) }
+    ensures texts { S.tells → OnOk result ((orig : Files) (text : OutputKind → List ℕ)
+        → HasTexts manifest.now (pieces_of outputs.old) orig (S.file shelf.old) text
+        → HasTexts manifest.now (pieces_of outputs.new) orig (S.file shelf.new)
+        (with_more text output.Counters
+        (count_lines (counts_with manifest.now outputs.old counters.now)
+        (external_ports manifest.now.tree)))) }
+    ensures cut { S.tells → OnErr result ((orig : Files) (text : OutputKind → List ℕ)
+        → HasTexts manifest.now (pieces_of outputs.old) orig (S.file shelf.old) text
+        → AreCut manifest.now orig (S.file shelf.new)
+        (with_more text output.Counters
+        (count_lines (counts_with manifest.now outputs.old counters.now)
+        (external_ports manifest.now.tree)))) }
     ensures same { OnOk result (SameCaptures manifest.now outputs.old outputs.new) }
-    ensures only { OnlyWrites S.tells manifest.now (S.file shelf.old) (S.file shelf.new) (S.ids shelf.old) (S.ids shelf.new) }
+    ensures only { OnlyWrites S.tells manifest.now (S.file shelf.old) (S.file shelf.new)
+        (S.ids shelf.old) (S.ids shelf.new) }
     ensures faults { CountsWrites result (S.faults shelf.old) (S.faults shelf.new) }
 {
     for at in 0..manifest.count() {

@@ -24,12 +24,17 @@ fn add_event<S: Shelf>(
 ) -> Result<(), ShelfFault>
     requires ready { IsReady manifest.now (S.ids shelf.old) outputs.old }
     ensures ready { IsReady manifest.now (S.ids shelf.new) outputs.new }
-    ensures texts { S.tells → OnOk result ((orig : Files) (text : OutputKind → List ℕ) → HasTexts manifest.now (pieces_of outputs.old) orig (S.file shelf.old) text
-        → HasTexts manifest.now (pieces_of outputs.new) orig (S.file shelf.new) (with_more text output.Journal (line_of event.now ++ 10 ∷ []))) }
-    ensures cut { S.tells → OnErr result ((orig : Files) (text : OutputKind → List ℕ) → HasTexts manifest.now (pieces_of outputs.old) orig (S.file shelf.old) text
-        → AreCut manifest.now orig (S.file shelf.new) (with_more text output.Journal (line_of event.now ++ 10 ∷ []))) }
+    ensures texts { S.tells → OnOk result ((orig : Files) (text : OutputKind → List ℕ)
+        → HasTexts manifest.now (pieces_of outputs.old) orig (S.file shelf.old) text
+        → HasTexts manifest.now (pieces_of outputs.new) orig (S.file shelf.new)
+        (with_more text output.Journal (line_of event.now ++ 10 ∷ []))) }
+    ensures cut { S.tells → OnErr result ((orig : Files) (text : OutputKind → List ℕ)
+        → HasTexts manifest.now (pieces_of outputs.old) orig (S.file shelf.old) text
+        → AreCut manifest.now orig (S.file shelf.new)
+        (with_more text output.Journal (line_of event.now ++ 10 ∷ []))) }
     ensures same { OnOk result (SameCaptures manifest.now outputs.old outputs.new) }
-    ensures only { OnlyWrites S.tells manifest.now (S.file shelf.old) (S.file shelf.new) (S.ids shelf.old) (S.ids shelf.new) }
+    ensures only { OnlyWrites S.tells manifest.now (S.file shelf.old) (S.file shelf.new)
+        (S.ids shelf.old) (S.ids shelf.new) }
     ensures faults { CountsWrites result (S.faults shelf.old) (S.faults shelf.new) }
 {
     match room.line(event) {
@@ -49,12 +54,17 @@ fn write_each<S: Shelf>(
 ) -> Result<(), ShelfFault>
     requires ready { IsReady manifest.now (S.ids shelf.old) outputs.old }
     ensures ready { IsReady manifest.now (S.ids shelf.new) outputs.new }
-    ensures texts { S.tells → OnOk result ((orig : Files) (text : OutputKind → List ℕ) → HasTexts manifest.now (pieces_of outputs.old) orig (S.file shelf.old) text
-        → HasTexts manifest.now (pieces_of outputs.new) orig (S.file shelf.new) (with_more text output.Journal (lines_of events.now))) }
-    ensures cut { S.tells → OnErr result ((orig : Files) (text : OutputKind → List ℕ) → HasTexts manifest.now (pieces_of outputs.old) orig (S.file shelf.old) text
-        → AreCut manifest.now orig (S.file shelf.new) (with_more text output.Journal (lines_of events.now))) }
+    ensures texts { S.tells → OnOk result ((orig : Files) (text : OutputKind → List ℕ)
+        → HasTexts manifest.now (pieces_of outputs.old) orig (S.file shelf.old) text
+        → HasTexts manifest.now (pieces_of outputs.new) orig (S.file shelf.new)
+        (with_more text output.Journal (lines_of events.now))) }
+    ensures cut { S.tells → OnErr result ((orig : Files) (text : OutputKind → List ℕ)
+        → HasTexts manifest.now (pieces_of outputs.old) orig (S.file shelf.old) text
+        → AreCut manifest.now orig (S.file shelf.new)
+        (with_more text output.Journal (lines_of events.now))) }
     ensures same { OnOk result (SameCaptures manifest.now outputs.old outputs.new) }
-    ensures only { OnlyWrites S.tells manifest.now (S.file shelf.old) (S.file shelf.new) (S.ids shelf.old) (S.ids shelf.new) }
+    ensures only { OnlyWrites S.tells manifest.now (S.file shelf.old) (S.file shelf.new)
+        (S.ids shelf.old) (S.ids shelf.new) }
     ensures faults { CountsWrites result (S.faults shelf.old) (S.faults shelf.new) }
 {
     for event in events {
@@ -74,12 +84,17 @@ pub fn write_events<S: Shelf>(
 ) -> Result<(), ShelfFault>
     requires ready { IsReady manifest.now (S.ids shelf.old) outputs.old }
     ensures ready { IsReady manifest.now (S.ids shelf.new) outputs.new }
-    ensures texts { S.tells → OnOk result ((orig : Files) (text : OutputKind → List ℕ) → HasTexts manifest.now (pieces_of outputs.old) orig (S.file shelf.old) text
-        → HasTexts manifest.now (pieces_of outputs.new) orig (S.file shelf.new) (with_more text output.Journal (lines_of events.now))) }
-    ensures cut { S.tells → OnErr result ((orig : Files) (text : OutputKind → List ℕ) → HasTexts manifest.now (pieces_of outputs.old) orig (S.file shelf.old) text
-        → AreCut manifest.now orig (S.file shelf.new) (with_more text output.Journal (lines_of events.now))) }
+    ensures texts { S.tells → OnOk result ((orig : Files) (text : OutputKind → List ℕ)
+        → HasTexts manifest.now (pieces_of outputs.old) orig (S.file shelf.old) text
+        → HasTexts manifest.now (pieces_of outputs.new) orig (S.file shelf.new)
+        (with_more text output.Journal (lines_of events.now))) }
+    ensures cut { S.tells → OnErr result ((orig : Files) (text : OutputKind → List ℕ)
+        → HasTexts manifest.now (pieces_of outputs.old) orig (S.file shelf.old) text
+        → AreCut manifest.now orig (S.file shelf.new)
+        (with_more text output.Journal (lines_of events.now))) }
     ensures same { OnOk result (SameCaptures manifest.now outputs.old outputs.new) }
-    ensures only { OnlyWrites S.tells manifest.now (S.file shelf.old) (S.file shelf.new) (S.ids shelf.old) (S.ids shelf.new) }
+    ensures only { OnlyWrites S.tells manifest.now (S.file shelf.old) (S.file shelf.new)
+        (S.ids shelf.old) (S.ids shelf.new) }
     ensures faults { CountsWrites result (S.faults shelf.old) (S.faults shelf.new) }
 {
     match room.lines(events) {

@@ -1,4 +1,5 @@
-//! What a run writes under a prefix: a capture for each external port of a tree, and the other kinds that are asked for.
+//! What a run writes under a prefix: a capture for each external port of a tree, and the other
+//! kinds that are asked for.
 ghost use Rattle.std.specs.Prelude.{◌≡◌, ◌<◌, ◌≤◌, ◌+◌, ◌++◌, ◌∷◌, [], if◌then◌else◌, IfOk, OnOk};
 ghost use Rattle.exb_model.specs.Setup.{IsValid, shape_of};
 ghost use Rattle.exb_model.specs.Tree.{IsTree};
@@ -24,8 +25,8 @@ struct PortIndex {
     places: Vec<u16>,
 }
 
-/// What a run writes: the capture of each external port of a tree in port order, and then the other kinds that are asked for, in
-/// their order.
+/// What a run writes: the capture of each external port of a tree in port order, and then the other
+/// kinds that are asked for, in their order.
 pub struct Manifest {
     tree: Tree,
     places: PortIndex,
@@ -58,7 +59,8 @@ impl Model for Manifest {
 
 /// Puts a port behind others, where it is wanted.
 fn put_if(ports: &mut Vec<PortId>, wanted: bool, port: PortId) -> Result<(), NoMemory>
-    ensures { OnOk result (ports.new.items ≡ ports.old.items ++ (if wanted then port ∷ [] else [])) }
+    ensures { OnOk result (ports.new.items ≡ ports.old.items
+        ++ (if wanted then port ∷ [] else [])) }
 {
     if wanted {
         ports.push(port)?;

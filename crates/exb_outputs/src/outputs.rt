@@ -27,7 +27,8 @@ use std::alloc::Global;
 /// How many bytes a piece first has room for, where it gets any.
 const FIRST: usize = 4_096;
 
-/// How many bytes a piece then has room for at once: those of a whole one, and of a frame that goes past its end.
+/// How many bytes a piece then has room for at once: those of a whole one, and of a frame that goes
+/// past its end.
 const WHOLE: usize = 67_584;
 
 /// An output while it is written.
@@ -64,7 +65,8 @@ fn output_name(alloc: Global, manifest: &Manifest, at: u16) -> Result<String, No
 
 /// The outputs of a manifest have different names.
 fn output_names_differ()
-    ensures { (manifest : Listed) (i j : ℕ) → i < output_count manifest → j < output_count manifest → i ≢ j → output_name manifest i ≢ output_name manifest j }
+    ensures { (manifest : Listed) (i j : ℕ) → i < output_count manifest → j < output_count manifest
+        → i ≢ j → output_name manifest i ≢ output_name manifest j }
 {
     file_names_differ();
 }
@@ -90,17 +92,26 @@ fn create_one<S: Shelf>(
 ) -> Result<(), Fault>
     requires within { at < output_count manifest.now }
     requires files { length outputs.old.files.items ≡ at }
-    ensures ids { OnOk result ((id : ℕ) × (ids_of outputs.new ≡ ids_of outputs.old ++ id ∷ []) × (S.ids shelf.new id ≡ writing (output_name manifest.now at))) }
-    ensures pieces { OnOk result (pieces_of outputs.new ≡ pieces_of outputs.old ++ first_text (kind_at manifest.now at) ∷ []) }
+    ensures ids { OnOk result ((id : ℕ) × (ids_of outputs.new ≡ ids_of outputs.old ++ id ∷ [])
+        × (S.ids shelf.new id ≡ writing (output_name manifest.now at))) }
+    ensures pieces { OnOk result (pieces_of outputs.new ≡ pieces_of outputs.old
+        ++ first_text (kind_at manifest.now at) ∷ []) }
     ensures records { OnOk result (records_of outputs.new ≡ records_of outputs.old ++ 0 ∷ []) }
-    ensures sizes { OnOk result (sizes_of outputs.new ≡ sizes_of outputs.old ++ length (first_text (kind_at manifest.now at)) ∷ []) }
+    ensures sizes { OnOk result (sizes_of outputs.new ≡ sizes_of outputs.old
+        ++ length (first_text (kind_at manifest.now at)) ∷ []) }
     ensures count { OnOk result (length outputs.new.files.items ≡ at + 1) }
     ensures opened { Opens (WritesListed manifest.now) (S.ids shelf.old) (S.ids shelf.new) }
-    ensures makes { OnOk result ((id : ℕ) × MakesFile id (output_name manifest.now at) (S.ids shelf.old) (S.ids shelf.new)) }
-    ensures may_make { OnErr result (((j : ℕ) → S.ids shelf.new j ≡ S.ids shelf.old j) ⊎ ((id : ℕ) × MakesFile id (output_name manifest.now at) (S.ids shelf.old) (S.ids shelf.new))) }
-    ensures empty { S.tells → OnOk result (Puts (S.file shelf.old) (S.file shelf.new) (output_name manifest.now at) []) }
-    ensures others { S.tells → OnErr result ((m : List ℕ) → m ≢ output_name manifest.now at → S.file shelf.new m ≡ S.file shelf.old m) }
-    ensures stays { S.tells → OnErr result (SameFiles (S.file shelf.old) (S.file shelf.new) ⊎ Puts (S.file shelf.old) (S.file shelf.new) (output_name manifest.now at) []) }
+    ensures makes { OnOk result ((id : ℕ) × MakesFile id (output_name manifest.now at)
+        (S.ids shelf.old) (S.ids shelf.new)) }
+    ensures may_make { OnErr result (((j : ℕ) → S.ids shelf.new j ≡ S.ids shelf.old j)
+        ⊎ ((id : ℕ) × MakesFile id (output_name manifest.now at) (S.ids shelf.old)
+        (S.ids shelf.new))) }
+    ensures empty { S.tells → OnOk result (Puts (S.file shelf.old) (S.file shelf.new)
+        (output_name manifest.now at) []) }
+    ensures others { S.tells → OnErr result ((m : List ℕ) → m ≢ output_name manifest.now at
+        → S.file shelf.new m ≡ S.file shelf.old m) }
+    ensures stays { S.tells → OnErr result (SameFiles (S.file shelf.old) (S.file shelf.new)
+        ⊎ Puts (S.file shelf.old) (S.file shelf.new) (output_name manifest.now at) []) }
     ensures causes { IfErr result IsOfWriting }
     ensures faults { CountsFaults result (S.faults shelf.old) (S.faults shelf.new) }
 {
@@ -126,10 +137,13 @@ pub fn create_all<S: Shelf>(
     manifest: &Manifest,
 ) -> Result<Outputs, Fault>
     ensures ready { IfOk result (λ outputs. IsReady manifest.now (S.ids shelf.new) outputs) }
-    ensures texts { S.tells → IfOk result (λ outputs. HasTexts manifest.now (pieces_of outputs) (S.file shelf.old) (S.file shelf.new) first_text) }
+    ensures texts { S.tells → IfOk result (λ outputs. HasTexts manifest.now (pieces_of outputs)
+        (S.file shelf.old) (S.file shelf.new) first_text) }
     ensures sent { IfOk result (λ outputs. HasSent manifest.now outputs (λ q. [])) }
-    ensures cut { S.tells → OnErr result ((text : OutputKind → List ℕ) → AreCut manifest.now (S.file shelf.old) (S.file shelf.new) text) }
-    ensures only { OnlyMakes S.tells manifest.now (S.file shelf.old) (S.file shelf.new) (S.ids shelf.old) (S.ids shelf.new) }
+    ensures cut { S.tells → OnErr result ((text : OutputKind → List ℕ)
+        → AreCut manifest.now (S.file shelf.old) (S.file shelf.new) text) }
+    ensures only { OnlyMakes S.tells manifest.now (S.file shelf.old) (S.file shelf.new)
+        (S.ids shelf.old) (S.ids shelf.new) }
     ensures made { MakesInOrder manifest.now result (S.ids shelf.old) (S.ids shelf.new) }
     ensures causes { IfErr result IsOfWriting }
     ensures faults { CountsFaults result (S.faults shelf.old) (S.faults shelf.new) }
@@ -149,13 +163,18 @@ pub fn create_all<S: Shelf>(
 #[inline(never)]
 fn flush<S: Shelf>(shelf: &mut S, file: &mut OpenOutput) -> Result<(), ShelfFault>
     requires { IsWriting (S.ids shelf.old file.old.id) }
-    ensures written { S.tells → OnOk result (Adds (S.file shelf.old) (S.file shelf.new) (S.ids shelf.old file.old.id).name file.old.piece.items) }
-    ensures front { S.tells → OnErr result (AddsFront (S.file shelf.old) (S.file shelf.new) (S.ids shelf.old file.old.id).name file.old.piece.items) }
+    ensures written { S.tells
+        → OnOk result (Adds (S.file shelf.old) (S.file shelf.new) (S.ids shelf.old file.old.id).name
+        file.old.piece.items) }
+    ensures front { S.tells → OnErr result (AddsFront (S.file shelf.old) (S.file shelf.new)
+        (S.ids shelf.old file.old.id).name file.old.piece.items) }
     ensures empty { OnOk result (file.new.piece.items ≡ []) }
     ensures id { file.new.id ≡ file.old.id }
     ensures records { file.new.records ≡ file.old.records }
-    ensures counted { OnOk result (file.old.written + length file.old.piece.items < 2 ^ 64 → file.new.written ≡ file.old.written + length file.old.piece.items) }
-    ensures others { S.tells → (m : List ℕ) → m ≢ (S.ids shelf.old file.old.id).name → S.file shelf.new m ≡ S.file shelf.old m }
+    ensures counted { OnOk result (file.old.written + length file.old.piece.items < 2 ^ 64
+        → file.new.written ≡ file.old.written + length file.old.piece.items) }
+    ensures others { S.tells → (m : List ℕ) → m ≢ (S.ids shelf.old file.old.id).name
+        → S.file shelf.new m ≡ S.file shelf.old m }
     ensures kept { (j : ℕ) → S.ids shelf.new j ≡ S.ids shelf.old j }
     ensures faults { CountsWrites result (S.faults shelf.old) (S.faults shelf.new) }
 {
@@ -165,7 +184,8 @@ fn flush<S: Shelf>(shelf: &mut S, file: &mut OpenOutput) -> Result<(), ShelfFaul
     Ok(())
 }
 
-/// Makes room behind a piece, a little at first and then for a whole one, so that it isn't copied over and over as it grows.
+/// Makes room behind a piece, a little at first and then for a whole one, so that it isn't copied
+/// over and over as it grows.
 #[cold]
 #[inline(never)]
 fn make_room(piece: &mut Vec<u8>)
@@ -195,14 +215,20 @@ fn see_to_room(piece: &mut Vec<u8>, more: usize)
 fn add<S: Shelf>(shelf: &mut S, file: &mut OpenOutput, bytes: &[u8]) -> Result<(), ShelfFault>
     requires { IsWriting (S.ids shelf.old file.old.id) }
     ensures kept_or_written { S.tells → OnOk result (
-        (SameFiles (S.file shelf.old) (S.file shelf.new) × (file.new.piece.items ≡ file.old.piece.items ++ bytes.now))
-        ⊎ (Adds (S.file shelf.old) (S.file shelf.new) (S.ids shelf.old file.old.id).name (file.old.piece.items ++ bytes.now) × (file.new.piece.items ≡ []))) }
-    ensures front { S.tells → OnErr result (AddsFront (S.file shelf.old) (S.file shelf.new) (S.ids shelf.old file.old.id).name (file.old.piece.items ++ bytes.now)) }
+        (SameFiles (S.file shelf.old) (S.file shelf.new)
+        × (file.new.piece.items ≡ file.old.piece.items ++ bytes.now))
+        ⊎ (Adds (S.file shelf.old) (S.file shelf.new) (S.ids shelf.old file.old.id).name
+        (file.old.piece.items ++ bytes.now) × (file.new.piece.items ≡ []))) }
+    ensures front { S.tells → OnErr result (AddsFront (S.file shelf.old) (S.file shelf.new)
+        (S.ids shelf.old file.old.id).name (file.old.piece.items ++ bytes.now)) }
     ensures id { file.new.id ≡ file.old.id }
     ensures records { file.new.records ≡ file.old.records }
-    ensures counted { OnOk result (file.old.written + length file.old.piece.items + length bytes.now < 2 ^ 64
-        → file.new.written + length file.new.piece.items ≡ file.old.written + length file.old.piece.items + length bytes.now) }
-    ensures others { S.tells → (m : List ℕ) → m ≢ (S.ids shelf.old file.old.id).name → S.file shelf.new m ≡ S.file shelf.old m }
+    ensures counted { OnOk result (file.old.written + length file.old.piece.items + length bytes.now
+        < 2 ^ 64
+        → file.new.written + length file.new.piece.items
+        ≡ file.old.written + length file.old.piece.items + length bytes.now) }
+    ensures others { S.tells → (m : List ℕ) → m ≢ (S.ids shelf.old file.old.id).name
+        → S.file shelf.new m ≡ S.file shelf.old m }
     ensures kept { (j : ℕ) → S.ids shelf.new j ≡ S.ids shelf.old j }
     ensures faults { CountsWrites result (S.faults shelf.old) (S.faults shelf.new) }
 {
@@ -226,14 +252,20 @@ fn add_record<S: Shelf>(
 ) -> Result<(), ShelfFault>
     requires { IsWriting (S.ids shelf.old file.old.id) }
     ensures kept_or_written { S.tells → OnOk result (
-        (SameFiles (S.file shelf.old) (S.file shelf.new) × (file.new.piece.items ≡ file.old.piece.items ++ (head.now ++ bytes.now)))
-        ⊎ (Adds (S.file shelf.old) (S.file shelf.new) (S.ids shelf.old file.old.id).name (file.old.piece.items ++ (head.now ++ bytes.now)) × (file.new.piece.items ≡ []))) }
-    ensures front { S.tells → OnErr result (AddsFront (S.file shelf.old) (S.file shelf.new) (S.ids shelf.old file.old.id).name (file.old.piece.items ++ (head.now ++ bytes.now))) }
+        (SameFiles (S.file shelf.old) (S.file shelf.new)
+        × (file.new.piece.items ≡ file.old.piece.items ++ (head.now ++ bytes.now)))
+        ⊎ (Adds (S.file shelf.old) (S.file shelf.new) (S.ids shelf.old file.old.id).name
+        (file.old.piece.items ++ (head.now ++ bytes.now)) × (file.new.piece.items ≡ []))) }
+    ensures front { S.tells → OnErr result (AddsFront (S.file shelf.old) (S.file shelf.new)
+        (S.ids shelf.old file.old.id).name (file.old.piece.items ++ (head.now ++ bytes.now))) }
     ensures id { file.new.id ≡ file.old.id }
     ensures records { file.new.records ≡ file.old.records }
-    ensures counted { OnOk result (file.old.written + length file.old.piece.items + length (head.now ++ bytes.now) < 2 ^ 64
-        → file.new.written + length file.new.piece.items ≡ file.old.written + length file.old.piece.items + length (head.now ++ bytes.now)) }
-    ensures others { S.tells → (m : List ℕ) → m ≢ (S.ids shelf.old file.old.id).name → S.file shelf.new m ≡ S.file shelf.old m }
+    ensures counted { OnOk result (file.old.written + length file.old.piece.items + length
+        (head.now ++ bytes.now) < 2 ^ 64
+        → file.new.written + length file.new.piece.items
+        ≡ file.old.written + length file.old.piece.items + length (head.now ++ bytes.now)) }
+    ensures others { S.tells → (m : List ℕ) → m ≢ (S.ids shelf.old file.old.id).name
+        → S.file shelf.new m ≡ S.file shelf.old m }
     ensures kept { (j : ℕ) → S.ids shelf.new j ≡ S.ids shelf.old j }
     ensures faults { CountsWrites result (S.faults shelf.old) (S.faults shelf.new) }
 {
@@ -245,7 +277,8 @@ fn add_record<S: Shelf>(
 }
 
 impl Outputs {
-    /// Puts a record behind the capture of a port: what stands before the bytes of its frame, and these.
+    /// Puts a record behind the capture of a port: what stands before the bytes of its frame, and
+    /// these.
     #[inline(always)]
     pub fn write_record<S: Shelf>(
         &mut self,
@@ -259,12 +292,19 @@ impl Outputs {
         requires external { is_external manifest.now.tree port ≡ true }
         requires low { port < 4160 }
         ensures ready { IsReady manifest.now (S.ids shelf.new) self.new }
-        ensures texts { S.tells → OnOk result ((orig : Files) (text : OutputKind → List ℕ) → HasTexts manifest.now (pieces_of self.old) orig (S.file shelf.old) text
-            → HasTexts manifest.now (pieces_of self.new) orig (S.file shelf.new) (with_more text (output.Capture port) (head.now ++ bytes.now))) }
-        ensures cut { S.tells → OnErr result ((orig : Files) (text : OutputKind → List ℕ) → HasTexts manifest.now (pieces_of self.old) orig (S.file shelf.old) text
-            → AreCut manifest.now orig (S.file shelf.new) (with_more text (output.Capture port) (head.now ++ bytes.now))) }
-        ensures sent { OnOk result ((moment : ℕ) (sent : ℕ → List Sent) → HasSent manifest.now self.old sent → HasSent manifest.now self.new (sent_more sent port (moment, bytes.now))) }
-        ensures only { OnlyWrites S.tells manifest.now (S.file shelf.old) (S.file shelf.new) (S.ids shelf.old) (S.ids shelf.new) }
+        ensures texts { S.tells → OnOk result ((orig : Files) (text : OutputKind → List ℕ)
+            → HasTexts manifest.now (pieces_of self.old) orig (S.file shelf.old) text
+            → HasTexts manifest.now (pieces_of self.new) orig (S.file shelf.new)
+            (with_more text (output.Capture port) (head.now ++ bytes.now))) }
+        ensures cut { S.tells → OnErr result ((orig : Files) (text : OutputKind → List ℕ)
+            → HasTexts manifest.now (pieces_of self.old) orig (S.file shelf.old) text
+            → AreCut manifest.now orig (S.file shelf.new)
+            (with_more text (output.Capture port) (head.now ++ bytes.now))) }
+        ensures sent { OnOk result ((moment : ℕ) (sent : ℕ → List Sent)
+            → HasSent manifest.now self.old sent
+            → HasSent manifest.now self.new (sent_more sent port (moment, bytes.now))) }
+        ensures only { OnlyWrites S.tells manifest.now (S.file shelf.old) (S.file shelf.new)
+            (S.ids shelf.old) (S.ids shelf.new) }
         ensures faults { CountsWrites result (S.faults shelf.old) (S.faults shelf.new) }
     {
         output_names_differ();
@@ -277,11 +317,15 @@ impl Outputs {
     /// Writes all that is not written yet.
     pub fn finish<S: Shelf>(&mut self, shelf: &mut S, manifest: &Manifest) -> Result<(), ShelfFault>
         requires ready { IsReady manifest.now (S.ids shelf.old) self.old }
-        ensures texts { S.tells → OnOk result ((orig : Files) (text : OutputKind → List ℕ) → HasTexts manifest.now (pieces_of self.old) orig (S.file shelf.old) text
-            → Filled orig (S.file shelf.new) (output_count manifest.now) (output_name manifest.now) (λ j bytes. bytes ≡ text (kind_at manifest.now j))) }
-        ensures cut { S.tells → OnErr result ((orig : Files) (text : OutputKind → List ℕ) → HasTexts manifest.now (pieces_of self.old) orig (S.file shelf.old) text
+        ensures texts { S.tells → OnOk result ((orig : Files) (text : OutputKind → List ℕ)
+            → HasTexts manifest.now (pieces_of self.old) orig (S.file shelf.old) text
+            → Filled orig (S.file shelf.new) (output_count manifest.now) (output_name manifest.now)
+            (λ j bytes. bytes ≡ text (kind_at manifest.now j))) }
+        ensures cut { S.tells → OnErr result ((orig : Files) (text : OutputKind → List ℕ)
+            → HasTexts manifest.now (pieces_of self.old) orig (S.file shelf.old) text
             → AreCut manifest.now orig (S.file shelf.new) text) }
-        ensures only { OnlyWrites S.tells manifest.now (S.file shelf.old) (S.file shelf.new) (S.ids shelf.old) (S.ids shelf.new) }
+        ensures only { OnlyWrites S.tells manifest.now (S.file shelf.old) (S.file shelf.new)
+            (S.ids shelf.old) (S.ids shelf.new) }
         ensures faults { CountsWrites result (S.faults shelf.old) (S.faults shelf.new) }
     {
         output_names_differ();
@@ -304,12 +348,16 @@ impl Outputs {
         requires behind { port_of kind ≡ None }
         requires ready { IsReady manifest.now (S.ids shelf.old) self.old }
         ensures ready { IsReady manifest.now (S.ids shelf.new) self.new }
-        ensures texts { S.tells → OnOk result ((orig : Files) (text : OutputKind → List ℕ) → HasTexts manifest.now (pieces_of self.old) orig (S.file shelf.old) text
-            → HasTexts manifest.now (pieces_of self.new) orig (S.file shelf.new) (with_more text kind bytes.now)) }
-        ensures cut { S.tells → OnErr result ((orig : Files) (text : OutputKind → List ℕ) → HasTexts manifest.now (pieces_of self.old) orig (S.file shelf.old) text
+        ensures texts { S.tells → OnOk result ((orig : Files) (text : OutputKind → List ℕ)
+            → HasTexts manifest.now (pieces_of self.old) orig (S.file shelf.old) text
+            → HasTexts manifest.now (pieces_of self.new) orig (S.file shelf.new)
+            (with_more text kind bytes.now)) }
+        ensures cut { S.tells → OnErr result ((orig : Files) (text : OutputKind → List ℕ)
+            → HasTexts manifest.now (pieces_of self.old) orig (S.file shelf.old) text
             → AreCut manifest.now orig (S.file shelf.new) (with_more text kind bytes.now)) }
         ensures same { OnOk result (SameCaptures manifest.now self.old self.new) }
-        ensures only { OnlyWrites S.tells manifest.now (S.file shelf.old) (S.file shelf.new) (S.ids shelf.old) (S.ids shelf.new) }
+        ensures only { OnlyWrites S.tells manifest.now (S.file shelf.old) (S.file shelf.new)
+            (S.ids shelf.old) (S.ids shelf.new) }
         ensures faults { CountsWrites result (S.faults shelf.old) (S.faults shelf.new) }
     {
         let at = manifest.place_behind(kind);
@@ -350,12 +398,17 @@ impl Outputs {
         requires ready { IsReady manifest.now (S.ids shelf.old) self.old }
         requires within { at < output_count manifest.now }
         ensures ready { IsReady manifest.now (S.ids shelf.new) self.new }
-        ensures texts { S.tells → OnOk result ((orig : Files) (text : OutputKind → List ℕ) → HasTexts manifest.now (pieces_of self.old) orig (S.file shelf.old) text
-            → HasTexts manifest.now (pieces_of self.new) orig (S.file shelf.new) (with_more text (kind_at manifest.now at) bytes.now)) }
-        ensures cut { S.tells → OnErr result ((orig : Files) (text : OutputKind → List ℕ) → HasTexts manifest.now (pieces_of self.old) orig (S.file shelf.old) text
-            → AreCut manifest.now orig (S.file shelf.new) (with_more text (kind_at manifest.now at) bytes.now)) }
+        ensures texts { S.tells → OnOk result ((orig : Files) (text : OutputKind → List ℕ)
+            → HasTexts manifest.now (pieces_of self.old) orig (S.file shelf.old) text
+            → HasTexts manifest.now (pieces_of self.new) orig (S.file shelf.new)
+            (with_more text (kind_at manifest.now at) bytes.now)) }
+        ensures cut { S.tells → OnErr result ((orig : Files) (text : OutputKind → List ℕ)
+            → HasTexts manifest.now (pieces_of self.old) orig (S.file shelf.old) text
+            → AreCut manifest.now orig (S.file shelf.new)
+            (with_more text (kind_at manifest.now at) bytes.now)) }
         ensures grows { OnOk result (GrowsAt at (length bytes.now) self.old self.new) }
-        ensures only { OnlyWrites S.tells manifest.now (S.file shelf.old) (S.file shelf.new) (S.ids shelf.old) (S.ids shelf.new) }
+        ensures only { OnlyWrites S.tells manifest.now (S.file shelf.old) (S.file shelf.new)
+            (S.ids shelf.old) (S.ids shelf.new) }
         ensures faults { CountsWrites result (S.faults shelf.old) (S.faults shelf.new) }
     {
         output_names_differ();

@@ -65,11 +65,13 @@ impl RunCounts {
         })
     }
 
-    /// Counts what has happened: events, whether each relayed frame among them passed, and how many frames left.
+    /// Counts what has happened: events, whether each relayed frame among them passed, and how many
+    /// frames left.
     #[inline(always)]
     pub fn note(&mut self, events: &[Event], passed: &[bool], left: usize)
         requires { CanCount self.old events.now passed.now left }
-        ensures tally { counts_of self.new.tally ≡ with_left left (fold (λ c e. counted e c) (counts_of self.old.tally) events.now) }
+        ensures tally { counts_of self.new.tally
+            ≡ with_left left (fold (λ c e. counted e c) (counts_of self.old.tally) events.now) }
         ensures ports { CountsOn self.old.ports self.new.ports events.now passed.now }
     {
         count_all(&mut self.tally, events);

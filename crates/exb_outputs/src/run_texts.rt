@@ -54,12 +54,18 @@ pub fn write_told<S: Shelf>(
     requires ready { IsReady manifest.now (S.ids shelf.old) outputs.old }
     requires frames { All (λ x. CanBeWritten manifest.now x) left.now }
     ensures ready { IsReady manifest.now (S.ids shelf.new) outputs.new }
-    ensures texts { S.tells → OnOk result ((orig : Files) (text : OutputKind → List ℕ) → HasTexts manifest.now (pieces_of outputs.old) orig (S.file shelf.old) text
-        → HasTexts manifest.now (pieces_of outputs.new) orig (S.file shelf.new) (with_told text events.now left.now lines.now)) }
-    ensures cut { S.tells → OnErr result ((orig : Files) (text : OutputKind → List ℕ) → HasTexts manifest.now (pieces_of outputs.old) orig (S.file shelf.old) text
-        → AreCut manifest.now orig (S.file shelf.new) (with_told text events.now left.now lines.now)) }
-    ensures sent { OnOk result ((sent : ℕ → List Sent) → HasSent manifest.now outputs.old sent → HasSent manifest.now outputs.new (sent_with sent left.now)) }
-    ensures only { OnlyWrites S.tells manifest.now (S.file shelf.old) (S.file shelf.new) (S.ids shelf.old) (S.ids shelf.new) }
+    ensures texts { S.tells → OnOk result ((orig : Files) (text : OutputKind → List ℕ)
+        → HasTexts manifest.now (pieces_of outputs.old) orig (S.file shelf.old) text
+        → HasTexts manifest.now (pieces_of outputs.new) orig (S.file shelf.new)
+        (with_told text events.now left.now lines.now)) }
+    ensures cut { S.tells → OnErr result ((orig : Files) (text : OutputKind → List ℕ)
+        → HasTexts manifest.now (pieces_of outputs.old) orig (S.file shelf.old) text
+        → AreCut manifest.now orig (S.file shelf.new)
+        (with_told text events.now left.now lines.now)) }
+    ensures sent { OnOk result ((sent : ℕ → List Sent) → HasSent manifest.now outputs.old sent
+        → HasSent manifest.now outputs.new (sent_with sent left.now)) }
+    ensures only { OnlyWrites S.tells manifest.now (S.file shelf.old) (S.file shelf.new)
+        (S.ids shelf.old) (S.ids shelf.new) }
     ensures faults { CountsWrites result (S.faults shelf.old) (S.faults shelf.new) }
 {
     write_events(shelf, manifest, outputs, &mut room.line, events)?;
@@ -79,11 +85,16 @@ pub fn write_end<S: Shelf>(
     requires counted { AreCountsOf manifest.now ports.now }
     requires sent { AreCountedAt manifest.now outputs.old }
     ensures ready { IsReady manifest.now (S.ids shelf.new) outputs.new }
-    ensures texts { S.tells → OnOk result ((orig : Files) (text : OutputKind → List ℕ) → HasTexts manifest.now (pieces_of outputs.old) orig (S.file shelf.old) text
-        → HasTexts manifest.now (pieces_of outputs.new) orig (S.file shelf.new) (with_end text manifest.now ports.now outputs.old)) }
-    ensures cut { S.tells → OnErr result ((orig : Files) (text : OutputKind → List ℕ) → HasTexts manifest.now (pieces_of outputs.old) orig (S.file shelf.old) text
-        → AreCut manifest.now orig (S.file shelf.new) (with_end text manifest.now ports.now outputs.old)) }
-    ensures only { OnlyWrites S.tells manifest.now (S.file shelf.old) (S.file shelf.new) (S.ids shelf.old) (S.ids shelf.new) }
+    ensures texts { S.tells → OnOk result ((orig : Files) (text : OutputKind → List ℕ)
+        → HasTexts manifest.now (pieces_of outputs.old) orig (S.file shelf.old) text
+        → HasTexts manifest.now (pieces_of outputs.new) orig (S.file shelf.new)
+        (with_end text manifest.now ports.now outputs.old)) }
+    ensures cut { S.tells → OnErr result ((orig : Files) (text : OutputKind → List ℕ)
+        → HasTexts manifest.now (pieces_of outputs.old) orig (S.file shelf.old) text
+        → AreCut manifest.now orig (S.file shelf.new)
+        (with_end text manifest.now ports.now outputs.old)) }
+    ensures only { OnlyWrites S.tells manifest.now (S.file shelf.old) (S.file shelf.new)
+        (S.ids shelf.old) (S.ids shelf.new) }
     ensures faults { CountsWrites result (S.faults shelf.old) (S.faults shelf.new) }
 {
     match ports {

@@ -15,7 +15,8 @@ use exb_capture::record_text;
 use exb_shelf::{Shelf, ShelfFault};
 use exb_world::Left;
 
-/// Puts a record, of which what stands before the frame's bytes is given, behind the capture of each port of a row.
+/// Puts a record, of which what stands before the frame's bytes is given, behind the capture of
+/// each port of a row.
 #[inline(always)]
 fn write_row<S: Shelf>(
     shelf: &mut S,
@@ -28,12 +29,17 @@ fn write_row<S: Shelf>(
     requires frame { CanBeWritten manifest.now left.now }
     requires head { record_of (left.now.moment, left.now.bytes) ≡ head.now ++ left.now.bytes }
     ensures ready { IsReady manifest.now (S.ids shelf.new) outputs.new }
-    ensures texts { S.tells → OnOk result ((orig : Files) (text : OutputKind → List ℕ) → HasTexts manifest.now (pieces_of outputs.old) orig (S.file shelf.old) text
-        → HasTexts manifest.now (pieces_of outputs.new) orig (S.file shelf.new) (with_copies text (copies_of left.now))) }
-    ensures cut { S.tells → OnErr result ((orig : Files) (text : OutputKind → List ℕ) → HasTexts manifest.now (pieces_of outputs.old) orig (S.file shelf.old) text
+    ensures texts { S.tells → OnOk result ((orig : Files) (text : OutputKind → List ℕ)
+        → HasTexts manifest.now (pieces_of outputs.old) orig (S.file shelf.old) text
+        → HasTexts manifest.now (pieces_of outputs.new) orig (S.file shelf.new)
+        (with_copies text (copies_of left.now))) }
+    ensures cut { S.tells → OnErr result ((orig : Files) (text : OutputKind → List ℕ)
+        → HasTexts manifest.now (pieces_of outputs.old) orig (S.file shelf.old) text
         → AreCut manifest.now orig (S.file shelf.new) (with_copies text (copies_of left.now))) }
-    ensures sent { OnOk result ((sent : ℕ → List Sent) → HasSent manifest.now outputs.old sent → HasSent manifest.now outputs.new (sent_with_copies sent (copies_of left.now))) }
-    ensures only { OnlyWrites S.tells manifest.now (S.file shelf.old) (S.file shelf.new) (S.ids shelf.old) (S.ids shelf.new) }
+    ensures sent { OnOk result ((sent : ℕ → List Sent) → HasSent manifest.now outputs.old sent
+        → HasSent manifest.now outputs.new (sent_with_copies sent (copies_of left.now))) }
+    ensures only { OnlyWrites S.tells manifest.now (S.file shelf.old) (S.file shelf.new)
+        (S.ids shelf.old) (S.ids shelf.new) }
     ensures faults { CountsWrites result (S.faults shelf.old) (S.faults shelf.new) }
 {
     let bytes = left.bytes.as_slice();
@@ -44,7 +50,8 @@ fn write_row<S: Shelf>(
     Ok(())
 }
 
-/// Puts a frame that left behind the capture of each port of its row. What stands before its bytes is made once.
+/// Puts a frame that left behind the capture of each port of its row. What stands before its bytes
+/// is made once.
 #[inline(always)]
 fn add_left<S: Shelf>(
     shelf: &mut S,
@@ -55,12 +62,17 @@ fn add_left<S: Shelf>(
     requires ready { IsReady manifest.now (S.ids shelf.old) outputs.old }
     requires frame { CanBeWritten manifest.now left.now }
     ensures ready { IsReady manifest.now (S.ids shelf.new) outputs.new }
-    ensures texts { S.tells → OnOk result ((orig : Files) (text : OutputKind → List ℕ) → HasTexts manifest.now (pieces_of outputs.old) orig (S.file shelf.old) text
-        → HasTexts manifest.now (pieces_of outputs.new) orig (S.file shelf.new) (with_copies text (copies_of left.now))) }
-    ensures cut { S.tells → OnErr result ((orig : Files) (text : OutputKind → List ℕ) → HasTexts manifest.now (pieces_of outputs.old) orig (S.file shelf.old) text
+    ensures texts { S.tells → OnOk result ((orig : Files) (text : OutputKind → List ℕ)
+        → HasTexts manifest.now (pieces_of outputs.old) orig (S.file shelf.old) text
+        → HasTexts manifest.now (pieces_of outputs.new) orig (S.file shelf.new)
+        (with_copies text (copies_of left.now))) }
+    ensures cut { S.tells → OnErr result ((orig : Files) (text : OutputKind → List ℕ)
+        → HasTexts manifest.now (pieces_of outputs.old) orig (S.file shelf.old) text
         → AreCut manifest.now orig (S.file shelf.new) (with_copies text (copies_of left.now))) }
-    ensures sent { OnOk result ((sent : ℕ → List Sent) → HasSent manifest.now outputs.old sent → HasSent manifest.now outputs.new (sent_with_copies sent (copies_of left.now))) }
-    ensures only { OnlyWrites S.tells manifest.now (S.file shelf.old) (S.file shelf.new) (S.ids shelf.old) (S.ids shelf.new) }
+    ensures sent { OnOk result ((sent : ℕ → List Sent) → HasSent manifest.now outputs.old sent
+        → HasSent manifest.now outputs.new (sent_with_copies sent (copies_of left.now))) }
+    ensures only { OnlyWrites S.tells manifest.now (S.file shelf.old) (S.file shelf.new)
+        (S.ids shelf.old) (S.ids shelf.new) }
     ensures faults { CountsWrites result (S.faults shelf.old) (S.faults shelf.new) }
 {
     if left.row.is_empty() {
@@ -81,12 +93,17 @@ pub fn write_left<S: Shelf>(
     requires ready { IsReady manifest.now (S.ids shelf.old) outputs.old }
     requires frames { All (λ x. CanBeWritten manifest.now x) left.now }
     ensures ready { IsReady manifest.now (S.ids shelf.new) outputs.new }
-    ensures texts { S.tells → OnOk result ((orig : Files) (text : OutputKind → List ℕ) → HasTexts manifest.now (pieces_of outputs.old) orig (S.file shelf.old) text
-        → HasTexts manifest.now (pieces_of outputs.new) orig (S.file shelf.new) (with_left_frames text left.now)) }
-    ensures cut { S.tells → OnErr result ((orig : Files) (text : OutputKind → List ℕ) → HasTexts manifest.now (pieces_of outputs.old) orig (S.file shelf.old) text
+    ensures texts { S.tells → OnOk result ((orig : Files) (text : OutputKind → List ℕ)
+        → HasTexts manifest.now (pieces_of outputs.old) orig (S.file shelf.old) text
+        → HasTexts manifest.now (pieces_of outputs.new) orig (S.file shelf.new)
+        (with_left_frames text left.now)) }
+    ensures cut { S.tells → OnErr result ((orig : Files) (text : OutputKind → List ℕ)
+        → HasTexts manifest.now (pieces_of outputs.old) orig (S.file shelf.old) text
         → AreCut manifest.now orig (S.file shelf.new) (with_left_frames text left.now)) }
-    ensures sent { OnOk result ((sent : ℕ → List Sent) → HasSent manifest.now outputs.old sent → HasSent manifest.now outputs.new (sent_with sent left.now)) }
-    ensures only { OnlyWrites S.tells manifest.now (S.file shelf.old) (S.file shelf.new) (S.ids shelf.old) (S.ids shelf.new) }
+    ensures sent { OnOk result ((sent : ℕ → List Sent) → HasSent manifest.now outputs.old sent
+        → HasSent manifest.now outputs.new (sent_with sent left.now)) }
+    ensures only { OnlyWrites S.tells manifest.now (S.file shelf.old) (S.file shelf.new)
+        (S.ids shelf.old) (S.ids shelf.new) }
     ensures faults { CountsWrites result (S.faults shelf.old) (S.faults shelf.new) }
 {
     for frame in left {

@@ -26,12 +26,17 @@ fn add_line<S: Shelf>(
     requires traced { manifest.now.options.trace ≡ true }
     requires ready { IsReady manifest.now (S.ids shelf.old) outputs.old }
     ensures ready { IsReady manifest.now (S.ids shelf.new) outputs.new }
-    ensures texts { S.tells → OnOk result ((orig : Files) (text : OutputKind → List ℕ) → HasTexts manifest.now (pieces_of outputs.old) orig (S.file shelf.old) text
-        → HasTexts manifest.now (pieces_of outputs.new) orig (S.file shelf.new) (with_more text output.Trace (trace_line one.now ++ 10 ∷ []))) }
-    ensures cut { S.tells → OnErr result ((orig : Files) (text : OutputKind → List ℕ) → HasTexts manifest.now (pieces_of outputs.old) orig (S.file shelf.old) text
-        → AreCut manifest.now orig (S.file shelf.new) (with_more text output.Trace (trace_line one.now ++ 10 ∷ []))) }
+    ensures texts { S.tells → OnOk result ((orig : Files) (text : OutputKind → List ℕ)
+        → HasTexts manifest.now (pieces_of outputs.old) orig (S.file shelf.old) text
+        → HasTexts manifest.now (pieces_of outputs.new) orig (S.file shelf.new)
+        (with_more text output.Trace (trace_line one.now ++ 10 ∷ []))) }
+    ensures cut { S.tells → OnErr result ((orig : Files) (text : OutputKind → List ℕ)
+        → HasTexts manifest.now (pieces_of outputs.old) orig (S.file shelf.old) text
+        → AreCut manifest.now orig (S.file shelf.new)
+        (with_more text output.Trace (trace_line one.now ++ 10 ∷ []))) }
     ensures same { OnOk result (SameCaptures manifest.now outputs.old outputs.new) }
-    ensures only { OnlyWrites S.tells manifest.now (S.file shelf.old) (S.file shelf.new) (S.ids shelf.old) (S.ids shelf.new) }
+    ensures only { OnlyWrites S.tells manifest.now (S.file shelf.old) (S.file shelf.new)
+        (S.ids shelf.old) (S.ids shelf.new) }
     ensures faults { CountsWrites result (S.faults shelf.old) (S.faults shelf.new) }
 {
     line.clear();
@@ -52,12 +57,17 @@ pub fn write_trace<S: Shelf>(
 ) -> Result<(), ShelfFault>
     requires ready { IsReady manifest.now (S.ids shelf.old) outputs.old }
     ensures ready { IsReady manifest.now (S.ids shelf.new) outputs.new }
-    ensures texts { S.tells → OnOk result ((orig : Files) (text : OutputKind → List ℕ) → HasTexts manifest.now (pieces_of outputs.old) orig (S.file shelf.old) text
-        → HasTexts manifest.now (pieces_of outputs.new) orig (S.file shelf.new) (with_more text output.Trace (trace_text lines.now))) }
-    ensures cut { S.tells → OnErr result ((orig : Files) (text : OutputKind → List ℕ) → HasTexts manifest.now (pieces_of outputs.old) orig (S.file shelf.old) text
-        → AreCut manifest.now orig (S.file shelf.new) (with_more text output.Trace (trace_text lines.now))) }
+    ensures texts { S.tells → OnOk result ((orig : Files) (text : OutputKind → List ℕ)
+        → HasTexts manifest.now (pieces_of outputs.old) orig (S.file shelf.old) text
+        → HasTexts manifest.now (pieces_of outputs.new) orig (S.file shelf.new)
+        (with_more text output.Trace (trace_text lines.now))) }
+    ensures cut { S.tells → OnErr result ((orig : Files) (text : OutputKind → List ℕ)
+        → HasTexts manifest.now (pieces_of outputs.old) orig (S.file shelf.old) text
+        → AreCut manifest.now orig (S.file shelf.new)
+        (with_more text output.Trace (trace_text lines.now))) }
     ensures same { OnOk result (SameCaptures manifest.now outputs.old outputs.new) }
-    ensures only { OnlyWrites S.tells manifest.now (S.file shelf.old) (S.file shelf.new) (S.ids shelf.old) (S.ids shelf.new) }
+    ensures only { OnlyWrites S.tells manifest.now (S.file shelf.old) (S.file shelf.new)
+        (S.ids shelf.old) (S.ids shelf.new) }
     ensures faults { CountsWrites result (S.faults shelf.old) (S.faults shelf.new) }
 {
     if !manifest.options().trace {

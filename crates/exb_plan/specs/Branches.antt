@@ -16,7 +16,8 @@ AreTrunks t trunks = (n : ℕ) → n < 65 → slice_index trunks n ≡ (if is_ex
 abbrev pub ArePlaces : (ℕ → Bool) → Places → Type 0
 ArePlaces here places = (k : ℕ) → k < 64 → here k ≡ (nat_le places.first (k + 1) && nat_lt (k + 1) places.past)
 
--- the trunks of a tree, its extended ports, the isolated ports of a configuration, and the bridge ports that pass a test
+-- the trunks of a tree, its extended ports, the isolated ports of a configuration, and the bridge ports that pass a
+-- test
 pub record AreBranches (t : Shape) (b : Bridge) (here : ℕ → Bool) (g : Branches) : Type 0 where
   pub trunks : AreTrunks t g.trunks
   pub extended : (q : ℕ) → port_in g.extended q ≡ is_extended t q
@@ -25,7 +26,8 @@ pub record AreBranches (t : Shape) (b : Bridge) (here : ℕ → Bool) (g : Branc
 
 -- the ports of a source below all bridge ports
 abbrev pub IsPart : Shape → Bridge → Source → PortSet → Type 0
-IsPart t b x part = (q : ℕ) → port_in part q ≡ (is_extended t q && (b.present q && x.among q && is_kind x.kind (b.member x.vid q)))
+IsPart t b x part = (q : ℕ) → port_in part q
+    ≡ (is_extended t q && (b.present q && x.among q && is_kind x.kind (b.member x.vid q)))
 
 -- the extended ports that pass a test
 abbrev pub IsAmong : Shape → (ℕ → Bool) → PortSet → Type 0

@@ -83,7 +83,8 @@ pub record CanClaimChannel (t : Shape) (v : Spaces) (p : ℕ) : Type 0 where
   pub extender : is_extender t (p / 64) ≡ true
   pub cascade : has_space v (trunk t (p / 64)) ≡ true
   pub absent : channel_in (held_by v) (trunk t (p / 64)) p ≡ None
-  pub free : is_some (lowest_free (channel_used (held_by v) (trunk t (p / 64))) 1 (channel_limit v (trunk t (p / 64)))) ≡ true
+  pub free : is_some (lowest_free (channel_used (held_by v) (trunk t (p / 64))) 1 (channel_limit v (trunk t (p / 64))))
+      ≡ true
 
 -- each cascade port of the bridge has a space
 abbrev pub SpacesOf : Shape → Spaces → Type 0

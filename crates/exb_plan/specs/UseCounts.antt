@@ -28,7 +28,8 @@ abbrev pub used_at : List (List ℕ) → ℕ → ℕ
 used_at v k = used_in (slice_index_or v k [])
 
 abbrev pub uses_at : Shape → Bridge → Held → ℕ → ℕ → ℕ
-uses_at t b h k g = if is_empty_set (h.set k g) then 0 else uses_of t b (record { bridge_port = k + 1; ports = h.set k g })
+uses_at t b h k g = if is_empty_set (h.set k g) then 0 else uses_of t b
+    (record { bridge_port = k + 1; ports = h.set k g })
 
 -- At each cascade port of the bridge the uses of each group are those of its set in the configuration.
 abbrev pub IsCounted : Shape → Bridge → Held → List (List ℕ) → Type 0

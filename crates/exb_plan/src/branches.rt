@@ -1,4 +1,5 @@
-//! The branches of a tree below the bridge's ports, out of which the sets of a configuration are cut.
+//! The branches of a tree below the bridge's ports, out of which the sets of a configuration are
+//! cut.
 ghost use Rattle.std.specs.Prelude.{◌≡◌, ◌≢◌, ◌<◌, ◌≤◌, ◌==◌, ◌&&◌, ◌/◌, ℕ, Bool, true, false, slice_index, slice_index_or};
 ghost use Rattle.exb_model.specs.Ports.{port_in};
 ghost use Rattle.exb_model.specs.Tree.{is_under};
@@ -12,8 +13,8 @@ use exb_model::port::{DEVICES, PortId};
 use exb_model::port_set::PortSet;
 use exb_model::tree::Tree;
 
-/// The extended ports of a tree by the bridge port above them, the isolated ports of a configuration, and the bridge ports below which
-/// parts are looked for.
+/// The extended ports of a tree by the bridge port above them, the isolated ports of a
+/// configuration, and the bridge ports below which parts are looked for.
 #[derive(Drop)]
 pub struct Branches {
     /// By device: the bridge port above an extender, from 1; 0 where there is no extender.
@@ -39,8 +40,10 @@ fn trunks_of(tree: &Tree) -> [u8; 65]
 
 // Marks a bridge port, where a word has a port.
 fn mark(reached: &mut [bool; 65], bridge_port: u8, word: u64)
-    ensures marked { word ≢ 0 → bridge_port < 65 → slice_index_or reached.new bridge_port false ≡ true }
-    ensures kept { (k : ℕ) → slice_index_or reached.old k false ≡ true → slice_index_or reached.new k false ≡ true }
+    ensures marked { word ≢ 0 → bridge_port < 65 → slice_index_or reached.new bridge_port false
+        ≡ true }
+    ensures kept { (k : ℕ) → slice_index_or reached.old k false ≡ true
+        → slice_index_or reached.new k false ≡ true }
 {
     if word == 0 || bridge_port > 64 {
         return;
@@ -51,7 +54,8 @@ fn mark(reached: &mut [bool; 65], bridge_port: u8, word: u64)
 impl Branches {
     // Of a tree and a view of a configuration, below some bridge ports.
     fn below<V: View>(tree: &Tree, view: &V, places: Places) -> Branches
-        ensures { (here : ℕ → Bool) → ArePlaces here places → AreBranches tree.now (V.bridge view.now) here result }
+        ensures { (here : ℕ → Bool) → ArePlaces here places
+            → AreBranches tree.now (V.bridge view.now) here result }
     {
         Branches {
             trunks: trunks_of(tree),
@@ -83,7 +87,8 @@ impl Branches {
 
     /// Those below the bridge ports below which a command changes parts.
     pub fn touched<V: View>(tree: &Tree, view: &V, command: &Command) -> Branches
-        ensures { AreBranches tree.now (V.bridge view.now) (touches_below tree.now command.now) result }
+        ensures { AreBranches tree.now (V.bridge view.now) (touches_below tree.now command.now)
+            result }
     {
         match *command {
             Command::Member { port, .. }
@@ -110,7 +115,8 @@ impl Branches {
     /// The ports of a set whose extenders have that trunk.
     pub fn under(&self, set: &PortSet, bridge_port: u8) -> PortSet
         requires { 0 < bridge_port }
-        ensures { (q : ℕ) → port_in result q ≡ (slice_index self.now.trunks (q / 64) == bridge_port && port_in set.now q) }
+        ensures { (q : ℕ) → port_in result q ≡ (slice_index self.now.trunks (q / 64) == bridge_port
+            && port_in set.now q) }
     {
         let mut words = [0; 65];
         for device in 0..65usize {

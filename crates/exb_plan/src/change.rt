@@ -77,7 +77,8 @@ pub(crate) fn cleanup(
     down: &Option<PortId>,
     gone: &[GroupAt],
 ) -> Result<List<AskAt>, NoMemory>
-    ensures { IfOk result (λ made. made ≡ cleanup_with tree.now channel down.now (map seen_group gone.now)) }
+    ensures { IfOk result (λ made. made ≡ cleanup_with tree.now channel down.now
+        (map seen_group gone.now)) }
 {
     let mut asks = List::new(alloc);
     put_groups(alloc, tree, RowAction::Clear, gone, &mut asks)?;
@@ -95,7 +96,8 @@ pub(crate) fn prepare(
     up: &Option<PortId>,
     fresh: &[GroupAt],
 ) -> Result<List<AskAt>, NoMemory>
-    ensures { IfOk result (λ made. made ≡ prepare_with tree.now channel up.now (map seen_group fresh.now)) }
+    ensures { IfOk result (λ made. made ≡ prepare_with tree.now channel up.now
+        (map seen_group fresh.now)) }
 {
     let mut asks = List::new(alloc);
     if let Some(port) = up {
@@ -108,10 +110,12 @@ pub(crate) fn prepare(
 // Claims the channel of a port that goes up; 0 where none does.
 fn claim_up(spaces: &mut Spaces, tree: &Tree, up: &Option<PortId>) -> u16
     requires { CanClaimUp tree.now spaces.old up.now }
-    ensures number { (l : Limits) → HasSpaces tree.now l spaces.old → result ≡ new_channel tree.now l (held_by spaces.old) up.now }
+    ensures number { (l : Limits) → HasSpaces tree.now l spaces.old
+        → result ≡ new_channel tree.now l (held_by spaces.old) up.now }
     ensures held { held_by spaces.new ≡ with_channel tree.now result up.now (held_by spaces.old) }
     ensures has { HasUp tree.now spaces.new up.now result }
-    ensures back { without_channel tree.now result up.now (held_by spaces.new) ≡ held_by spaces.old }
+    ensures back { without_channel tree.now result up.now (held_by spaces.new)
+        ≡ held_by spaces.old }
     ensures alike { IsAlike spaces.old spaces.new }
 {
     match up {
@@ -123,7 +127,8 @@ fn claim_up(spaces: &mut Spaces, tree: &Tree, up: &Option<PortId>) -> u16
 // Frees that channel.
 fn free_up(spaces: &mut Spaces, tree: &Tree, up: &Option<PortId>, channel: u16)
     requires { HasUp tree.now spaces.old up.now channel }
-    ensures held { held_by spaces.new ≡ without_channel tree.now channel up.now (held_by spaces.old) }
+    ensures held { held_by spaces.new ≡ without_channel tree.now channel up.now
+        (held_by spaces.old) }
     ensures alike { IsAlike spaces.old spaces.new }
 {
     if let Some(port) = up {
@@ -141,8 +146,12 @@ fn claim(
 ) -> Result<List<AskAt>, NoMemory>
     requires up { CanClaimUp tree.now spaces.old up.now }
     requires fresh { CanClaim spaces.old (map seen fresh.now) }
-    ensures prepare { (l : Limits) → HasSpaces tree.now l spaces.old → IfOk result (λ made. made ≡ prepare_by tree.now l (held_by spaces.old) up.now (map seen fresh.now)) }
-    ensures held { (l : Limits) → HasSpaces tree.now l spaces.old → OnOk result (held_by spaces.new ≡ claimed_by tree.now l (held_by spaces.old) up.now (map seen fresh.now)) }
+    ensures prepare { (l : Limits) → HasSpaces tree.now l spaces.old
+        → IfOk result (λ made. made ≡ prepare_by tree.now l (held_by spaces.old) up.now
+        (map seen fresh.now)) }
+    ensures held { (l : Limits) → HasSpaces tree.now l spaces.old
+        → OnOk result (held_by spaces.new ≡ claimed_by tree.now l (held_by spaces.old) up.now
+        (map seen fresh.now)) }
     ensures err { OnErr result (held_by spaces.new ≡ held_by spaces.old) }
     ensures alike { IsAlike spaces.old spaces.new }
 {
@@ -159,9 +168,9 @@ fn claim(
     }
 }
 
-/// The change in which a port goes up or down, these groups go and these fresh sets get one. The new numbers are
-/// claimed, the lowest free ones, and the asks are those that lay and clear what changes. Out of memory nothing is
-/// claimed.
+/// The change in which a port goes up or down, these groups go and these fresh sets get one. The
+/// new numbers are claimed, the lowest free ones, and the asks are those that lay and clear what
+/// changes. Out of memory nothing is claimed.
 pub fn make_change(
     alloc: Global,
     tree: &Tree,
@@ -176,8 +185,11 @@ pub fn make_change(
     requires fresh { CanClaim spaces.old (map seen fresh.now) }
     requires spaces { SpacesOf tree.now spaces.old }
     ensures change { (l : Limits) → HasSpaces tree.now l spaces.old → IfOk result (λ made. made
-        ≡ change_with tree.now l (held_by spaces.old) up.now down.now (map seen_group gone.now) (map seen fresh.now)) }
-    ensures held { (l : Limits) → HasSpaces tree.now l spaces.old → OnOk result (held_by spaces.new ≡ claimed_by tree.now l (held_by spaces.old) up.now (map seen fresh.now)) }
+        ≡ change_with tree.now l (held_by spaces.old) up.now down.now (map seen_group gone.now)
+        (map seen fresh.now)) }
+    ensures held { (l : Limits) → HasSpaces tree.now l spaces.old
+        → OnOk result (held_by spaces.new ≡ claimed_by tree.now l (held_by spaces.old) up.now
+        (map seen fresh.now)) }
     ensures err { OnErr result (held_by spaces.new ≡ held_by spaces.old) }
     ensures alike { IsAlike spaces.old spaces.new }
 {

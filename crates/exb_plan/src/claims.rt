@@ -16,10 +16,13 @@ use exb_numbers::Spaces;
 // Gives a set the lowest free group.
 fn claim_group(spaces: &mut Spaces, set: &SetAt) -> u16
     requires placed { IsPlaced spaces.old (seen set.now) }
-    requires fresh { IsFresh (groups_at spaces.old (set.now.bridge_port - 1)).limit (held_by spaces.old) (seen set.now) }
-    ensures number { result ≡ (group_for (groups_at spaces.old (set.now.bridge_port - 1)).limit (held_by spaces.old) (seen set.now)).number }
+    requires fresh { IsFresh (groups_at spaces.old (set.now.bridge_port - 1)).limit
+        (held_by spaces.old) (seen set.now) }
+    ensures number { result ≡ (group_for (groups_at spaces.old (set.now.bridge_port - 1)).limit
+        (held_by spaces.old) (seen set.now)).number }
     ensures held { held_by spaces.new
-        ≡ give (group_for (groups_at spaces.old (set.now.bridge_port - 1)).limit (held_by spaces.old) (seen set.now)) (held_by spaces.old) }
+        ≡ give (group_for (groups_at spaces.old (set.now.bridge_port - 1)).limit
+        (held_by spaces.old) (seen set.now)) (held_by spaces.old) }
     ensures alike { IsAlike spaces.old spaces.new }
 {
     spaces.groups_mut(set.bridge_port).claim(&set.set).unwrap()
@@ -31,7 +34,8 @@ pub(crate) fn claim_groups(spaces: &mut Spaces, sets: &[SetAt], given: &mut Vec<
     requires none { given.old.items ≡ [] }
     requires room { length sets.now ≤ vec_capacity given.old }
     ensures claimed { (groups : ℕ) → AreLimited groups spaces.old
-        → AreClaimed groups (held_by spaces.old) (map seen sets.now) (map seen_group given.new.items) (held_by spaces.new) }
+        → AreClaimed groups (held_by spaces.old) (map seen sets.now)
+        (map seen_group given.new.items) (held_by spaces.new) }
     ensures alike { IsAlike spaces.old spaces.new }
 {
     for set in sets {
@@ -50,7 +54,8 @@ pub(crate) fn claim_groups(spaces: &mut Spaces, sets: &[SetAt], given: &mut Vec<
 fn free_group(spaces: &mut Spaces, group: &GroupAt)
     requires from1 { 1 ≤ group.now.bridge_port }
     requires cascade { has_space spaces.old (group.now.bridge_port - 1) ≡ true }
-    requires used { group_used (held_by spaces.old) (group.now.bridge_port - 1) group.now.number ≡ true }
+    requires used { group_used (held_by spaces.old) (group.now.bridge_port - 1) group.now.number
+        ≡ true }
     ensures held { held_by spaces.new ≡ take_back (seen_group group.now) (held_by spaces.old) }
     ensures alike { IsAlike spaces.old spaces.new }
 {
@@ -59,8 +64,10 @@ fn free_group(spaces: &mut Spaces, group: &GroupAt)
 
 /// Frees the groups that were given, the last one first.
 pub(crate) fn free_groups(spaces: &mut Spaces, mut given: Vec<GroupAt>)
-    requires { (h : Held) × IsLaterBy spaces.old h (map seen_group given.items) (held_by spaces.old) }
-    ensures held { (h : Held) → IsLaterBy spaces.old h (map seen_group given.items) (held_by spaces.old) → held_by spaces.new ≡ h }
+    requires { (h : Held) × IsLaterBy spaces.old h (map seen_group given.items)
+        (held_by spaces.old) }
+    ensures held { (h : Held) → IsLaterBy spaces.old h (map seen_group given.items)
+        (held_by spaces.old) → held_by spaces.new ≡ h }
     ensures alike { IsAlike spaces.old spaces.new }
 {
     while let Some(group) = given.pop() {
@@ -71,7 +78,8 @@ pub(crate) fn free_groups(spaces: &mut Spaces, mut given: Vec<GroupAt>)
 /// Gives a port the lowest free channel of its trunk.
 pub(crate) fn claim_channel(spaces: &mut Spaces, tree: &Tree, port: PortId) -> u16
     requires { CanClaimChannel tree.now spaces.old port }
-    ensures number { result ≡ free_channel (channel_limit spaces.old (trunk tree.now (port / 64))) (held_by spaces.old) (trunk tree.now (port / 64)) }
+    ensures number { result ≡ free_channel (channel_limit spaces.old (trunk tree.now (port / 64)))
+        (held_by spaces.old) (trunk tree.now (port / 64)) }
     ensures held { held_by spaces.new ≡ give_channel tree.now port result (held_by spaces.old) }
     ensures free { (held_by spaces.old).port (trunk tree.now (port / 64)) result ≡ None }
     ensures alike { IsAlike spaces.old spaces.new }

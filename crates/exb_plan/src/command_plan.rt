@@ -37,7 +37,8 @@ use exb_model::tree::Tree;
 use exb_numbers::Spaces;
 use std::alloc::Global;
 
-// The uses after a command, at the groups that there are. The guesses are of the parts before it and of the later ones.
+// The uses after a command, at the groups that there are. The guesses are of the parts before it
+// and of the later ones.
 fn moved(
     spaces: &Spaces,
     uses: &GroupUses,
@@ -51,7 +52,8 @@ fn moved(
     requires own { AreOwn spaces.now }
     requires places { HavePlaces spaces.now uses.now }
     requires enough { AreEnough spaces.now (map seen before.now) uses.now }
-    ensures { IfOk result (λ made. AreMoved spaces.now (map seen before.now) (map seen later.now) uses.now made) }
+    ensures { IfOk result (λ made. AreMoved spaces.now (map seen before.now) (map seen later.now)
+        uses.now made) }
 {
     let mut next = uses.copy()?;
     lower_all(&mut next, spaces, before, near);
@@ -60,7 +62,8 @@ fn moved(
     Ok(next)
 }
 
-// The change of a command that isn't refused. The uses are then those of the configuration after it.
+// The change of a command that isn't refused. The uses are then those of the configuration after
+// it.
 fn ready(
     alloc: Global,
     tree: &Tree,
@@ -73,19 +76,27 @@ fn ready(
     near_later: &mut Guesses,
 ) -> Result<Change, NoMemory>
     requires limits { (l : Limits) × HasSpaces tree.now l spaces.old × (l.groups ≤ 12288) }
-    requires rows { (k : ℕ) → k < 64 → is_cascade tree.now k ≡ true → length (slice_index_or uses.old k []) ≡ (groups_at spaces.old k).limit }
+    requires rows { (k : ℕ) → k < 64 → is_cascade tree.now k ≡ true
+        → length (slice_index_or uses.old k []) ≡ (groups_at spaces.old k).limit }
     requires held { HoldsNeeded tree.now (bridge_of config.now) (held_by spaces.old) }
     requires counted { IsCounted tree.now (bridge_of config.now) (held_by spaces.old) uses.old }
-    requires up { up.now ≡ goes_up tree.now (bridge_of config.now) (after command.now (bridge_of config.now)) }
-    requires touched { AreTouched tree.now command.now (bridge_of config.now) (held_by spaces.old) touched.now }
-    requires fits { (l : Limits) → HasSpaces tree.now l spaces.old → refusal_between tree.now l (bridge_of config.now) (after command.now (bridge_of config.now)) ≡ None }
+    requires up { up.now ≡ goes_up tree.now (bridge_of config.now)
+        (after command.now (bridge_of config.now)) }
+    requires touched { AreTouched tree.now command.now (bridge_of config.now) (held_by spaces.old)
+        touched.now }
+    requires fits { (l : Limits) → HasSpaces tree.now l spaces.old
+        → refusal_between tree.now l (bridge_of config.now)
+        (after command.now (bridge_of config.now)) ≡ None }
     ensures change { (l : Limits) → HasSpaces tree.now l spaces.old
-        → IfOk result (λ made. made ≡ change_of tree.now l (bridge_of config.now) (after command.now (bridge_of config.now)) (held_by spaces.old)) }
+        → IfOk result (λ made. made ≡ change_of tree.now l (bridge_of config.now)
+        (after command.now (bridge_of config.now)) (held_by spaces.old)) }
     ensures held { (l : Limits) → HasSpaces tree.now l spaces.old
-        → OnOk result (held_by spaces.new ≡ claimed tree.now l (bridge_of config.now) (after command.now (bridge_of config.now)) (held_by spaces.old)) }
+        → OnOk result (held_by spaces.new ≡ claimed tree.now l (bridge_of config.now)
+        (after command.now (bridge_of config.now)) (held_by spaces.old)) }
     ensures err { OnErr result (held_by spaces.new ≡ held_by spaces.old) }
     ensures alike { IsAlike spaces.old spaces.new }
-    ensures counted { OnOk result (IsCounted tree.now (after command.now (bridge_of config.now)) (held_by spaces.new) uses.new) }
+    ensures counted { OnOk result (IsCounted tree.now (after command.now (bridge_of config.now))
+        (held_by spaces.new) uses.new) }
     ensures unchanged { OnErr result (uses.new ≡ uses.old) }
     ensures rows { HaveRowsOf uses.old uses.new }
 {
@@ -120,9 +131,11 @@ fn refusal(
 ) -> Option<Cause>
     requires up { IsAnyExtended tree.now up.now }
     requires spaces { SpacesOf tree.now spaces.now }
-    requires counted { (k : ℕ) → k < 64 → is_cascade tree.now k ≡ true → used_at uses.now k ≡ how_many (is_at (k + 1)) (sets_of tree.now (bridge_of config.now)) }
+    requires counted { (k : ℕ) → k < 64 → is_cascade tree.now k ≡ true
+        → used_at uses.now k ≡ how_many (is_at (k + 1)) (sets_of tree.now (bridge_of config.now)) }
     ensures { (l : Limits) → HasSpaces tree.now l spaces.now
-        → result ≡ refusal_by tree.now l (bridge_of config.now) up.now (sets_of tree.now (bridge_of config.now)) (map seen fresh.now) }
+        → result ≡ refusal_by tree.now l (bridge_of config.now) up.now
+        (sets_of tree.now (bridge_of config.now)) (map seen fresh.now) }
 {
     tree.is_tree();
     if let Some(port) = up {
@@ -134,11 +147,12 @@ fn refusal(
     groups_short(tree, spaces, uses, fresh)
 }
 
-/// The plan of a command, by what it touches. Refused exactly where the numbers of a bridge port don't suffice for the
-/// configurations before and after the command; else the new numbers are claimed, the lowest free ones, and the asks
-/// are those that lay and clear what changes. The spaces hold just what the configuration needs, and the uses are
-/// those of its sets; afterwards the uses are those after the command. Refused or out of memory nothing is claimed, and
-/// no use changes.
+/// The plan of a command, by what it touches. Refused exactly where the numbers of a bridge port
+/// don't suffice for the configurations before and after the command; else the new numbers are
+/// claimed, the lowest free ones, and the asks are those that lay and clear what changes. The
+/// spaces hold just what the configuration needs, and the uses are those of its sets; afterwards
+/// the uses are those after the command. Refused or out of memory nothing is claimed, and no use
+/// changes.
 pub fn plan(
     alloc: Global,
     tree: &Tree,
@@ -148,16 +162,22 @@ pub fn plan(
     command: &Command,
 ) -> Result<Decision, NoMemory>
     requires limits { (l : Limits) × HasSpaces tree.now l spaces.old × (l.groups ≤ 12288) }
-    requires rows { (k : ℕ) → k < 64 → is_cascade tree.now k ≡ true → length (slice_index_or uses.old k []) ≡ (groups_at spaces.old k).limit }
+    requires rows { (k : ℕ) → k < 64 → is_cascade tree.now k ≡ true
+        → length (slice_index_or uses.old k []) ≡ (groups_at spaces.old k).limit }
     requires held { HoldsNeeded tree.now (bridge_of config.now) (held_by spaces.old) }
     requires counted { IsCounted tree.now (bridge_of config.now) (held_by spaces.old) uses.old }
     ensures decision { (l : Limits) → HasSpaces tree.now l spaces.old
-        → IfOk result (λ made. made ≡ decision tree.now l (bridge_of config.now) (after command.now (bridge_of config.now)) (held_by spaces.old)) }
+        → IfOk result (λ made. made ≡ decision tree.now l (bridge_of config.now)
+        (after command.now (bridge_of config.now)) (held_by spaces.old)) }
     ensures claimed { (l : Limits) → HasSpaces tree.now l spaces.old
-        → OnOk result (held_by spaces.new ≡ held_after tree.now l (bridge_of config.now) (after command.now (bridge_of config.now)) (held_by spaces.old)) }
+        → OnOk result (held_by spaces.new ≡ held_after tree.now l (bridge_of config.now)
+        (after command.now (bridge_of config.now)) (held_by spaces.old)) }
     ensures no_memory { OnErr result (held_by spaces.new ≡ held_by spaces.old) }
-    ensures spaces { (l : Limits) → HasSpaces tree.now l spaces.old → HasSpaces tree.now l spaces.new }
-    ensures counted { IfOk result (λ made. IfDecided made (uses.new ≡ uses.old) (IsCounted tree.now (after command.now (bridge_of config.now)) (held_by spaces.new) uses.new)) }
+    ensures spaces { (l : Limits) → HasSpaces tree.now l spaces.old
+        → HasSpaces tree.now l spaces.new }
+    ensures counted { IfOk result (λ made. IfDecided made (uses.new ≡ uses.old)
+        (IsCounted tree.now (after command.now (bridge_of config.now)) (held_by spaces.new)
+        uses.new)) }
     ensures unchanged { OnErr result (uses.new ≡ uses.old) }
     ensures rows { HaveRowsOf uses.old uses.new }
 {

@@ -8,8 +8,8 @@ use exb_config::Config;
 use exb_model::port_set::PortSet;
 use exb_model::vlan::{Kind, Vid};
 
-/// A view of a configuration: the one in force, or the one that a command will make of it. Contracts speak of the bridge
-/// that is seen.
+/// A view of a configuration: the one in force, or the one that a command will make of it.
+/// Contracts speak of the bridge that is seen.
 pub trait View {
     ghost use Rattle.exb_model.specs.Configuration.{Bridge};
 
@@ -22,7 +22,8 @@ pub trait View {
     /// The present members of a VLAN in a kind, among some ports.
     fn part(&self, vid: Vid, among: &PortSet, kind: Kind) -> PortSet
         ensures { (q : ℕ) → port_in result q
-            ≡ ((bridge self.now).present q && port_in among.now q && is_kind kind ((bridge self.now).member vid q)) };
+            ≡ ((bridge self.now).present q && port_in among.now q && is_kind kind
+            ((bridge self.now).member vid q)) };
 }
 
 impl View for Config {

@@ -1,5 +1,5 @@
-//! Guesses of groups. Parts that follow each other below a bridge port have mostly the same set, and parts are looked for more than
-//! once.
+//! Guesses of groups. Parts that follow each other below a bridge port have mostly the same set,
+//! and parts are looked for more than once.
 ghost use Rattle.std.specs.Prelude.{◌≡◌, ◌≤◌, ◌<◌, IfSome};
 ghost use Rattle.exb_model.specs.Ports.{ports_of};
 ghost use Rattle.exb_numbers.specs.Groups.{group_of};
@@ -8,7 +8,8 @@ use exb_control_spec::SetAt;
 use exb_numbers::Groups;
 use std::alloc::Global;
 
-/// The groups that were found for parts in their order, 0 for one without a group, and the last one by the number of the bridge port.
+/// The groups that were found for parts in their order, 0 for one without a group, and the last one
+/// by the number of the bridge port.
 #[derive(Drop)]
 pub(crate) struct Guesses {
     found: Vec<u16>,

@@ -39,7 +39,8 @@ impl Covered {
 
 // Of each group, the ports with a port of its set in their subtree.
 fn cover_all(alloc: Global, tree: &Tree, groups: &[GroupAt]) -> Result<Vec<Covered>, NoMemory>
-    ensures { IfOk result (λ made. (n : ℕ) → rows_of_covered made.items n ≡ rows_at tree.now (map seen_group groups.now) n) }
+    ensures { IfOk result (λ made. (n : ℕ) → rows_of_covered made.items n
+        ≡ rows_at tree.now (map seen_group groups.now) n) }
 {
     let mut covered = Vec::with_capacity(alloc, groups.len())?;
     for group in groups {
@@ -73,7 +74,8 @@ pub(crate) fn put_groups(
     groups: &[GroupAt],
     asks: &mut List<AskAt>,
 ) -> Result<(), NoMemory>
-    ensures { OnOk result (asks.new ≡ asks.old ++ group_asks step tree.now (map seen_group groups.now)) }
+    ensures { OnOk result (asks.new ≡ asks.old ++ group_asks step tree.now
+        (map seen_group groups.now)) }
 {
     let covered = cover_all(alloc, tree, groups)?;
     let mut rows = Vec::with_capacity(alloc, groups.len())?;

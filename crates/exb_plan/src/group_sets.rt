@@ -20,7 +20,8 @@ use std::alloc::Global;
 
 // Puts one set more, if it isn't empty and isn't there yet.
 fn put_once(sets: &mut IndexSet<SetAt>, set: &SetAt) -> Result<(), NoMemory>
-    ensures { OnOk result (map seen sets.new.keys ≡ with_set_at (map seen sets.old.keys) (seen set.now)) }
+    ensures { OnOk result (map seen sets.new.keys ≡ with_set_at (map seen sets.old.keys)
+        (seen set.now)) }
 {
     if set.set.is_empty() {
         return Ok(());
@@ -36,11 +37,14 @@ fn are_same(one: &SetAt, other: &SetAt) -> bool
     one.bridge_port == other.bridge_port && one.set.is_same(&other.set)
 }
 
-// Puts the set at a place, where those before it are put. One that is the same as the one before it is there already.
+// Puts the set at a place, where those before it are put. One that is the same as the one before it
+// is there already.
 fn put_next(sets: &mut IndexSet<SetAt>, more: &[SetAt], place: usize) -> Result<(), NoMemory>
     requires { place < length more.now }
-    ensures { (old : List PortsAt) → map seen sets.old.keys ≡ fold with_set_at old (map seen (take place more.now)) →
-        OnOk result (map seen sets.new.keys ≡ fold with_set_at old (map seen (take (place + 1) more.now))) }
+    ensures { (old : List PortsAt) → map seen sets.old.keys
+        ≡ fold with_set_at old (map seen (take place more.now)) →
+        OnOk result (map seen sets.new.keys ≡ fold with_set_at old
+        (map seen (take (place + 1) more.now))) }
 {
     let set = &more[place];
     if place > 0 {
@@ -54,7 +58,8 @@ fn put_next(sets: &mut IndexSet<SetAt>, more: &[SetAt], place: usize) -> Result<
 
 // Puts each of these, in their order.
 fn put_all_once(sets: &mut IndexSet<SetAt>, more: &[SetAt]) -> Result<(), NoMemory>
-    ensures { OnOk result (map seen sets.new.keys ≡ fold with_set_at (map seen sets.old.keys) (map seen more.now)) }
+    ensures { OnOk result (map seen sets.new.keys ≡ fold with_set_at (map seen sets.old.keys)
+        (map seen more.now)) }
 {
     for place in 0..more.len() {
         put_next(sets, more, place)?;
@@ -80,8 +85,10 @@ fn put_vlan(
     vid: Vid,
     among: &PortSet,
 ) -> Result<(), NoMemory>
-    ensures { (t : Shape) → (test : ℕ → Bool) → AreBranches t (bridge_of config.now) (λ k. true) branches.now → IsAmong t test among.now →
-        OnOk result (map seen sets.new.keys ≡ fold with_set_at (map seen sets.old.keys) (flat_map (parts_below t (bridge_of config.now)) (both_kinds vid test))) }
+    ensures { (t : Shape) → (test : ℕ → Bool) → AreBranches t (bridge_of config.now)
+        (λ k. true) branches.now → IsAmong t test among.now →
+        OnOk result (map seen sets.new.keys ≡ fold with_set_at (map seen sets.old.keys)
+        (flat_map (parts_below t (bridge_of config.now)) (both_kinds vid test))) }
 {
     let mut parts = Vec::new(alloc);
     put_kinds(&mut parts, branches, config, vid, among)?;
@@ -97,7 +104,8 @@ fn put_vlans(
 ) -> Result<(), NoMemory>
     ensures { (t : Shape) → AreBranches t (bridge_of config.now) (λ k. true) branches.now →
         OnOk result (map seen sets.new.keys ≡ fold with_set_at (map seen sets.old.keys)
-        (flat_map (parts_below t (bridge_of config.now)) (flat_map (λ v. both_kinds v (λ q. true)) all_vids))) }
+        (flat_map (parts_below t (bridge_of config.now))
+        (flat_map (λ v. both_kinds v (λ q. true)) all_vids))) }
 {
     for number in 1..4095u16 {
         let vid = Vid::new(number).unwrap();
@@ -117,7 +125,8 @@ fn put_statics(
 ) -> Result<(), NoMemory>
     ensures { (t : Shape) → AreBranches t (bridge_of config.now) (λ k. true) branches.now →
         OnOk result (map seen sets.new.keys ≡ fold with_set_at (map seen sets.old.keys)
-        (flat_map (parts_below t (bridge_of config.now)) (flat_map (λ e. both_kinds e.vid (port_in e.ports)) (bridge_of config.now).statics))) }
+        (flat_map (parts_below t (bridge_of config.now))
+        (flat_map (λ e. both_kinds e.vid (port_in e.ports)) (bridge_of config.now).statics))) }
 {
     for at in 0..u64::MAX {
         match config.static_at(at) {
@@ -138,15 +147,17 @@ fn put_sources(
     branches: &Branches,
     config: &Config,
 ) -> Result<(), NoMemory>
-    ensures { (t : Shape) → AreBranches t (bridge_of config.now) (λ k. true) branches.now → sets.old.keys ≡ [] →
+    ensures { (t : Shape) → AreBranches t (bridge_of config.now) (λ k. true) branches.now
+        → sets.old.keys ≡ [] →
         OnOk result (map seen sets.new.keys ≡ sets_of t (bridge_of config.now)) }
 {
     put_vlans(alloc, sets, branches, config)?;
     put_statics(alloc, sets, branches, config)
 }
 
-/// The sets of a configuration that need a group, each once: by VLAN and then static entry, tagged before
-/// untagged, then by bridge port, and there the part before the part without its isolated ports.
+/// The sets of a configuration that need a group, each once: by VLAN and then static entry, tagged
+/// before untagged, then by bridge port, and there the part before the part without its isolated
+/// ports.
 pub fn sets(alloc: Global, tree: &Tree, config: &Config) -> Result<Vec<SetAt>, NoMemory>
     ensures { IfOk result (λ made. map seen made.items ≡ sets_of tree.now (bridge_of config.now)) }
 {

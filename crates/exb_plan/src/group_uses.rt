@@ -27,8 +27,8 @@ fn granted(is_cascade: bool, count: u16) -> u16
 struct SpaceUses {
     /// How many groups there are.
     limit: u16,
-    /// The uses as far as a group ever had one, with the room for all, so that a copy copies no more than these. The
-    /// others have none.
+    /// The uses as far as a group ever had one, with the room for all, so that a copy copies no
+    /// more than these. The others have none.
     counts: Vec<u64>,
     /// How many of them aren't 0.
     used: u16,
@@ -42,14 +42,16 @@ impl Model for SpaceUses {
 
     ghost view = { λ r. padded r.limit r.counts.items };
 
-    ghost invariant = { λ r. (r.used ≡ count_by (nat_lt 0) r.counts.items) × (length r.counts.items ≤ r.limit) × (r.limit ≤ 12288)
+    ghost invariant = { λ r. (r.used ≡ count_by (nat_lt 0) r.counts.items)
+        × (length r.counts.items ≤ r.limit) × (r.limit ≤ 12288)
         × (r.limit ≤ vec_capacity r.counts) };
 }
 
 // Makes so many places, the new ones without a use.
 fn reach(counts: &mut Vec<u64>, count: usize)
     requires room { count ≤ vec_capacity counts.old }
-    ensures items { counts.new.items ≡ counts.old.items ++ replicate (count - length counts.old.items) 0 }
+    ensures items { counts.new.items ≡ counts.old.items ++ replicate
+        (count - length counts.old.items) 0 }
     ensures room { vec_capacity counts.old ≤ vec_capacity counts.new }
 {
     if counts.len() < count {
@@ -105,7 +107,8 @@ impl SpaceUses {
     fn raise(&mut self, group: u16) -> Result<(), NoMemory>
         requires low { 4096 ≤ group }
         requires there { group - 4096 < length self.old }
-        ensures ok { OnOk result (self.new ≡ slice_set self.old (group - 4096) (count_in self.old group + 1)) }
+        ensures ok { OnOk result (self.new ≡ slice_set self.old (group - 4096)
+            (count_in self.old group + 1)) }
         ensures err { OnErr result (self.new ≡ self.old) }
         ensures met { count_in self.old group < 2 ^ 63 → IsOk result }
     {
@@ -137,8 +140,8 @@ impl SpaceUses {
     }
 }
 
-/// How often the set of each group is a part of a configuration. In contracts bridge port k is place k - 1,
-/// and group 4,096 + i its place i.
+/// How often the set of each group is a part of a configuration. In contracts bridge port k is
+/// place k - 1, and group 4,096 + i its place i.
 pub struct GroupUses {
     /// The groups of each bridge port; one that is no cascade port has none.
     rows: Vec<SpaceUses>,
@@ -163,7 +166,8 @@ impl GroupUses {
     pub fn new(alloc: Global, tree: &Tree, groups: u16) -> Result<GroupUses, NoMemory>
         requires groups { groups ≤ 12288 }
         ensures zero { IfOk result (λ made. (k g : ℕ) → count_at made k g ≡ 0) }
-        ensures rows { IfOk result (λ made. (k : ℕ) → k < 64 → is_cascade tree.now k ≡ true → length (slice_index_or made k []) ≡ groups) }
+        ensures rows { IfOk result (λ made. (k : ℕ) → k < 64 → is_cascade tree.now k ≡ true
+            → length (slice_index_or made k []) ≡ groups) }
     {
         let mut rows = Vec::new(alloc);
         for number in 0..BRIDGE_PORTS {
@@ -213,10 +217,12 @@ impl GroupUses {
         requires low { 4096 ≤ group }
         requires there { group - 4096 < length (slice_index_or self.old (bridge_port - 1) []) }
         ensures ok { OnOk result ((k g : ℕ) → 4096 ≤ g → count_at self.new k g
-            ≡ (if k == bridge_port - 1 && g == group then count_at self.old k g + 1 else count_at self.old k g)) }
+            ≡ (if k == bridge_port - 1 && g == group then count_at self.old k g + 1 else count_at
+            self.old k g)) }
         ensures err { OnErr result (self.new ≡ self.old) }
         ensures met { count_at self.old (bridge_port - 1) group < 2 ^ 63 → IsOk result }
-        ensures rows { (k : ℕ) → length (slice_index_or self.new k []) ≡ length (slice_index_or self.old k []) }
+        ensures rows { (k : ℕ) → length (slice_index_or self.new k [])
+            ≡ length (slice_index_or self.old k []) }
     {
         self.rows[bridge_port as usize - 1].raise(group)
     }
@@ -227,8 +233,10 @@ impl GroupUses {
         requires low { 4096 ≤ group }
         requires used { 0 < count_at self.old (bridge_port - 1) group }
         ensures counts { (k g : ℕ) → 4096 ≤ g → count_at self.new k g
-            ≡ (if k == bridge_port - 1 && g == group then count_at self.old k g - 1 else count_at self.old k g) }
-        ensures rows { (k : ℕ) → length (slice_index_or self.new k []) ≡ length (slice_index_or self.old k []) }
+            ≡ (if k == bridge_port - 1 && g == group then count_at self.old k g - 1 else count_at
+            self.old k g) }
+        ensures rows { (k : ℕ) → length (slice_index_or self.new k [])
+            ≡ length (slice_index_or self.old k []) }
     {
         self.rows[bridge_port as usize - 1].lower(group)
     }

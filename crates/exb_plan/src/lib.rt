@@ -1,10 +1,13 @@
-//! The plan of a command, as code (after IEEE 802.1BR; the protocol is this project's own). A change is made of pieces: the
-//! rows of a set, the parts of a configuration and the sets that it needs, and, by the port that goes up or down, the
-//! groups that go and the sets that come, what the bridge asks of its extenders before the change takes effect and after
-//! it, which numbers it claims and which it frees. Which these are is told by what the command touches, the parts of the VLANs
-//! and static entries which it changes, and for a command about one port only those below that port's own trunk: how often each
-//! group's set is a part is counted, so no set of another VLAN or below another trunk is looked at. Upwards it promises exactly the rows, sets, lists, numbers and plans that `exb_control_spec` defines. It stands on
-//! `exb_control_spec`, `exb_numbers`, `exb_config`, `exb_csp` and `exb_model`.
+//! The plan of a command, as code (after IEEE 802.1BR; the protocol is this project's own). A
+//! change is made of pieces: the rows of a set, the parts of a configuration and the sets that it
+//! needs, and, by the port that goes up or down, the groups that go and the sets that come, what
+//! the bridge asks of its extenders before the change takes effect and after it, which numbers it
+//! claims and which it frees. Which these are is told by what the command touches, the parts of the
+//! VLANs and static entries which it changes, and for a command about one port only those below
+//! that port's own trunk: how often each group's set is a part is counted, so no set of another
+//! VLAN or below another trunk is looked at. Upwards it promises exactly the rows, sets, lists,
+//! numbers and plans that `exb_control_spec` defines. It stands on `exb_control_spec`,
+//! `exb_numbers`, `exb_config`, `exb_csp` and `exb_model`.
 #![tactic(auto)]
 
 pub mod branches;

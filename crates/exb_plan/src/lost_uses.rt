@@ -40,7 +40,8 @@ fn put_left(
     ensures rising { IsRising numbers.new.items }
     ensures groups { OnOk result (AreGroups numbers.new.items) }
     ensures members { OnOk result ((g : ℕ) → is_among numbers.new.items g
-        ≡ (is_left (held_by spaces.now) uses.now (seen part.now ∷ []) (bridge_port - 1) g || is_among numbers.old.items g)) }
+        ≡ (is_left (held_by spaces.now) uses.now (seen part.now ∷ []) (bridge_port - 1) g
+        || is_among numbers.old.items g)) }
 {
     if part.bridge_port != bridge_port {
         near.skip();
@@ -72,7 +73,8 @@ fn left_at(
     requires cascade { has_space spaces.now (bridge_port - 1) ≡ true }
     ensures rising { IfOk result (λ made. IsRising made.items) }
     ensures groups { IfOk result (λ made. AreGroups made.items) }
-    ensures members { IfOk result (λ made. (g : ℕ) → is_among made.items g ≡ is_left (held_by spaces.now) uses.now (map seen parts.now) (bridge_port - 1) g) }
+    ensures members { IfOk result (λ made. (g : ℕ) → is_among made.items g
+        ≡ is_left (held_by spaces.now) uses.now (map seen parts.now) (bridge_port - 1) g) }
 {
     let mut numbers = Vec::new(alloc);
     near.again();
@@ -121,16 +123,18 @@ fn put_gone_at(
     requires own { AreOwn spaces.now }
     requires from1 { 1 ≤ bridge_port }
     requires cascade { has_space spaces.now (bridge_port - 1) ≡ true }
-    ensures { (kept : List PortsAt) → AreLeft (held_by spaces.now) uses.now (map seen parts.now) kept (bridge_port - 1)
-        → OnOk result (map seen_group gone.new.items ≡ map seen_group gone.old.items ++ gone_at kept (held_by spaces.now) (bridge_port - 1)) }
+    ensures { (kept : List PortsAt) → AreLeft (held_by spaces.now) uses.now (map seen parts.now)
+        kept (bridge_port - 1)
+        → OnOk result (map seen_group gone.new.items ≡ map seen_group gone.old.items
+        ++ gone_at kept (held_by spaces.now) (bridge_port - 1)) }
 {
     let alloc = *gone.allocator();
     let numbers = left_at(alloc, spaces, uses, parts, bridge_port, near)?;
     put_groups(gone, spaces, numbers.as_slice(), bridge_port)
 }
 
-/// The groups of parts that have no use any more, by bridge port and number. They are those whose sets aren't kept. The parts are those
-/// of which the guesses are.
+/// The groups of parts that have no use any more, by bridge port and number. They are those whose
+/// sets aren't kept. The parts are those of which the guesses are.
 pub(crate) fn gone_groups(
     alloc: Global,
     tree: &Tree,
@@ -141,9 +145,12 @@ pub(crate) fn gone_groups(
 ) -> Result<Vec<GroupAt>, NoMemory>
     requires placed { All (λ s. IsPlaced spaces.now (seen s)) parts.now }
     requires own { AreOwn spaces.now }
-    requires cascades { (k : ℕ) → k < 64 → is_cascade tree.now k ≡ true → has_space spaces.now k ≡ true }
-    ensures { (kept : List PortsAt) → ((k : ℕ) → k < 64 → is_cascade tree.now k ≡ true → AreLeft (held_by spaces.now) uses.now (map seen parts.now) kept k)
-        → IfOk result (λ made. map seen_group made.items ≡ gone_groups tree.now kept (held_by spaces.now)) }
+    requires cascades { (k : ℕ) → k < 64 → is_cascade tree.now k ≡ true
+        → has_space spaces.now k ≡ true }
+    ensures { (kept : List PortsAt) → ((k : ℕ) → k < 64 → is_cascade tree.now k ≡ true
+        → AreLeft (held_by spaces.now) uses.now (map seen parts.now) kept k)
+        → IfOk result (λ made. map seen_group made.items
+        ≡ gone_groups tree.now kept (held_by spaces.now)) }
 {
     let mut gone = Vec::new(alloc);
     for bridge_port in 1..65u8 {

@@ -1,5 +1,5 @@
-//! The parts of sources: the members of a VLAN in one kind, or those of them to which a static entry sends, below each
-//! bridge port.
+//! The parts of sources: the members of a VLAN in one kind, or those of them to which a static
+//! entry sends, below each bridge port.
 ghost use Rattle.std.specs.Prelude.{◌≡◌, ℕ, ◌-◌, ◌/◌, ◌≤◌, ◌==◌, ◌&&◌, ◌++◌, ◌∷◌, Bool, false, [], filter, map, slice_index, OnOk};
 ghost use Rattle.exb_model.specs.Ports.{port_in};
 ghost use Rattle.exb_model.specs.Tree.{Shape};
@@ -19,7 +19,8 @@ use exb_model::vlan::{Kind, Vid};
 
 // Puts a part, if it has a port.
 fn put(parts: &mut Vec<SetAt>, part: SetAt) -> Result<(), NoMemory>
-    ensures { OnOk result (map seen parts.new.items ≡ map seen parts.old.items ++ filter has_ports (seen part ∷ [])) }
+    ensures { OnOk result (map seen parts.new.items ≡ map seen parts.old.items ++ filter has_ports
+        (seen part ∷ [])) }
 {
     if part.set.is_empty() {
         return Ok(());
@@ -28,8 +29,8 @@ fn put(parts: &mut Vec<SetAt>, part: SetAt) -> Result<(), NoMemory>
     Ok(())
 }
 
-// Puts, below a bridge port, the part of a source and the part without its isolated ports. Where the members don't
-// reach the bridge port there is nothing to put.
+// Puts, below a bridge port, the part of a source and the part without its isolated ports. Where
+// the members don't reach the bridge port there is nothing to put.
 fn put_below(
     parts: &mut Vec<SetAt>,
     branches: &Branches,
@@ -38,9 +39,13 @@ fn put_below(
     is_reached: bool,
 ) -> Result<(), NoMemory>
     requires from1 { 1 ≤ bridge_port }
-    requires reached { is_reached ≡ false → (q : ℕ) → (slice_index branches.now.trunks (q / 64) == bridge_port && port_in members.now q) ≡ false }
-    ensures { (t : Shape) → (b : Bridge) → (here : ℕ → Bool) → (x : Source) → AreBranches t b here branches.now → IsPart t b x members.now →
-        OnOk result (map seen parts.new.items ≡ map seen parts.old.items ++ filter has_ports (parts_of t b x (bridge_port - 1))) }
+    requires reached { is_reached ≡ false → (q : ℕ)
+        → (slice_index branches.now.trunks (q / 64) == bridge_port && port_in members.now q)
+        ≡ false }
+    ensures { (t : Shape) → (b : Bridge) → (here : ℕ → Bool) → (x : Source)
+        → AreBranches t b here branches.now → IsPart t b x members.now →
+        OnOk result (map seen parts.new.items ≡ map seen parts.old.items ++ filter has_ports
+        (parts_of t b x (bridge_port - 1))) }
 {
     if !is_reached {
         return Ok(());
@@ -52,9 +57,11 @@ fn put_below(
     Ok(())
 }
 
-// Puts, below each bridge port that is looked at, in order, the part of a source and the part without its isolated ports.
+// Puts, below each bridge port that is looked at, in order, the part of a source and the part
+// without its isolated ports.
 fn put_all(parts: &mut Vec<SetAt>, branches: &Branches, members: &PortSet) -> Result<(), NoMemory>
-    ensures { (t : Shape) → (b : Bridge) → (here : ℕ → Bool) → (x : Source) → AreBranches t b here branches.now → IsPart t b x members.now →
+    ensures { (t : Shape) → (b : Bridge) → (here : ℕ → Bool) → (x : Source)
+        → AreBranches t b here branches.now → IsPart t b x members.now →
         OnOk result (Adds t b here (x ∷ []) parts.old.items parts.new.items) }
 {
     let Places { first, past } = branches.places;
@@ -69,8 +76,8 @@ fn put_all(parts: &mut Vec<SetAt>, branches: &Branches, members: &PortSet) -> Re
     Ok(())
 }
 
-/// Puts the non-empty parts of a VLAN's members in a kind, among some ports: by bridge port that is looked at, and there the part before
-/// the part without its isolated ports.
+/// Puts the non-empty parts of a VLAN's members in a kind, among some ports: by bridge port that is
+/// looked at, and there the part before the part without its isolated ports.
 pub fn put_kind<V: View>(
     parts: &mut Vec<SetAt>,
     branches: &Branches,
@@ -79,8 +86,13 @@ pub fn put_kind<V: View>(
     among: &PortSet,
     kind: Kind,
 ) -> Result<(), NoMemory>
-    ensures { (t : Shape) → (here test : ℕ → Bool) → AreBranches t (V.bridge view.now) here branches.now → IsAmong t test among.now →
-        OnOk result (Adds t (V.bridge view.now) here (record { vid = vid; kind = kind; among = test } ∷ []) parts.old.items parts.new.items) }
+    ensures { (t : Shape) → (here test : ℕ → Bool)
+        → AreBranches t (V.bridge view.now) here branches.now → IsAmong t test among.now →
+        OnOk result (Adds t (V.bridge view.now) here (record {
+          vid = vid;
+          kind = kind;
+          among = test;
+        } ∷ []) parts.old.items parts.new.items) }
 {
     let members = view.part(vid, among, kind);
     put_all(parts, branches, &members)
@@ -94,8 +106,10 @@ pub fn put_kinds<V: View>(
     vid: Vid,
     among: &PortSet,
 ) -> Result<(), NoMemory>
-    ensures { (t : Shape) → (here test : ℕ → Bool) → AreBranches t (V.bridge view.now) here branches.now → IsAmong t test among.now →
-        OnOk result (Adds t (V.bridge view.now) here (both_kinds vid test) parts.old.items parts.new.items) }
+    ensures { (t : Shape) → (here test : ℕ → Bool)
+        → AreBranches t (V.bridge view.now) here branches.now → IsAmong t test among.now →
+        OnOk result (Adds t (V.bridge view.now) here (both_kinds vid test) parts.old.items
+        parts.new.items) }
 {
     put_kind(parts, branches, view, vid, among, Kind::Tagged)?;
     put_kind(parts, branches, view, vid, among, Kind::Untagged)

@@ -46,7 +46,8 @@ fn is_of(kind: Kind, member: Option<Kind>) -> bool
 
 // The members in a kind, among some ports, of a VLAN that is set to these two sets.
 fn in_lists(among: &PortSet, kind: Kind, tagged: &PortSet, untagged: &PortSet) -> PortSet
-    ensures { (q : ℕ) → port_in result q ≡ (port_in among.now q && is_kind kind (kind_in tagged.now untagged.now q)) }
+    ensures { (q : ℕ) → port_in result q
+        ≡ (port_in among.now q && is_kind kind (kind_in tagged.now untagged.now q)) }
 {
     match kind {
         Kind::Tagged => among.both(tagged).except(untagged),
@@ -54,8 +55,8 @@ fn in_lists(among: &PortSet, kind: Kind, tagged: &PortSet, untagged: &PortSet) -
     }
 }
 
-// The present members of a VLAN in a kind, among some ports, after a port became a member or lost its membership
-// of this VLAN, or not.
+// The present members of a VLAN in a kind, among some ports, after a port became a member or lost
+// its membership of this VLAN, or not.
 fn after_membership(
     config: &Config,
     command: &Command,

@@ -12,7 +12,8 @@ use exb_model::tree::Tree;
 
 // A port that is made present goes up if it is extended and absent before.
 fn risen(tree: &Tree, config: &Config, port: PortId) -> Option<PortId>
-    ensures { result ≡ goes_up tree.now (bridge_of config.now) (after (command.Up port) (bridge_of config.now)) }
+    ensures { result ≡ goes_up tree.now (bridge_of config.now)
+        (after (command.Up port) (bridge_of config.now)) }
 {
     tree.is_tree();
     let is_present = config.present(port);
@@ -26,7 +27,8 @@ fn risen(tree: &Tree, config: &Config, port: PortId) -> Option<PortId>
 
 // A port that is made absent goes down if it is extended and present before.
 fn fallen(tree: &Tree, config: &Config, port: PortId) -> Option<PortId>
-    ensures { result ≡ goes_down tree.now (bridge_of config.now) (after (command.Down port) (bridge_of config.now)) }
+    ensures { result ≡ goes_down tree.now (bridge_of config.now)
+        (after (command.Down port) (bridge_of config.now)) }
 {
     tree.is_tree();
     let is_present = config.present(port);
@@ -40,7 +42,8 @@ fn fallen(tree: &Tree, config: &Config, port: PortId) -> Option<PortId>
 
 /// The extended port that goes up with a command, if one does.
 pub(crate) fn goes_up(tree: &Tree, config: &Config, command: &Command) -> Option<PortId>
-    ensures { result ≡ goes_up tree.now (bridge_of config.now) (after command.now (bridge_of config.now)) }
+    ensures { result ≡ goes_up tree.now (bridge_of config.now)
+        (after command.now (bridge_of config.now)) }
 {
     match *command {
         Command::Up { port } => risen(tree, config, port),
@@ -50,7 +53,8 @@ pub(crate) fn goes_up(tree: &Tree, config: &Config, command: &Command) -> Option
 
 /// The extended port that goes down with a command, if one does.
 pub(crate) fn goes_down(tree: &Tree, config: &Config, command: &Command) -> Option<PortId>
-    ensures { result ≡ goes_down tree.now (bridge_of config.now) (after command.now (bridge_of config.now)) }
+    ensures { result ≡ goes_down tree.now (bridge_of config.now)
+        (after command.now (bridge_of config.now)) }
 {
     match *command {
         Command::Down { port } => fallen(tree, config, port),

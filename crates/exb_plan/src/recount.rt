@@ -26,7 +26,8 @@ fn raise(
     requires places { HavePlaces spaces.now uses.old }
     ensures counts { OnOk result (AreRaised spaces.now (seen part.now ∷ []) uses.old uses.new) }
     ensures rows { HaveRowsOf uses.old uses.new }
-    ensures met { ((g : ℕ) → group_in (held_by spaces.now) (part.now.bridge_port - 1) (seen part.now).ports ≡ Some g
+    ensures met { ((g : ℕ) → group_in (held_by spaces.now) (part.now.bridge_port - 1)
+        (seen part.now).ports ≡ Some g
         → count_at uses.old (part.now.bridge_port - 1) g < 2 ^ 63) → IsOk result }
 {
     match near.find(spaces.groups(part.bridge_port), part) {
@@ -39,7 +40,8 @@ fn raise(
 fn lower(uses: &mut GroupUses, spaces: &Spaces, near: &mut Guesses, part: &SetAt)
     requires placed { IsPlaced spaces.now (seen part.now) }
     requires own { AreOwn spaces.now }
-    requires used { (g : ℕ) → group_in (held_by spaces.now) (part.now.bridge_port - 1) (seen part.now).ports ≡ Some g
+    requires used { (g : ℕ) → group_in (held_by spaces.now) (part.now.bridge_port - 1)
+        (seen part.now).ports ≡ Some g
         → 0 < count_at uses.old (part.now.bridge_port - 1) g }
     ensures counts { AreLowered spaces.now (seen part.now ∷ []) uses.old uses.new }
     ensures rows { HaveRowsOf uses.old uses.new }
@@ -73,7 +75,8 @@ fn raise_few(uses: &mut GroupUses, spaces: &Spaces, near: &mut Guesses, part: &S
     requires placed { IsPlaced spaces.now (seen part.now) }
     requires own { AreOwn spaces.now }
     requires places { HavePlaces spaces.now uses.old }
-    requires few { (g : ℕ) → group_in (held_by spaces.now) (part.now.bridge_port - 1) (seen part.now).ports ≡ Some g
+    requires few { (g : ℕ) → group_in (held_by spaces.now) (part.now.bridge_port - 1)
+        (seen part.now).ports ≡ Some g
         → count_at uses.old (part.now.bridge_port - 1) g < 2 ^ 63 }
     ensures counts { AreRaised spaces.now (seen part.now ∷ []) uses.old uses.new }
     ensures rows { HaveRowsOf uses.old uses.new }

@@ -17,7 +17,8 @@ use exb_numbers::Spaces;
 // Whether a port is a present extended port under a bridge port.
 fn is_present_under(tree: &Tree, config: &Config, bridge_port: u8, port: PortId) -> bool
     requires { 1 ≤ bridge_port }
-    ensures { result ≡ (is_under tree.now (bridge_port - 1) port && (bridge_of config.now).present port) }
+    ensures { result ≡ (is_under tree.now (bridge_port - 1) port
+        && (bridge_of config.now).present port) }
 {
     let is_under = is_under(tree, bridge_port, port);
     is_under && config.present(port)
@@ -44,7 +45,8 @@ pub fn channels_short(tree: &Tree, spaces: &Spaces, config: &Config, port: PortI
     requires extender { is_extender tree.now (port / 64) ≡ true }
     requires cascade { has_space spaces.now (trunk tree.now (port / 64)) ≡ true }
     ensures { (l : Limits) → HasSpaces tree.now l spaces.now
-        → result ≡ channels_short tree.now l (bridge_of config.now) (Some (trunk tree.now (port / 64))) }
+        → result ≡ channels_short tree.now l (bridge_of config.now)
+        (Some (trunk tree.now (port / 64))) }
 {
     let trunk = tree.trunk(port.device());
     let needed = cascades_under(tree, trunk) as u64 + present_under(tree, config, trunk) as u64 + 1;

@@ -16,7 +16,8 @@ use std::alloc::Global;
 /// How many rows or numbers one message has at most.
 const MOST: usize = 64;
 
-// Asks an extender for these rows: for one of them by Register. A request is large, so each is made where it is put.
+// Asks an extender for these rows: for one of them by Register. A request is large, so each is made
+// where it is put.
 fn put_register(asks: &mut List<AskAt>, extender: u8, rows: &[GroupRow]) -> Result<(), NoMemory>
     requires { length rows.now ≤ 64 }
     ensures { OnOk result (asks.new ≡ asks.old ++ ask extender (register rows.now) ∷ []) }
@@ -37,7 +38,8 @@ fn put_register(asks: &mut List<AskAt>, extender: u8, rows: &[GroupRow]) -> Resu
 // Asks an extender to clear the numbers of these rows: for one of them by Unregister.
 fn put_unregister(asks: &mut List<AskAt>, extender: u8, rows: &[GroupRow]) -> Result<(), NoMemory>
     requires { length rows.now ≤ 64 }
-    ensures { OnOk result (asks.new ≡ asks.old ++ ask extender (unregister (numbers_of rows.now)) ∷ []) }
+    ensures { OnOk result (asks.new ≡ asks.old ++ ask extender (unregister (numbers_of rows.now))
+        ∷ []) }
 {
     if let [row] = rows {
         let request = Request::Unregister { ecid: row.ecid };
@@ -151,7 +153,8 @@ fn put_own(asks: &mut List<AskAt>, port: PortId, request: Request) -> Result<(),
     })
 }
 
-/// Asks that a port gets a channel: Register at each ancestor from the bridge down, then PortCreate.
+/// Asks that a port gets a channel: Register at each ancestor from the bridge down, then
+/// PortCreate.
 #[tactic(auto, using(std::proofs::lemmas::List::append_assoc), unfolding(exb_control_spec::specs::Plans::ChangeRequests::create_asks))]
 pub fn put_create(
     alloc: Global,
@@ -172,7 +175,8 @@ pub fn put_create(
     put_own(asks, port, create)
 }
 
-/// Asks that a port loses its channel: Unregister at each ancestor from the bridge down, then PortDelete.
+/// Asks that a port loses its channel: Unregister at each ancestor from the bridge down, then
+/// PortDelete.
 #[tactic(auto, using(std::proofs::lemmas::List::append_assoc), unfolding(exb_control_spec::specs::Plans::ChangeRequests::delete_asks))]
 pub fn put_delete(
     alloc: Global,

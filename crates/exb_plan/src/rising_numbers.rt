@@ -8,7 +8,8 @@ use exb_model::memory::NoMemory;
 pub fn put_rising(numbers: &mut Vec<u16>, number: u16) -> Result<(), NoMemory>
     requires { IsRising numbers.old.items }
     ensures rising { IsRising numbers.new.items }
-    ensures members { OnOk result ((g : ℕ) → is_among numbers.new.items g ≡ (number == g || is_among numbers.old.items g)) }
+    ensures members { OnOk result ((g : ℕ) → is_among numbers.new.items g
+        ≡ (number == g || is_among numbers.old.items g)) }
     ensures err { OnErr result (numbers.new.items ≡ numbers.old.items) }
 {
     match numbers.as_slice().binary_search(&number) {

@@ -9,8 +9,8 @@ use exb_model::port_set::PortSet;
 use exb_model::tree::Tree;
 use std::alloc::Global;
 
-/// One row for each extender with a port of the set in its subtree, by depth and number: the ports whose
-/// subtree has a port of the set.
+/// One row for each extender with a port of the set in its subtree, by depth and number: the ports
+/// whose subtree has a port of the set.
 pub fn rows(alloc: Global, tree: &Tree, set: &PortSet) -> Result<Vec<Row>, NoMemory>
     ensures { IfOk result (λ rows. rows.items ≡ rows_of tree.now (port_in set.now)) }
 {

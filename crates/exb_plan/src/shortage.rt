@@ -29,7 +29,8 @@ fn count_at(sets: &[SetAt], bridge_port: u8) -> u64
     count
 }
 
-// Why the groups of a cascade port of the bridge don't suffice for those in use and fresh sets, if they don't.
+// Why the groups of a cascade port of the bridge don't suffice for those in use and fresh sets, if
+// they don't.
 fn groups_short_at(
     spaces: &Spaces,
     uses: &GroupUses,
@@ -38,7 +39,8 @@ fn groups_short_at(
 ) -> Option<Cause>
     requires from1 { 1 ≤ bridge_port }
     requires cascade { has_space spaces.now (bridge_port - 1) ≡ true }
-    ensures { (l : Limits) → (had : List PortsAt) → AreLimited l.groups spaces.now → used_at uses.now (bridge_port - 1) ≡ how_many (is_at bridge_port) had
+    ensures { (l : Limits) → (had : List PortsAt) → AreLimited l.groups spaces.now
+        → used_at uses.now (bridge_port - 1) ≡ how_many (is_at bridge_port) had
         → result ≡ short_at l had (map seen fresh.now) bridge_port }
 {
     let needed = uses.used(bridge_port) as u64 + count_at(fresh, bridge_port);
@@ -50,8 +52,8 @@ fn groups_short_at(
     }
 }
 
-/// Why the groups of the lowest bridge port that has too few don't suffice, if there is one. As many groups have a
-/// use as there are sets.
+/// Why the groups of the lowest bridge port that has too few don't suffice, if there is one. As
+/// many groups have a use as there are sets.
 pub(crate) fn groups_short(
     tree: &Tree,
     spaces: &Spaces,
@@ -60,7 +62,8 @@ pub(crate) fn groups_short(
 ) -> Option<Cause>
     requires { (k : ℕ) → k < 64 → is_cascade tree.now k ≡ true → has_space spaces.now k ≡ true }
     ensures { (l : Limits) → (had : List PortsAt) → AreLimited l.groups spaces.now
-        → ((k : ℕ) → k < 64 → is_cascade tree.now k ≡ true → used_at uses.now k ≡ how_many (is_at (k + 1)) had)
+        → ((k : ℕ) → k < 64 → is_cascade tree.now k ≡ true → used_at uses.now k
+        ≡ how_many (is_at (k + 1)) had)
         → result ≡ short_by tree.now l had (map seen fresh.now) }
 {
     for bridge_port in 1..65u8 {

@@ -31,8 +31,8 @@ use std::alloc::Global;
 /// Room for so many parts is taken at once.
 const FEW: usize = 64;
 
-// Puts the parts of a VLAN's members among some ports, in the kind in which a port of these is a member. It is asked of
-// each VLAN, of which most have no such part.
+// Puts the parts of a VLAN's members among some ports, in the kind in which a port of these is a
+// member. It is asked of each VLAN, of which most have no such part.
 #[inline(always)]
 fn add_kind_with<V: View>(
     parts: &mut Vec<SetAt>,
@@ -43,10 +43,12 @@ fn add_kind_with<V: View>(
     among: &PortSet,
     port: PortId,
 ) -> Result<(), NoMemory>
-    ensures { (t : Shape) → (here test : ℕ → Bool) → AreBranches t (V.bridge view.now) here branches.now →
+    ensures { (t : Shape) → (here test : ℕ → Bool)
+        → AreBranches t (V.bridge view.now) here branches.now →
         IsAmong t test among.now → test port ≡ true →
         OnOk result (Adds t (V.bridge view.now) here
-        (filter (has_port (bridge_of config.now) port) (both_kinds vid test)) parts.old.items parts.new.items) }
+        (filter (has_port (bridge_of config.now) port) (both_kinds vid test)) parts.old.items
+        parts.new.items) }
 {
     match config.member(vid, port) {
         Some(kind) => put_kind(parts, branches, view, vid, among, kind),
@@ -61,7 +63,8 @@ pub struct Parts {
     pub later: Vec<SetAt>,
 }
 
-// Puts the parts of a VLAN's members in the kind in which a port is one of them, as they are before a command and after it.
+// Puts the parts of a VLAN's members in the kind in which a port is one of them, as they are before
+// a command and after it.
 #[inline(always)]
 fn add_vlan_with<V: View>(
     parts: &mut Parts,
@@ -72,12 +75,16 @@ fn add_vlan_with<V: View>(
     vid: Vid,
     port: PortId,
 ) -> Result<(), NoMemory>
-    ensures before { (t : Shape) → (here : ℕ → Bool) → AreBranches t (bridge_of config.now) here branches.now →
+    ensures before { (t : Shape) → (here : ℕ → Bool)
+        → AreBranches t (bridge_of config.now) here branches.now →
         OnOk result (Adds t (bridge_of config.now) here
-        (filter (has_port (bridge_of config.now) port) (both_kinds vid (λ q. true))) parts.old.before.items parts.new.before.items) }
-    ensures later { (t : Shape) → (here : ℕ → Bool) → AreBranches t (V.bridge view.now) here branches_later.now →
+        (filter (has_port (bridge_of config.now) port) (both_kinds vid (λ q. true)))
+        parts.old.before.items parts.new.before.items) }
+    ensures later { (t : Shape) → (here : ℕ → Bool)
+        → AreBranches t (V.bridge view.now) here branches_later.now →
         OnOk result (Adds t (V.bridge view.now) here
-        (filter (has_port (bridge_of config.now) port) (both_kinds vid (λ q. true))) parts.old.later.items parts.new.later.items) }
+        (filter (has_port (bridge_of config.now) port) (both_kinds vid (λ q. true)))
+        parts.old.later.items parts.new.later.items) }
 {
     let all = &branches.extended;
     add_kind_with(&mut parts.before, branches, config, config, vid, all, port)?;
@@ -94,8 +101,8 @@ fn add_vlan_with<V: View>(
     Ok(())
 }
 
-// Puts the parts of all VLANs in the kind in which a port is their member, as they are before a command and after it: so the VLANs are
-// gone through once.
+// Puts the parts of all VLANs in the kind in which a port is their member, as they are before a
+// command and after it: so the VLANs are gone through once.
 fn add_vlans_with<V: View>(
     parts: &mut Parts,
     branches: &Branches,
@@ -104,12 +111,16 @@ fn add_vlans_with<V: View>(
     config: &Config,
     port: PortId,
 ) -> Result<(), NoMemory>
-    ensures before { (t : Shape) → (here : ℕ → Bool) → AreBranches t (bridge_of config.now) here branches.now →
+    ensures before { (t : Shape) → (here : ℕ → Bool)
+        → AreBranches t (bridge_of config.now) here branches.now →
         OnOk result (Adds t (bridge_of config.now) here
-        (filter (has_port (bridge_of config.now) port) sources_of_vlans) parts.old.before.items parts.new.before.items) }
-    ensures later { (t : Shape) → (here : ℕ → Bool) → AreBranches t (V.bridge view.now) here branches_later.now →
+        (filter (has_port (bridge_of config.now) port) sources_of_vlans) parts.old.before.items
+        parts.new.before.items) }
+    ensures later { (t : Shape) → (here : ℕ → Bool)
+        → AreBranches t (V.bridge view.now) here branches_later.now →
         OnOk result (Adds t (V.bridge view.now) here
-        (filter (has_port (bridge_of config.now) port) sources_of_vlans) parts.old.later.items parts.new.later.items) }
+        (filter (has_port (bridge_of config.now) port) sources_of_vlans) parts.old.later.items
+        parts.new.later.items) }
 {
     for number in 1..4095u16 {
         let vid = Vid::new(number).unwrap();
@@ -132,7 +143,8 @@ fn add_vlan<V: View>(
     view: &V,
     vid: Vid,
 ) -> Result<(), NoMemory>
-    ensures { (t : Shape) → (here : ℕ → Bool) → AreBranches t (V.bridge view.now) here branches.now →
+    ensures { (t : Shape) → (here : ℕ → Bool)
+        → AreBranches t (V.bridge view.now) here branches.now →
         OnOk result (Adds t (V.bridge view.now) here
         (filter (is_of vid) sources_of_vlans) parts.old.items parts.new.items) }
 {
@@ -149,12 +161,16 @@ fn add_vlans<V: View>(
     config: &Config,
     command: &Command,
 ) -> Result<(), NoMemory>
-    ensures before { (t : Shape) → (here : ℕ → Bool) → AreBranches t (bridge_of config.now) here branches.now →
+    ensures before { (t : Shape) → (here : ℕ → Bool)
+        → AreBranches t (bridge_of config.now) here branches.now →
         OnOk result (Adds t (bridge_of config.now) here
-        (vlans_touched command.now (bridge_of config.now)) parts.old.before.items parts.new.before.items) }
-    ensures later { (t : Shape) → (here : ℕ → Bool) → AreBranches t (V.bridge view.now) here branches_later.now →
+        (vlans_touched command.now (bridge_of config.now)) parts.old.before.items
+        parts.new.before.items) }
+    ensures later { (t : Shape) → (here : ℕ → Bool)
+        → AreBranches t (V.bridge view.now) here branches_later.now →
         OnOk result (Adds t (V.bridge view.now) here
-        (vlans_touched command.now (bridge_of config.now)) parts.old.later.items parts.new.later.items) }
+        (vlans_touched command.now (bridge_of config.now)) parts.old.later.items
+        parts.new.later.items) }
 {
     match *command {
         Command::Vlan { vid, .. } | Command::Member { vid, .. } | Command::Unmember { vid, .. } => {
@@ -177,7 +193,8 @@ fn add_entry<V: View>(
     vid: Vid,
     ports: &PortSet,
 ) -> Result<(), NoMemory>
-    ensures { (t : Shape) → (here : ℕ → Bool) → AreBranches t (V.bridge view.now) here branches.now →
+    ensures { (t : Shape) → (here : ℕ → Bool)
+        → AreBranches t (V.bridge view.now) here branches.now →
         OnOk result (Adds t (V.bridge view.now) here
         (both_kinds vid (port_in ports.now)) parts.old.items parts.new.items) }
 {
@@ -194,9 +211,11 @@ fn add_entry_with<V: View>(
     entry: &StaticAt,
     port: PortId,
 ) -> Result<(), NoMemory>
-    ensures { (t : Shape) → (here : ℕ → Bool) → AreBranches t (V.bridge view.now) here branches.now →
+    ensures { (t : Shape) → (here : ℕ → Bool)
+        → AreBranches t (V.bridge view.now) here branches.now →
         OnOk result (Adds t (V.bridge view.now) here
-        (filter (has_port (bridge_of config.now) port) (both_kinds entry.now.vid (port_in entry.now.ports))) parts.old.items parts.new.items) }
+        (filter (has_port (bridge_of config.now) port)
+        (both_kinds entry.now.vid (port_in entry.now.ports))) parts.old.items parts.new.items) }
 {
     if entry.ports.contains(port) {
         let among = branches.extended.both(&entry.ports);
@@ -221,9 +240,11 @@ fn add_entry_in<V: View>(
     entry: &StaticAt,
     vid: Vid,
 ) -> Result<(), NoMemory>
-    ensures { (t : Shape) → (here : ℕ → Bool) → AreBranches t (V.bridge view.now) here branches.now →
+    ensures { (t : Shape) → (here : ℕ → Bool)
+        → AreBranches t (V.bridge view.now) here branches.now →
         OnOk result (Adds t (V.bridge view.now) here
-        (filter (is_of vid) (both_kinds entry.now.vid (port_in entry.now.ports))) parts.old.items parts.new.items) }
+        (filter (is_of vid) (both_kinds entry.now.vid (port_in entry.now.ports))) parts.old.items
+        parts.new.items) }
 {
     if entry.vid.number() == vid.number() {
         add_entry(parts, branches, view, entry.vid, &entry.ports)
@@ -241,9 +262,11 @@ fn add_entry_for<V: View>(
     vid: Vid,
     address: Mac,
 ) -> Result<(), NoMemory>
-    ensures { (t : Shape) → (here : ℕ → Bool) → AreBranches t (V.bridge view.now) here branches.now →
+    ensures { (t : Shape) → (here : ℕ → Bool)
+        → AreBranches t (V.bridge view.now) here branches.now →
         OnOk result (Adds t (V.bridge view.now) here
-        (if is_for vid address.0 entry.now then sources_of_entry entry.now else []) parts.old.items parts.new.items) }
+        (if is_for vid address.0 entry.now then sources_of_entry entry.now else []) parts.old.items
+        parts.new.items) }
 {
     if is_for(entry, vid, address) {
         add_entry(parts, branches, view, entry.vid, &entry.ports)
@@ -261,9 +284,11 @@ fn add_touched<V: View>(
     command: &Command,
     entry: &StaticAt,
 ) -> Result<(), NoMemory>
-    ensures { (t : Shape) → (here : ℕ → Bool) → AreBranches t (V.bridge view.now) here branches.now →
+    ensures { (t : Shape) → (here : ℕ → Bool)
+        → AreBranches t (V.bridge view.now) here branches.now →
         OnOk result (Adds t (V.bridge view.now) here
-        (entry_touched command.now (bridge_of config.now) entry.now) parts.old.items parts.new.items) }
+        (entry_touched command.now (bridge_of config.now) entry.now) parts.old.items
+        parts.new.items) }
 {
     match *command {
         Command::Vlan { vid, .. } | Command::Member { vid, .. } | Command::Unmember { vid, .. } => {
@@ -279,11 +304,12 @@ fn add_touched<V: View>(
     }
 }
 
-// Whether a command may touch a static entry of a VLAN. It is asked of each entry, of which most aren't touched, before its ports are
-// copied.
+// Whether a command may touch a static entry of a VLAN. It is asked of each entry, of which most
+// aren't touched, before its ports are copied.
 #[inline(always)]
 fn may_touch(config: &Config, command: &Command, vid: Vid) -> bool
-    ensures { (e : StaticAt) → e.vid ≡ vid → result ≡ false → entry_touched command.now (bridge_of config.now) e ≡ [] }
+    ensures { (e : StaticAt) → e.vid ≡ vid → result ≡ false
+        → entry_touched command.now (bridge_of config.now) e ≡ [] }
 {
     match *command {
         Command::Vlan { vid: of, .. }
@@ -297,7 +323,8 @@ fn may_touch(config: &Config, command: &Command, vid: Vid) -> bool
     }
 }
 
-// Puts the parts of the static entry at a place, which is one of this VLAN, if a command touches them.
+// Puts the parts of the static entry at a place, which is one of this VLAN, if a command touches
+// them.
 #[inline(always)]
 fn add_entry_at<V: View>(
     parts: &mut Vec<SetAt>,
@@ -308,7 +335,8 @@ fn add_entry_at<V: View>(
     at: u64,
     vid: Vid,
 ) -> Result<(), NoMemory>
-    ensures { (t : Shape) → (here : ℕ → Bool) → (e : StaticAt) → AreBranches t (V.bridge view.now) here branches.now →
+    ensures { (t : Shape) → (here : ℕ → Bool) → (e : StaticAt)
+        → AreBranches t (V.bridge view.now) here branches.now →
         slice_get (bridge_of config.now).statics at ≡ Some e → e.vid ≡ vid →
         OnOk result (Adds t (V.bridge view.now) here
         (entry_touched command.now (bridge_of config.now) e) parts.old.items parts.new.items) }
@@ -330,9 +358,11 @@ fn add_entries<V: View>(
     config: &Config,
     command: &Command,
 ) -> Result<(), NoMemory>
-    ensures { (t : Shape) → (here : ℕ → Bool) → AreBranches t (V.bridge view.now) here branches.now →
+    ensures { (t : Shape) → (here : ℕ → Bool)
+        → AreBranches t (V.bridge view.now) here branches.now →
         OnOk result (Adds t (V.bridge view.now) here
-        (flat_map (entry_touched command.now (bridge_of config.now)) (bridge_of config.now).statics) parts.old.items parts.new.items) }
+        (flat_map (entry_touched command.now (bridge_of config.now)) (bridge_of config.now).statics)
+        parts.old.items parts.new.items) }
 {
     for at in 0..u64::MAX {
         match config.static_vid(at) {
@@ -343,7 +373,8 @@ fn add_entries<V: View>(
     Err(NoMemory)
 }
 
-// Puts, behind the parts of the VLANs that a command touches, those of the static entries as they are before it.
+// Puts, behind the parts of the VLANs that a command touches, those of the static entries as they
+// are before it.
 fn add_before<V: View>(
     parts: &mut Vec<SetAt>,
     branches: &Branches,
@@ -351,9 +382,12 @@ fn add_before<V: View>(
     config: &Config,
     command: &Command,
 ) -> Result<(), NoMemory>
-    ensures { (t : Shape) → (here : ℕ → Bool) → AreBranches t (V.bridge view.now) here branches.now → (old : List SetAt) →
-        Adds t (V.bridge view.now) here (vlans_touched command.now (bridge_of config.now)) old parts.old.items →
-        OnOk result (Adds t (V.bridge view.now) here (touched_before command.now (bridge_of config.now)) old parts.new.items) }
+    ensures { (t : Shape) → (here : ℕ → Bool) → AreBranches t (V.bridge view.now) here branches.now
+        → (old : List SetAt) →
+        Adds t (V.bridge view.now) here (vlans_touched command.now (bridge_of config.now)) old
+        parts.old.items →
+        OnOk result (Adds t (V.bridge view.now) here
+        (touched_before command.now (bridge_of config.now)) old parts.new.items) }
 {
     match *command {
         Command::Static { vid, address, .. } => match config.entry(vid, address) {
@@ -372,9 +406,12 @@ fn add_after<V: View>(
     config: &Config,
     command: &Command,
 ) -> Result<(), NoMemory>
-    ensures { (t : Shape) → (here : ℕ → Bool) → AreBranches t (V.bridge view.now) here branches.now → (old : List SetAt) →
-        Adds t (V.bridge view.now) here (vlans_touched command.now (bridge_of config.now)) old parts.old.items →
-        OnOk result (Adds t (V.bridge view.now) here (touched_after command.now (bridge_of config.now)) old parts.new.items) }
+    ensures { (t : Shape) → (here : ℕ → Bool) → AreBranches t (V.bridge view.now) here branches.now
+        → (old : List SetAt) →
+        Adds t (V.bridge view.now) here (vlans_touched command.now (bridge_of config.now)) old
+        parts.old.items →
+        OnOk result (Adds t (V.bridge view.now) here
+        (touched_after command.now (bridge_of config.now)) old parts.new.items) }
 {
     match *command {
         Command::Static { vid, ports, .. } => { add_entry(parts, branches, view, vid, &ports) }
@@ -383,16 +420,18 @@ fn add_after<V: View>(
     }
 }
 
-/// The non-empty parts, before a command and after it, of the VLANs and static entries that it touches, in order. The configuration is
-/// the one before it.
+/// The non-empty parts, before a command and after it, of the VLANs and static entries that it
+/// touches, in order. The configuration is the one before it.
 pub fn parts_around(
     alloc: Global,
     tree: &Tree,
     config: &Config,
     command: &Command,
 ) -> Result<Parts, NoMemory>
-    ensures before { IfOk result (λ made. map seen made.before.items ≡ filter has_ports (parts_touched_before tree.now command.now (bridge_of config.now))) }
-    ensures later { IfOk result (λ made. map seen made.later.items ≡ filter has_ports (parts_touched_after tree.now command.now (bridge_of config.now))) }
+    ensures before { IfOk result (λ made. map seen made.before.items
+        ≡ filter has_ports (parts_touched_before tree.now command.now (bridge_of config.now))) }
+    ensures later { IfOk result (λ made. map seen made.later.items
+        ≡ filter has_ports (parts_touched_after tree.now command.now (bridge_of config.now))) }
 {
     let view = Pending { config, command };
     let branches = Branches::touched(tree, config, command);

@@ -49,7 +49,8 @@ fn without_group(
     near: &mut Guesses,
 ) -> Result<Vec<SetAt>, NoMemory>
     requires { All (λ s. IsPlaced spaces.now (seen s)) parts.now }
-    ensures { IfOk result (λ made. map seen made.items ≡ filter (λ s. not (has_group (held_by spaces.now) s)) (map seen parts.now)) }
+    ensures { IfOk result (λ made. map seen made.items
+        ≡ filter (λ s. not (has_group (held_by spaces.now) s)) (map seen parts.now)) }
 {
     let mut fresh = Vec::new(alloc);
     for part in parts {
@@ -60,7 +61,8 @@ fn without_group(
     Ok(fresh)
 }
 
-/// What a command touches, where just what the configuration needs is held. The groups of the later parts are kept as guesses.
+/// What a command touches, where just what the configuration needs is held. The groups of the later
+/// parts are kept as guesses.
 pub(crate) fn touched_sets(
     alloc: Global,
     tree: &Tree,
@@ -71,7 +73,8 @@ pub(crate) fn touched_sets(
 ) -> Result<TouchedSets, NoMemory>
     requires spaces { SpacesOf tree.now spaces.now }
     requires held { HoldsNeeded tree.now (bridge_of config.now) (held_by spaces.now) }
-    ensures { IfOk result (λ made. AreTouched tree.now command.now (bridge_of config.now) (held_by spaces.now) made) }
+    ensures { IfOk result (λ made. AreTouched tree.now command.now (bridge_of config.now)
+        (held_by spaces.now) made) }
 {
     tree.is_tree();
     let parts = parts_around(alloc, tree, config, command)?;

@@ -33,8 +33,8 @@ abbrev pub mode_of : Schedule → Mode
 mode_of schedule.Eager = Eager
 mode_of (schedule.Seeded seed) = Seeded
 
--- Commands that name external ports of a tree, in the order of their seconds; with a fate for the opening all fates are short
--- enough.
+-- Commands that name external ports of a tree, in the order of their seconds; with a fate for the opening all fates are
+-- short enough.
 pub record IsScript (t : Shape) (given : List Timed) (fate : List Verdict) : Type 0 where
   pub commands : All (λ c. NamesExternal t c.command) given
   pub few_commands : length given ≤ 65536
@@ -47,9 +47,24 @@ pub record Run : Type 0 where
   pub before : Files
 
 abbrev pub no_run : Run
-no_run = record { input = record { setup = record { ports = 0; extenders = []; channels = 0; groups = 0; ageing = 0; start = [] }; commands = []; records = λ q. [] }; before = λ name. None }
+no_run = record {
+  input = record {
+    setup = record {
+      ports = 0;
+      extenders = [];
+      channels = 0;
+      groups = 0;
+      ageing = 0;
+      start = [];
+    };
+    commands = [];
+    records = λ q. [];
+  };
+  before = λ name. None;
+}
 
--- What a world told, as one value: its events, whether each relayed frame passed, what has left, and the lines of its trace.
+-- What a world told, as one value: its events, whether each relayed frame passed, what has left, and the lines of its
+-- trace.
 pub record Told : Type 0 where
   pub events : List Event
   pub passed : List Bool
@@ -62,7 +77,12 @@ untold = record { events = []; passed = []; left = []; lines = [] }
 -- and what stands in a log behind it
 infixl 20 ◌with◌
 abbrev pub ◌with◌ : Told → Log → Told
-t with log = record { events = t.events ++ log.events; passed = t.passed ++ log.passed; left = t.left ++ all_left log.left; lines = t.lines ++ log.lines }
+t with log = record {
+  events = t.events ++ log.events;
+  passed = t.passed ++ log.passed;
+  left = t.left ++ all_left log.left;
+  lines = t.lines ++ log.lines;
+}
 
 -- the network has played these segments, by which it told this
 abbrev pub HasTold : Mode → Input → List Segment → Network → Told → Type 0
@@ -78,10 +98,17 @@ pub record Player : Type 0 where
   pub disk : Disk
 
 abbrev pub player : Schedule → Listed → Network → RunCounts → Outputs → Disk → Player
-player schedule manifest n c o d = record { mode = mode_of schedule; manifest = manifest; world = n; counted = c; outputs = o; disk = d }
+player schedule manifest n c o d = record {
+  mode = mode_of schedule;
+  manifest = manifest;
+  world = n;
+  counted = c;
+  outputs = o;
+  disk = d;
+}
 
--- Its network has played these segments of the input, what is written and counted are those of what it told, whose numbers have 64 bits
--- and whose frames are bytes, and nothing is still to be written.
+-- Its network has played these segments of the input, what is written and counted are those of what it told, whose
+-- numbers have 64 bits and whose frames are bytes, and nothing is still to be written.
 pub record IsTold (tells : Type 0) (r : Run) (p : Player) (so_far : List Segment) : Type 0 where
   pub tree : p.manifest.tree ≡ tree_of r.input
   pub told : Told
@@ -90,7 +117,8 @@ pub record IsTold (tells : Type 0) (r : Run) (p : Player) (so_far : List Segment
   pub numbers : All IsOfNumbers told.events
   pub bytes : All HasBytes told.lines
   pub counted : IsCounted p.manifest p.counted told.events told.passed told.left
-  pub texts : tells → HasTexts p.manifest (pieces_of p.outputs) r.before p.disk.files (text_so_far told.events told.left told.lines [])
+  pub texts : tells → HasTexts p.manifest (pieces_of p.outputs) r.before p.disk.files
+      (text_so_far told.events told.left told.lines [])
   pub sent : HasSent p.manifest p.outputs (λ q. left_at q told.left)
   pub quiet : IsQuiet p.world
 
@@ -99,7 +127,8 @@ pub record IsAllTold (tells : Type 0) (r : Run) (p : Player) : Type 0 where
   pub is : IsTold tells r p (segments p.mode r.input)
   pub room : (q : ℕ) → capture_size (left_at q is.told.left) < 2 ^ 64
 
--- The run ended early, after some of its segments: each output is as it was, or holds a front of its text over what these told.
+-- The run ended early, after some of its segments: each output is as it was, or holds a front of its text over what
+-- these told.
 pub record IsCutOff (m : Mode) (r : Run) (manifest : Listed) (now : Files) : Type 0 where
   pub tree : manifest.tree ≡ tree_of r.input
   pub so_far : List Segment

@@ -15,8 +15,8 @@ pub record Disk : Type 0 where
 abbrev pub disk : {A : Type 0} → Ghosts A → A → Disk
 disk S shelf = record { files = S.file shelf; ids = S.ids shelf; faults = S.faults shelf }
 
--- Files that are to stay have stayed, where that is known; only through these ids was read; and no count has fallen. It goes from a disk to
--- itself, and on from there.
+-- Files that are to stay have stayed, where that is known; only through these ids was read; and no count has fallen. It
+-- goes from a disk to itself, and on from there.
 pub record Touches (known : Type 0) (stays : List ℕ → Type 0) (mine : List ℕ) (old new : Disk) : Type 0 where
   pub files : known → (name : List ℕ) → stays name → new.files name ≡ old.files name
   pub ids : ReadsOn mine old.ids new.ids

@@ -20,8 +20,8 @@ use Rattle.exb_outputs.specs.KindTexts.{output_text}
 abbrev pub IsTraceOf : Input → History → List TraceLine → Type 0
 IsTraceOf i h lines = LegalTrace (tree_of i) (journal_of h) (frames_in i) (frames_out i h) lines
 
--- What else is known of a history that was played: its setup is valid, its ports are ports and its numbers have 64 bits, and the moments
--- of its Relays are such as a capture can hold. So what was written of it can be read back.
+-- What else is known of a history that was played: its setup is valid, its ports are ports and its numbers have 64
+-- bits, and the moments of its Relays are such as a capture can hold. So what was written of it can be read back.
 pub record CanBeReadBack (i : Input) (h : History) : Type 0 where
   pub valid : IsValid i.setup
   pub numbers : All IsOfNumbers h
@@ -36,5 +36,6 @@ pub record HasPlayed (m : Mode) (i : Input) (manifest : Listed) (old new : Files
   pub back : CanBeReadBack i history
   pub trace : manifest.options.trace ≡ true → IsTraceOf i history lines
   pub bytes : All HasBytes lines
-  pub outputs : Filled old new (output_count manifest) (output_name manifest) (λ j bytes. bytes ≡ output_text i history lines (kind_at manifest j))
+  pub outputs : Filled old new (output_count manifest) (output_name manifest) (λ j bytes.
+      bytes ≡ output_text i history lines (kind_at manifest j))
   pub says : line ≡ summary (tree_of i) (basis_of i) history

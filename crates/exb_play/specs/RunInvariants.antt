@@ -1,4 +1,5 @@
--- A run under way that reads its captures again: what holds whatever these give, and what holds where the files are told.
+-- A run under way that reads its captures again: what holds whatever these give, and what holds where the files are
+-- told.
 use Rattle.std.specs.Prelude.{[], ◌≡◌, ◌≤◌, ◌<◌, ◌+◌, ◌*◌, ◌^◌, ◌==◌, true, false, ℕ, List, ◌∷◌, ◌++◌, Option, Some, None, Result, Ok, Err, length, map, filter, filter_map, flat_map, sum_by, All, fold, OnOk, OnErr}
 use Rattle.std.specs.List.{AllByRecursion}
 use Rattle.exb_model.specs.declared.setup.Setup.{Setup}
@@ -62,14 +63,16 @@ seconds_played so_far = sum_by (λ (s : Segment). s.seconds) so_far
 abbrev pub arrived_at : ℕ → List Segment → ℕ
 arrived_at q so_far = length (filter (λ a. a.port == q) (arrivals_in so_far))
 
--- By the second of the last segment: no more seconds passed than lie between the start and it, and nothing that is left comes before it.
--- Before the first segment none has passed.
+-- By the second of the last segment: no more seconds passed than lie between the start and it, and nothing that is left
+-- comes before it. Before the first segment none has passed.
 abbrev pub IsSinceLast : Option ℕ → List Segment → Timeline → Type 0
 IsSinceLast None so_far p = so_far ≡ []
-IsSinceLast (Some second) so_far p = (seconds_played so_far + p.start ≤ second) × (second < p.start + 2 ^ 32) × IsFrom (second * 1_000_000_000) p
+IsSinceLast (Some second) so_far p = (seconds_played so_far + p.start ≤ second) × (second < p.start + 2 ^ 32)
+    × IsFrom (second * 1_000_000_000) p
 
--- Some segments were played, and a programme goes on behind them. The commands are those of the input, and name external ports, as the
--- captures do; the next record of each port has the number that the world waits for; and 16 bytes were read for each arrival.
+-- Some segments were played, and a programme goes on behind them. The commands are those of the input, and name
+-- external ports, as the captures do; the next record of each port has the number that the world waits for; and 16
+-- bytes were read for each arrival.
 pub record IsGoingOn (i : Input) (so_far : List Segment) (last : Option ℕ) (p : Timeline) : Type 0 where
   pub given : i.commands ≡ map given_by p.commands.now
   pub names : All (λ c. NamesExternal (tree_of i) c.command) p.commands.now
@@ -91,14 +94,16 @@ pub record CanFollow (i : Input) (so_far : List Segment) : Type 0 where
 abbrev pub HasStreams : Disk → Timeline → List Stream → Type 0
 HasStreams d p streams = AreReplays d.files d.ids p.captures.sources.items streams
 
--- The files of the captures are those that were checked, and what is still to come of them leads from these segments to all of the input.
-pub record LeadsOn (m : Mode) (i : Input) (so_far : List Segment) (last : Option ℕ) (d : Disk) (p : Timeline) : Type 0 where
+-- The files of the captures are those that were checked, and what is still to come of them leads from these segments to
+-- all of the input.
+pub record LeadsOn (m : Mode) (i : Input) (so_far : List Segment) (last : Option ℕ) (d : Disk)
+    (p : Timeline) : Type 0 where
   pub streams : List Stream
   pub replays : HasStreams d p streams
   pub rest : segments m i ≡ so_far ++ segments_after m last (still_to_come (played_with streams p))
 
--- A run stands after some segments, the last of which was of this second, and a programme goes on: its captures can be read and its outputs
--- be written; where the files are told, it leads to all of the input.
+-- A run stands after some segments, the last of which was of this second, and a programme goes on: its captures can be
+-- read and its outputs be written; where the files are told, it leads to all of the input.
 pub record Stands (tells : Type 0) (r : Run) (p : Player) (last : Option ℕ) (q : Timeline) : Type 0 where
   pub so_far : List Segment
   pub is : IsTold tells r p so_far
@@ -109,7 +114,8 @@ pub record Stands (tells : Type 0) (r : Run) (p : Player) (last : Option ℕ) (q
   pub leads : tells → LeadsOn p.mode r.input so_far last p.disk q
 
 -- A run of this setup, these commands and, where the files are told, the captures in these.
-pub record IsRunOf (tells : Type 0) (r : Run) (setup : Setup) (commands : List Timed) (names : List Named) (file : Files) : Type 0 where
+pub record IsRunOf (tells : Type 0) (r : Run) (setup : Setup) (commands : List Timed) (names : List Named)
+    (file : Files) : Type 0 where
   pub setup_is : r.input.setup ≡ setup
   pub given : r.input.commands ≡ map given_by commands
   pub is : tells → r.input ≡ input_from setup commands names file
@@ -117,9 +123,10 @@ pub record IsRunOf (tells : Type 0) (r : Run) (setup : Setup) (commands : List T
 abbrev pub run_of : Setup → List Timed → List Named → Files → Run
 run_of setup commands names file = record { input = input_from setup commands names file; before = file }
 
--- Before anything was played: the outputs were made and hold nothing but their first texts, the seconds of the commands don't fall, and the
--- programme has all of an input.
-pub record CanBegin (tells : Type 0) (m : Mode) (r : Run) (s : Setup) (manifest : Listed) (d : Disk) (o : Outputs) (q : Timeline) : Type 0 where
+-- Before anything was played: the outputs were made and hold nothing but their first texts, the seconds of the commands
+-- don't fall, and the programme has all of an input.
+pub record CanBegin (tells : Type 0) (m : Mode) (r : Run) (s : Setup) (manifest : Listed) (d : Disk) (o : Outputs)
+    (q : Timeline) : Type 0 where
   pub setup : r.input.setup ≡ s
   pub texts : tells → HasTexts manifest (pieces_of o) r.before d.files first_text
   pub sent : HasSent manifest o (λ q. [])
@@ -156,7 +163,8 @@ ComeAll old (d ∷ ds) new = (next : Timeline) × IsComing old d next × ComeAll
 abbrev pub TakesAllOf : Disk → Disk → Timeline → List Next → Timeline → Type 0
 TakesAllOf a b old ds new =
     (streams : List Stream) → HasStreams a old streams
-    → (rest : List Stream) × (still_to_come (played_with streams old) ≡ map what ds ++ still_to_come (played_with rest new)) × HasStreams b new rest
+    → (rest : List Stream) × (still_to_come (played_with streams old)
+    ≡ map what ds ++ still_to_come (played_with rest new)) × HasStreams b new rest
 
 -- All of these came, and their arrivals stand behind those that had come.
 pub record HasTaken (tells : Type 0) (a b : Disk) (old : Feed) (ds : List Next) (new : Feed) : Type 0 where
@@ -178,7 +186,8 @@ pub record HasTakenSecond (tells : Type 0) (second : ℕ) (a b : Disk) (old new 
 
 -- where the files are told, nothing is left that is of this second
 abbrev pub NoMoreIn : ℕ → Disk → Timeline → Type 0
-NoMoreIn second d p = (streams : List Stream) → HasStreams d p streams → begins_in second (still_to_come (played_with streams p)) ≡ false
+NoMoreIn second d p = (streams : List Stream) → HasStreams d p streams
+    → begins_in second (still_to_come (played_with streams p)) ≡ false
 
 -- where the files are told, nothing is left
 abbrev pub NothingIsLeft : Disk → Timeline → Type 0
@@ -188,7 +197,8 @@ NothingIsLeft d p = (streams : List Stream) → HasStreams d p streams → still
 abbrev pub AreOthers : Disk → Timeline → Type 0
 AreOthers d p = (streams : List Stream) → HasStreams d p streams → ⊥
 
--- One segment was gathered: what came first, in this second, alone in the eager mode, and in a seeded one all of the same second.
+-- One segment was gathered: what came first, in this second, alone in the eager mode, and in a seeded one all of the
+-- same second.
 pub record IsGathered (tells : Type 0) (m : Mode) (a b : Disk) (second : ℕ) (old : Timeline) (new : Feed) : Type 0 where
   pub first : Next
   pub more : List Next
@@ -209,39 +219,50 @@ IsWhy others p _ = Unit {0}
 -- What calls say that read on from there, by their answer: why they couldn't, and what was counted.
 abbrev pub EndsReading : {X : Type 0} → Type 0 → Disk → Timeline → Disk → Result X CaptureFault → Type 0
 EndsReading tells old p new (Ok x) = new.faults ≡ old.faults
-EndsReading tells old p new (Err fault) = IsWhy (tells → AreOthers old p) p fault × CountsFault fault old.faults new.faults
+EndsReading tells old p new (Err fault) = IsWhy (tells → AreOthers old p) p fault
+    × CountsFault fault old.faults new.faults
 
-pub record ReadsAgain {X : Type 0} (tells : Type 0) (old : Disk) (p : Timeline) (new : Disk) (result : Result X CaptureFault) : Type 0 where
+pub record ReadsAgain {X : Type 0} (tells : Type 0) (old : Disk) (p : Timeline) (new : Disk)
+    (result : Result X CaptureFault) : Type 0 where
   pub reads : Reads (ids_in p.captures) old new
   pub ends : EndsReading tells old p new result
 
 -- and that write
-pub record WritesOn {X : Type 0} (tells : Type 0) (manifest : Listed) (old new : Disk) (result : Result X ShelfFault) : Type 0 where
+pub record WritesOn {X : Type 0} (tells : Type 0) (manifest : Listed) (old new : Disk)
+    (result : Result X ShelfFault) : Type 0 where
   pub plays : Plays tells manifest [] old new
   pub counts : new.faults ≡ after_write result old.faults
 
 -- and that play, reading on from there and writing
 abbrev pub EndsPlaying : {X : Type 0} → Type 0 → Disk → Timeline → Disk → Result X PlayFault → Type 0
 EndsPlaying tells old p new (Ok x) = new.faults ≡ old.faults
-EndsPlaying tells old p new (Err (play_fault.Reading fault)) = IsWhy (tells → ⊥) p fault × CountsFault fault old.faults new.faults
-EndsPlaying tells old p new (Err (play_fault.Writing fault)) = new.faults ≡ after_write {X = Unit {0}} (Err fault) old.faults
+EndsPlaying tells old p new (Err (play_fault.Reading fault)) = IsWhy (tells → ⊥) p fault
+    × CountsFault fault old.faults new.faults
+EndsPlaying tells old p new (Err (play_fault.Writing fault)) = new.faults
+    ≡ after_write {X = Unit {0}} (Err fault) old.faults
 
-pub record PlaysOn {X : Type 0} (tells : Type 0) (manifest : Listed) (old : Disk) (p : Timeline) (new : Disk) (result : Result X PlayFault) : Type 0 where
+pub record PlaysOn {X : Type 0} (tells : Type 0) (manifest : Listed) (old : Disk) (p : Timeline) (new : Disk)
+    (result : Result X PlayFault) : Type 0 where
   pub plays : Plays tells manifest (ids_in p.captures) old new
   pub ends : EndsPlaying tells old p new result
 
 -- What was told is written; or writing broke off, and each output holds a front of its text.
-pub record WritesTold {X : Type 0} (tells : Type 0) (manifest : Listed) (old new : Disk) (o p : Outputs) (events : List Event) (left : List Left) (lines : List TraceLine) (result : Result X ShelfFault) : Type 0 where
+pub record WritesTold {X : Type 0} (tells : Type 0) (manifest : Listed) (old new : Disk) (o p : Outputs)
+    (events : List Event) (left : List Left) (lines : List TraceLine) (result : Result X ShelfFault) : Type 0 where
   pub ready : IsReady manifest new.ids p
-  pub texts : tells → OnOk result ((orig : Files) (text : OutputKind → List ℕ) → HasTexts manifest (pieces_of o) orig old.files text
+  pub texts : tells → OnOk result ((orig : Files) (text : OutputKind → List ℕ)
+      → HasTexts manifest (pieces_of o) orig old.files text
       → HasTexts manifest (pieces_of p) orig new.files (with_told text events left lines))
-  pub cut : tells → OnErr result ((orig : Files) (text : OutputKind → List ℕ) → HasTexts manifest (pieces_of o) orig old.files text
+  pub cut : tells → OnErr result ((orig : Files) (text : OutputKind → List ℕ)
+      → HasTexts manifest (pieces_of o) orig old.files text
       → AreCut manifest orig new.files (with_told text events left lines))
   pub sent : OnOk result ((sent : ℕ → List Sent) → HasSent manifest o sent → HasSent manifest p (sent_with sent left))
   pub writes : WritesOn tells manifest old new result
 
-abbrev pub WritesLog : {X : Type 0} → Type 0 → Listed → Disk → Disk → Outputs → Outputs → Log → Result X ShelfFault → Type 0
-WritesLog tells manifest old new o p log result = WritesTold tells manifest old new o p log.events log.left log.lines result
+abbrev pub WritesLog : {X : Type 0} → Type 0 → Listed → Disk → Disk → Outputs → Outputs → Log → Result X ShelfFault
+    → Type 0
+WritesLog tells manifest old new o p log result = WritesTold tells manifest old new o p log.events log.left log.lines
+    result
 
 -- The same world, of which nothing is still to be written or counted.
 pub record IsCleared (old new : Network) : Type 0 where
@@ -251,12 +272,14 @@ pub record IsCleared (old new : Network) : Type 0 where
 
 -- what it told is counted
 pub record CountsLog (old new : RunCounts) (log : Log) : Type 0 where
-  pub tally : counts_of new.tally ≡ with_left (length (all_left log.left)) (fold (λ c e. counted e c) (counts_of old.tally) log.events)
+  pub tally : counts_of new.tally ≡ with_left (length (all_left log.left))
+      (fold (λ c e. counted e c) (counts_of old.tally) log.events)
   pub ports : CountsOn old.ports new.ports log.events log.passed
 
--- Calls went on without a fault from one disk and programme to another, through the same ids and captures of the same ports. It goes from
--- each to itself, and on from there.
-pub record HasGone (known : Type 0) (stays : List ℕ → Type 0) (a : Disk) (p : Timeline) (b : Disk) (q : Timeline) : Type 0 where
+-- Calls went on without a fault from one disk and programme to another, through the same ids and captures of the same
+-- ports. It goes from each to itself, and on from there.
+pub record HasGone (known : Type 0) (stays : List ℕ → Type 0) (a : Disk) (p : Timeline) (b : Disk)
+    (q : Timeline) : Type 0 where
   pub touches : Touches known stays (ids_in p.captures) a b
   pub same : ids_in q.captures ≡ ids_in p.captures
   pub ports : (k : ℕ) → HasPort k (standings q.captures) → HasPort k (standings p.captures)
@@ -268,7 +291,8 @@ pub record HasRead (tells : Type 0) (a : Disk) (p : Timeline) (b : Disk) (q : Ti
   pub streams : tells → (xs : List Stream) → HasStreams a p xs → (ys : List Stream) × HasStreams b q ys
 
 -- ---- a segment more
--- A player stands after some segments, and this was gathered behind them, from another disk: so many commands were taken before it.
+-- A player stands after some segments, and this was gathered behind them, from another disk: so many commands were
+-- taken before it.
 pub record CanGoOn (tells : Type 0) (r : Run) (p : Player) (last : Option ℕ) (second from : ℕ) (f : Feed) : Type 0 where
   pub so_far : List Segment
   pub old : Timeline
@@ -283,7 +307,8 @@ pub record CanGoOn (tells : Type 0) (r : Run) (p : Player) (last : Option ℕ) (
   pub from_is : from ≡ old.taken
 
 -- a player stands after some segments, and these seconds, commands and arrivals make the next one, which can be played
-pub record CanBePlayed (tells : Type 0) (r : Run) (p : Player) (seconds : ℕ) (cs : List Timed) (frames : List Arrival) : Type 0 where
+pub record CanBePlayed (tells : Type 0) (r : Run) (p : Player) (seconds : ℕ) (cs : List Timed)
+    (frames : List Arrival) : Type 0 where
   pub so_far : List Segment
   pub is : IsTold tells r p so_far
   pub ready : IsReady p.manifest p.disk.ids p.outputs
@@ -293,14 +318,17 @@ pub record CanBePlayed (tells : Type 0) (r : Run) (p : Player) (seconds : ℕ) (
   pub follows : CanFollow r.input (so_far ++ next ∷ [])
 
 -- Whatever segments were played, one more was, of these seconds, commands and arrivals.
-pub record IsOneMore (tells : Type 0) (r : Run) (old new : Player) (seconds : ℕ) (cs : List Timed) (frames : List Arrival) : Type 0 where
+pub record IsOneMore (tells : Type 0) (r : Run) (old new : Player) (seconds : ℕ) (cs : List Timed)
+    (frames : List Arrival) : Type 0 where
   pub ready : IsReady new.manifest new.disk.ids new.outputs
-  pub told : (so_far : List Segment) (s : Segment) → IsSegment r.input s seconds cs frames → IsTold tells r old so_far → IsTold tells r new (so_far ++ s ∷ [])
+  pub told : (so_far : List Segment) (s : Segment) → IsSegment r.input s seconds cs frames → IsTold tells r old so_far
+      → IsTold tells r new (so_far ++ s ∷ [])
 
 -- or while it was, the run was cut off
 abbrev pub IsCutWithin : Type 0 → Run → Player → ℕ → List Timed → List Arrival → Files → Type 0
 IsCutWithin tells r old seconds cs frames now =
-    (so_far rest : List Segment) (s : Segment) → segments old.mode r.input ≡ so_far ++ s ∷ rest → IsSegment r.input s seconds cs frames → IsTold tells r old so_far
+    (so_far rest : List Segment) (s : Segment) → segments old.mode r.input ≡ so_far ++ s ∷ rest
+    → IsSegment r.input s seconds cs frames → IsTold tells r old so_far
     → IsCutOff old.mode r old.manifest now
 
 -- All was played: what is left to be written is ready and counted.

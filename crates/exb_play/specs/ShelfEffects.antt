@@ -11,7 +11,9 @@ use Rattle.exb_inputs.specs.ShelfEffects.{ReadsCapture}
 abbrev pub IsOfRun : List Named → Listed → Id → Type 0
 IsOfRun names manifest i = ReadsCapture names i ⊎ WritesListed manifest i
 
--- no file but the outputs of a manifest has changed; captures that are named may have been opened, and outputs of the manifest made
-pub record OnlyPlays (tells : Type 0) (names : List Named) (manifest : Listed) (old new : Files) (given ids : ℕ → Id) : Type 0 where
+-- no file but the outputs of a manifest has changed; captures that are named may have been opened, and outputs of the
+-- manifest made
+pub record OnlyPlays (tells : Type 0) (names : List Named) (manifest : Listed) (old new : Files) (given ids : ℕ
+    → Id) : Type 0 where
   pub others : tells → OnlyListed manifest old new
   pub opened : Opens (IsOfRun names manifest) given ids

@@ -79,7 +79,8 @@ fn write_all<S: Shelf>(
 ) -> Result<(), ShelfFault>
     requires ready { IsReady manifest.now (S.ids shelf.old) outputs.old }
     requires frames { All (λ x. CanBeWritten manifest.now x) world.now.log.left }
-    ensures { WritesLog S.tells manifest.now (disk S.Shelf shelf.old) (disk S.Shelf shelf.new) outputs.old outputs.new world.now.log result }
+    ensures { WritesLog S.tells manifest.now (disk S.Shelf shelf.old) (disk S.Shelf shelf.new)
+        outputs.old outputs.new world.now.log result }
 {
     write_told(
         shelf,
@@ -105,8 +106,10 @@ fn play_segment(
 ) -> Result<(), WorldFault>
     requires can { CanAll world.old (gives seconds commands.now arrivals.now) }
     requires few { left fate.old + letters_in commands.now < 2 ^ 57 }
-    ensures plays { OnOk result ((i : Input) (so_far : List Segment) (s : Segment) (t : Told) → IsSegment i s seconds commands.now arrivals.now
-        → HasTold (mode_of schedule) i so_far world.old (t with world.old.log) → HasTold (mode_of schedule) i (so_far ++ s ∷ []) world.new (t with world.new.log)) }
+    ensures plays { OnOk result ((i : Input) (so_far : List Segment) (s : Segment) (t : Told)
+        → IsSegment i s seconds commands.now arrivals.now
+        → HasTold (mode_of schedule) i so_far world.old (t with world.old.log)
+        → HasTold (mode_of schedule) i (so_far ++ s ∷ []) world.new (t with world.new.log)) }
     ensures same { OnOk result (IsSame world.old world.new) }
     ensures fate { left fate.new ≤ left fate.old + letters_in commands.now }
 {
@@ -116,7 +119,8 @@ fn play_segment(
     }
 }
 
-/// That the numbers of what a world told have 64 bits and the frames of its lines are bytes, by their types. It does nothing.
+/// That the numbers of what a world told have 64 bits and the frames of its lines are bytes, by
+/// their types. It does nothing.
 fn told_by_types(world: &World)
     ensures numbers { All IsOfNumbers world.now.log.events }
     ensures bytes { All HasBytes world.now.log.lines }
@@ -142,10 +146,13 @@ impl BridgePlayer {
     fn note<S: Shelf>(&mut self, shelf: &mut S, manifest: &Manifest) -> Result<(), ShelfFault>
         requires ready { IsReady manifest.now (S.ids shelf.old) self.old.outputs }
         requires frames { All (λ x. CanBeWritten manifest.now x) self.old.world.log.left }
-        requires can { CanCount self.old.counted self.old.world.log.events self.old.world.log.passed (length (all_left self.old.world.log.left)) }
-        ensures writes { WritesLog S.tells manifest.now (disk S.Shelf shelf.old) (disk S.Shelf shelf.new) self.old.outputs self.new.outputs self.old.world.log result }
+        requires can { CanCount self.old.counted self.old.world.log.events self.old.world.log.passed
+            (length (all_left self.old.world.log.left)) }
+        ensures writes { WritesLog S.tells manifest.now (disk S.Shelf shelf.old)
+            (disk S.Shelf shelf.new) self.old.outputs self.new.outputs self.old.world.log result }
         ensures cleared { OnOk result (IsCleared self.old.world self.new.world) }
-        ensures counts { OnOk result (CountsLog self.old.counted self.new.counted self.old.world.log) }
+        ensures counts { OnOk result (CountsLog self.old.counted self.new.counted
+            self.old.world.log) }
         ensures fate { OnOk result (left self.new.fate ≡ left self.old.fate) }
     {
         write_all(
@@ -174,12 +181,21 @@ impl BridgePlayer {
         commands: &[Timed],
         arrivals: &[Arrival],
     ) -> Result<(), ShelfFault>
-        requires playable { CanBePlayed S.tells R.run (here schedule manifest.now self.old (disk S.Shelf shelf.old)) seconds commands.now arrivals.now }
+        requires playable { CanBePlayed S.tells R.run
+            (here schedule manifest.now self.old (disk S.Shelf shelf.old)) seconds commands.now
+            arrivals.now }
         requires budget { left self.old.fate + letters_in commands.now < 2 ^ 57 }
-        ensures told { OnOk result (IsOneMore S.tells R.run (here schedule manifest.now self.old (disk S.Shelf shelf.old)) (here schedule manifest.now self.new (disk S.Shelf shelf.new)) seconds commands.now arrivals.now) }
-        ensures cut { S.tells → OnErr result (IsCutWithin S.tells R.run (here schedule manifest.now self.old (disk S.Shelf shelf.old)) seconds commands.now arrivals.now (S.file shelf.new)) }
-        ensures budget { OnOk result (left self.new.fate ≤ left self.old.fate + letters_in commands.now) }
-        ensures writes { WritesOn S.tells manifest.now (disk S.Shelf shelf.old) (disk S.Shelf shelf.new) result }
+        ensures told { OnOk result (IsOneMore S.tells R.run
+            (here schedule manifest.now self.old (disk S.Shelf shelf.old))
+            (here schedule manifest.now self.new (disk S.Shelf shelf.new)) seconds commands.now
+            arrivals.now) }
+        ensures cut { S.tells
+            → OnErr result (IsCutWithin S.tells R.run (here schedule manifest.now self.old
+            (disk S.Shelf shelf.old)) seconds commands.now arrivals.now (S.file shelf.new)) }
+        ensures budget { OnOk result (left self.new.fate ≤ left self.old.fate + letters_in
+            commands.now) }
+        ensures writes { WritesOn S.tells manifest.now (disk S.Shelf shelf.old)
+            (disk S.Shelf shelf.new) result }
     {
         runs_are_under_way();
         runs_are_few();
@@ -202,7 +218,8 @@ impl BridgePlayer {
         self.note(shelf, manifest)
     }
 
-    /// Plays what was gathered, of this second, behind what came before it. So many commands were taken `from` the programme before it.
+    /// Plays what was gathered, of this second, behind what came before it. So many commands were
+    /// taken `from` the programme before it.
     fn go_on<S: Shelf, R: OfRun>(
         &mut self,
         shelf: &mut S,
@@ -213,12 +230,19 @@ impl BridgePlayer {
         from: usize,
         feed: &Feed<'_>,
     ) -> Result<(), ShelfFault>
-        requires gathered { CanGoOn S.tells R.run (here schedule manifest.now self.old (disk S.Shelf shelf.old)) last second from feed.now }
-        requires budget { left self.old.fate + letters_in (drop from feed.now.programme.commands.now) < 2 ^ 57 }
-        ensures stands { OnOk result (Stands S.tells R.run (here schedule manifest.now self.new (disk S.Shelf shelf.new)) (Some second) feed.now.programme) }
-        ensures cut { S.tells → OnErr result (IsCutOff (mode_of schedule) R.run manifest.now (S.file shelf.new)) }
-        ensures budget { OnOk result (left self.new.fate + letters_in (drop feed.now.programme.taken feed.now.programme.commands.now) < 2 ^ 57) }
-        ensures writes { WritesOn S.tells manifest.now (disk S.Shelf shelf.old) (disk S.Shelf shelf.new) result }
+        requires gathered { CanGoOn S.tells R.run (here schedule manifest.now self.old
+            (disk S.Shelf shelf.old)) last second from feed.now }
+        requires budget { left self.old.fate + letters_in
+            (drop from feed.now.programme.commands.now) < 2 ^ 57 }
+        ensures stands { OnOk result (Stands S.tells R.run
+            (here schedule manifest.now self.new (disk S.Shelf shelf.new)) (Some second)
+            feed.now.programme) }
+        ensures cut { S.tells → OnErr result (IsCutOff (mode_of schedule) R.run manifest.now
+            (S.file shelf.new)) }
+        ensures budget { OnOk result (left self.new.fate + letters_in
+            (drop feed.now.programme.taken feed.now.programme.commands.now) < 2 ^ 57) }
+        ensures writes { WritesOn S.tells manifest.now (disk S.Shelf shelf.old)
+            (disk S.Shelf shelf.new) result }
     {
         runs_are_under_way();
         let commands = feed.programme.taken_since(from);
@@ -236,11 +260,16 @@ impl BridgePlayer {
         schedule: Schedule,
         feed: &mut Feed<'_>,
     ) -> Result<(), PlayFault>
-        requires stands { Stands S.tells R.run (here schedule manifest.now self.old (disk S.Shelf shelf.old)) None feed.old.programme }
-        requires budget { left self.old.fate + letters_in (drop feed.old.programme.taken feed.old.programme.commands.now) < 2 ^ 57 }
-        ensures played { OnOk result (HasPlayedAll S.tells R.run (here schedule manifest.now self.new (disk S.Shelf shelf.new))) }
-        ensures cut { S.tells → OnErr result (IsCutOff (mode_of schedule) R.run manifest.now (S.file shelf.new)) }
-        ensures plays { PlaysOn S.tells manifest.now (disk S.Shelf shelf.old) feed.old.programme (disk S.Shelf shelf.new) result }
+        requires stands { Stands S.tells R.run (here schedule manifest.now self.old
+            (disk S.Shelf shelf.old)) None feed.old.programme }
+        requires budget { left self.old.fate + letters_in
+            (drop feed.old.programme.taken feed.old.programme.commands.now) < 2 ^ 57 }
+        ensures played { OnOk result (HasPlayedAll S.tells R.run
+            (here schedule manifest.now self.new (disk S.Shelf shelf.new))) }
+        ensures cut { S.tells → OnErr result (IsCutOff (mode_of schedule) R.run manifest.now
+            (S.file shelf.new)) }
+        ensures plays { PlaysOn S.tells manifest.now (disk S.Shelf shelf.old) feed.old.programme
+            (disk S.Shelf shelf.new) result }
     {
         runs_are_under_way();
         runs_are_few();
@@ -265,12 +294,19 @@ impl BridgePlayer {
         requires counted { AreCountsOf manifest.now self.old.counted.ports }
         requires sent { AreCountedAt manifest.now self.old.outputs }
         requires few { self.old.counted.tally.relayed + self.old.counted.tally.ignored < 2 ^ 64 }
-        ensures texts { S.tells → OnOk result ((orig : Files) (text : OutputKind → List ℕ) → HasTexts manifest.now (pieces_of self.old.outputs) orig (S.file shelf.old) text
-            → Filled orig (S.file shelf.new) (output_count manifest.now) (output_name manifest.now) (λ j bytes. bytes ≡ with_end text manifest.now self.old.counted.ports self.old.outputs (kind_at manifest.now j))) }
-        ensures cut { S.tells → OnErr result ((orig : Files) (text : OutputKind → List ℕ) → HasTexts manifest.now (pieces_of self.old.outputs) orig (S.file shelf.old) text
-            → AreCut manifest.now orig (S.file shelf.new) (with_end text manifest.now self.old.counted.ports self.old.outputs)) }
-        ensures line { IfOk result (λ line. string_bytes line ≡ summary_line (counts_of self.old.counted.tally)) }
-        ensures writes { WritesOn S.tells manifest.now (disk S.Shelf shelf.old) (disk S.Shelf shelf.new) result }
+        ensures texts { S.tells → OnOk result ((orig : Files) (text : OutputKind → List ℕ)
+            → HasTexts manifest.now (pieces_of self.old.outputs) orig (S.file shelf.old) text
+            → Filled orig (S.file shelf.new) (output_count manifest.now) (output_name manifest.now)
+            (λ j bytes. bytes ≡ with_end text manifest.now self.old.counted.ports self.old.outputs
+            (kind_at manifest.now j))) }
+        ensures cut { S.tells → OnErr result ((orig : Files) (text : OutputKind → List ℕ)
+            → HasTexts manifest.now (pieces_of self.old.outputs) orig (S.file shelf.old) text
+            → AreCut manifest.now orig (S.file shelf.new)
+            (with_end text manifest.now self.old.counted.ports self.old.outputs)) }
+        ensures line { IfOk result (λ line. string_bytes line
+            ≡ summary_line (counts_of self.old.counted.tally)) }
+        ensures writes { WritesOn S.tells manifest.now (disk S.Shelf shelf.old)
+            (disk S.Shelf shelf.new) result }
     {
         write_end(
             shelf,
@@ -295,13 +331,19 @@ impl BridgePlayer {
         schedule: Schedule,
         feed: &mut Feed<'_>,
     ) -> Result<String, PlayFault>
-        requires stands { Stands S.tells R.run (here schedule manifest.now self.old (disk S.Shelf shelf.old)) None feed.old.programme }
+        requires stands { Stands S.tells R.run (here schedule manifest.now self.old
+            (disk S.Shelf shelf.old)) None feed.old.programme }
         requires timely { IsTimely R.run.input }
-        requires budget { left self.old.fate + letters_in (drop feed.old.programme.taken feed.old.programme.commands.now) < 2 ^ 57 }
-        ensures done { S.tells → IfOk result (λ line. HasPlayed (mode_of schedule) R.run.input manifest.now R.run.before (S.file shelf.new) (string_bytes line)) }
+        requires budget { left self.old.fate + letters_in
+            (drop feed.old.programme.taken feed.old.programme.commands.now) < 2 ^ 57 }
+        ensures done { S.tells
+            → IfOk result (λ line. HasPlayed (mode_of schedule) R.run.input manifest.now
+            R.run.before (S.file shelf.new) (string_bytes line)) }
         ensures says { IfOk result (λ line. IsSummary (string_bytes line)) }
-        ensures cut { S.tells → OnErr result (IsCutOff (mode_of schedule) R.run manifest.now (S.file shelf.new)) }
-        ensures plays { PlaysOn S.tells manifest.now (disk S.Shelf shelf.old) feed.old.programme (disk S.Shelf shelf.new) result }
+        ensures cut { S.tells → OnErr result (IsCutOff (mode_of schedule) R.run manifest.now
+            (S.file shelf.new)) }
+        ensures plays { PlaysOn S.tells manifest.now (disk S.Shelf shelf.old) feed.old.programme
+            (disk S.Shelf shelf.new) result }
     {
         runs_are_under_way();
         runs_write_legally();
@@ -314,7 +356,8 @@ impl BridgePlayer {
         Ok(self.end(alloc, shelf, manifest)?)
     }
 
-    /// Writes and counts what happened by the opening, plays all that comes, and answers the summary line.
+    /// Writes and counts what happened by the opening, plays all that comes, and answers the
+    /// summary line.
     fn play_opened<S: Shelf, R: OfRun>(
         &mut self,
         alloc: Global,
@@ -323,12 +366,18 @@ impl BridgePlayer {
         schedule: Schedule,
         feed: &mut Feed<'_>,
     ) -> Result<String, PlayFault>
-        requires opened { IsOpened S.tells R.run (here schedule manifest.now self.old (disk S.Shelf shelf.old)) feed.old.programme }
-        requires budget { left self.old.fate + letters_in (drop feed.old.programme.taken feed.old.programme.commands.now) < 2 ^ 57 }
-        ensures done { S.tells → IfOk result (λ line. HasPlayed (mode_of schedule) R.run.input manifest.now R.run.before (S.file shelf.new) (string_bytes line)) }
+        requires opened { IsOpened S.tells R.run (here schedule manifest.now self.old
+            (disk S.Shelf shelf.old)) feed.old.programme }
+        requires budget { left self.old.fate + letters_in
+            (drop feed.old.programme.taken feed.old.programme.commands.now) < 2 ^ 57 }
+        ensures done { S.tells
+            → IfOk result (λ line. HasPlayed (mode_of schedule) R.run.input manifest.now
+            R.run.before (S.file shelf.new) (string_bytes line)) }
         ensures says { IfOk result (λ line. IsSummary (string_bytes line)) }
-        ensures cut { S.tells → OnErr result (IsCutOff (mode_of schedule) R.run manifest.now (S.file shelf.new)) }
-        ensures plays { PlaysOn S.tells manifest.now (disk S.Shelf shelf.old) feed.old.programme (disk S.Shelf shelf.new) result }
+        ensures cut { S.tells → OnErr result (IsCutOff (mode_of schedule) R.run manifest.now
+            (S.file shelf.new)) }
+        ensures plays { PlaysOn S.tells manifest.now (disk S.Shelf shelf.old) feed.old.programme
+            (disk S.Shelf shelf.new) result }
     {
         runs_are_under_way();
         runs_are_few();
@@ -352,12 +401,18 @@ fn play_world<S: Shelf, R: OfRun>(
     counted: RunCounts,
     feed: &mut Feed<'_>,
 ) -> Result<String, PlayFault>
-    requires opened { IsOpened S.tells R.run (player schedule manifest.now world counted outputs (disk S.Shelf shelf.old)) feed.old.programme }
-    requires budget { left fate + letters_in (drop feed.old.programme.taken feed.old.programme.commands.now) < 2 ^ 57 }
-    ensures done { S.tells → IfOk result (λ line. HasPlayed (mode_of schedule) R.run.input manifest.now R.run.before (S.file shelf.new) (string_bytes line)) }
+    requires opened { IsOpened S.tells R.run (player schedule manifest.now world counted outputs
+        (disk S.Shelf shelf.old)) feed.old.programme }
+    requires budget { left fate + letters_in
+        (drop feed.old.programme.taken feed.old.programme.commands.now) < 2 ^ 57 }
+    ensures done { S.tells
+        → IfOk result (λ line. HasPlayed (mode_of schedule) R.run.input manifest.now R.run.before
+        (S.file shelf.new) (string_bytes line)) }
     ensures says { IfOk result (λ line. IsSummary (string_bytes line)) }
-    ensures cut { S.tells → OnErr result (IsCutOff (mode_of schedule) R.run manifest.now (S.file shelf.new)) }
-    ensures plays { PlaysOn S.tells manifest.now (disk S.Shelf shelf.old) feed.old.programme (disk S.Shelf shelf.new) result }
+    ensures cut { S.tells → OnErr result (IsCutOff (mode_of schedule) R.run manifest.now
+        (S.file shelf.new)) }
+    ensures plays { PlaysOn S.tells manifest.now (disk S.Shelf shelf.old) feed.old.programme
+        (disk S.Shelf shelf.new) result }
 {
     let mut game = BridgePlayer {
         world,
@@ -373,7 +428,8 @@ fn play_world<S: Shelf, R: OfRun>(
     played
 }
 
-/// Opens the world of a script's setup, plays what a feed has from there into outputs that were made, and answers the summary line.
+/// Opens the world of a script's setup, plays what a feed has from there into outputs that were
+/// made, and answers the summary line.
 pub(crate) fn play_feed<S: Shelf, R: OfRun>(
     alloc: Global,
     shelf: &mut S,
@@ -386,13 +442,20 @@ pub(crate) fn play_feed<S: Shelf, R: OfRun>(
 ) -> Result<String, PlayFault>
     requires valid { IsValid script.now.setup.now }
     requires tree { manifest.now.tree ≡ shape_of script.now.setup.now }
-    requires begins { CanBegin S.tells (mode_of schedule) R.run script.now.setup.now manifest.now (disk S.Shelf shelf.old) outputs feed.old.programme }
-    requires budget { left fate + length script.now.fate.now + letters_in (drop feed.old.programme.taken feed.old.programme.commands.now) < 2 ^ 57 }
-    ensures done { S.tells → IfOk result (λ line. HasPlayed (mode_of schedule) R.run.input manifest.now R.run.before (S.file shelf.new) (string_bytes line)) }
+    requires begins { CanBegin S.tells (mode_of schedule) R.run script.now.setup.now manifest.now
+        (disk S.Shelf shelf.old) outputs feed.old.programme }
+    requires budget { left fate + length script.now.fate.now + letters_in
+        (drop feed.old.programme.taken feed.old.programme.commands.now) < 2 ^ 57 }
+    ensures done { S.tells
+        → IfOk result (λ line. HasPlayed (mode_of schedule) R.run.input manifest.now R.run.before
+        (S.file shelf.new) (string_bytes line)) }
     ensures says { IfOk result (λ line. IsSummary (string_bytes line)) }
-    ensures fronts { S.tells → mode_of schedule ≡ Eager → AreCutEagerly R.run.input manifest.now R.run.before (S.file shelf.new) }
-    ensures so_far { S.tells → AreCutSoFar (mode_of schedule) R.run.input manifest.now R.run.before (S.file shelf.new) }
-    ensures plays { PlaysOn S.tells manifest.now (disk S.Shelf shelf.old) feed.old.programme (disk S.Shelf shelf.new) result }
+    ensures fronts { S.tells → mode_of schedule ≡ Eager
+        → AreCutEagerly R.run.input manifest.now R.run.before (S.file shelf.new) }
+    ensures so_far { S.tells → AreCutSoFar (mode_of schedule) R.run.input manifest.now R.run.before
+        (S.file shelf.new) }
+    ensures plays { PlaysOn S.tells manifest.now (disk S.Shelf shelf.old) feed.old.programme
+        (disk S.Shelf shelf.new) result }
 {
     runs_write_fronts();
     runs_tell_so_far();

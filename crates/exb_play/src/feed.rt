@@ -12,7 +12,8 @@ use exb_timeline::{CaptureFault, Next, Timeline};
 use std::alloc::Global;
 use std::mem;
 
-/// What is still to come, what came of it for one segment, and what came for the one before, of which the buffers are used again.
+/// What is still to come, what came of it for one segment, and what came for the one before, of
+/// which the buffers are used again.
 #[derive(Drop)]
 pub(crate) struct Feed<'a> {
     pub(crate) programme: Timeline<'a>,
@@ -40,8 +41,8 @@ fn spare(alloc: Global, played: &mut Vec<Arrival>) -> Vec<u8> {
     }
 }
 
-/// A buffer to be written anew, where the arrivals of the segment before change places with those that are gathered: a seeded run
-/// takes the buffers of all of them.
+/// A buffer to be written anew, where the arrivals of the segment before change places with those
+/// that are gathered: a seeded run takes the buffers of all of them.
 #[cold]
 #[inline(never)]
 fn exchange(alloc: Global, gathered: &mut Vec<Arrival>, played: &mut Vec<Arrival>) -> Vec<u8> {
@@ -49,7 +50,8 @@ fn exchange(alloc: Global, gathered: &mut Vec<Arrival>, played: &mut Vec<Arrival
     spare(alloc, played)
 }
 
-/// Forgets what was gathered for the segment before, and answers a buffer to be written anew. An eager run needs no other one.
+/// Forgets what was gathered for the segment before, and answers a buffer to be written anew. An
+/// eager run needs no other one.
 #[inline(always)]
 fn begin(
     alloc: Global,
@@ -68,7 +70,8 @@ fn begin(
 }
 
 impl Feed<'_> {
-    /// Takes what comes first, its bytes in this buffer, and answers its second; None exactly where nothing is left.
+    /// Takes what comes first, its bytes in this buffer, and answers its second; None exactly where
+    /// nothing is left.
     #[inline(always)]
     fn take_first<S: Shelf>(
         &mut self,
@@ -77,9 +80,14 @@ impl Feed<'_> {
     ) -> Result<Option<u64>, CaptureFault>
         requires feed { CanFeed (disk S.Shelf shelf.old) self.old }
         ensures feed { OnOk result (CanFeed (disk S.Shelf shelf.new) self.new) }
-        ensures taken { IfOk result (λ next. IfSome next (λ second. IsTaken S.tells second (disk S.Shelf shelf.old) (disk S.Shelf shelf.new) self.old self.new)) }
-        ensures end { S.tells → IfOk result (λ next. IfNone next (NothingIsLeft (disk S.Shelf shelf.old) self.old.programme)) }
-        ensures reads { ReadsAgain S.tells (disk S.Shelf shelf.old) self.old.programme (disk S.Shelf shelf.new) result }
+        ensures taken { IfOk result (λ next.
+            IfSome next (λ second. IsTaken S.tells second (disk S.Shelf shelf.old)
+            (disk S.Shelf shelf.new) self.old self.new)) }
+        ensures end { S.tells
+            → IfOk result (λ next. IfNone next (NothingIsLeft (disk S.Shelf shelf.old)
+            self.old.programme)) }
+        ensures reads { ReadsAgain S.tells (disk S.Shelf shelf.old) self.old.programme
+            (disk S.Shelf shelf.new) result }
     {
         match self.programme.next(shelf, buffer)? {
             Some(Next::Record(came)) => {
@@ -101,10 +109,15 @@ impl Feed<'_> {
     ) -> Result<bool, CaptureFault>
         requires feed { CanFeed (disk S.Shelf shelf.old) self.old }
         ensures feed { OnOk result (CanFeed (disk S.Shelf shelf.new) self.new) }
-        ensures taken { IfOk result (λ came. came ≡ true → IsTaken S.tells second (disk S.Shelf shelf.old) (disk S.Shelf shelf.new) self.old self.new) }
-        ensures same { IfOk result (λ came. came ≡ false → (self.new.programme ≡ self.old.programme) × (self.new.gathered.items ≡ self.old.gathered.items)) }
-        ensures end { S.tells → IfOk result (λ came. came ≡ false → NoMoreIn second (disk S.Shelf shelf.new) self.new.programme) }
-        ensures reads { ReadsAgain S.tells (disk S.Shelf shelf.old) self.old.programme (disk S.Shelf shelf.new) result }
+        ensures taken { IfOk result (λ came. came ≡ true
+            → IsTaken S.tells second (disk S.Shelf shelf.old) (disk S.Shelf shelf.new) self.old
+            self.new) }
+        ensures same { IfOk result (λ came. came ≡ false → (self.new.programme ≡ self.old.programme)
+            × (self.new.gathered.items ≡ self.old.gathered.items)) }
+        ensures end { S.tells → IfOk result (λ came. came ≡ false
+            → NoMoreIn second (disk S.Shelf shelf.new) self.new.programme) }
+        ensures reads { ReadsAgain S.tells (disk S.Shelf shelf.old) self.old.programme
+            (disk S.Shelf shelf.new) result }
     {
         let buffer = spare(alloc, &mut self.played);
         match self.programme.next_within(shelf, buffer, second)? {
@@ -128,16 +141,20 @@ impl Feed<'_> {
     ) -> Result<(), CaptureFault>
         requires feed { CanFeed (disk S.Shelf shelf.old) self.old }
         ensures feed { OnOk result (CanFeed (disk S.Shelf shelf.new) self.new) }
-        ensures taken { OnOk result (HasTakenSecond S.tells second (disk S.Shelf shelf.old) (disk S.Shelf shelf.new) self.old self.new) }
-        ensures end { S.tells → OnOk result (NoMoreIn second (disk S.Shelf shelf.new) self.new.programme) }
-        ensures reads { ReadsAgain S.tells (disk S.Shelf shelf.old) self.old.programme (disk S.Shelf shelf.new) result }
+        ensures taken { OnOk result (HasTakenSecond S.tells second (disk S.Shelf shelf.old)
+            (disk S.Shelf shelf.new) self.old self.new) }
+        ensures end { S.tells
+            → OnOk result (NoMoreIn second (disk S.Shelf shelf.new) self.new.programme) }
+        ensures reads { ReadsAgain S.tells (disk S.Shelf shelf.old) self.old.programme
+            (disk S.Shelf shelf.new) result }
     {
         'second: while self.take_within(alloc, shelf, second)? {}
         Ok(())
     }
 
-    /// Takes what comes first and all that is played with it, in the place of what was gathered before: nothing more in an eager run,
-    /// and in a seeded one all of the same second, which it answers. None exactly where nothing is left.
+    /// Takes what comes first and all that is played with it, in the place of what was gathered
+    /// before: nothing more in an eager run, and in a seeded one all of the same second, which it
+    /// answers. None exactly where nothing is left.
     pub(crate) fn gather<S: Shelf>(
         &mut self,
         alloc: Global,
@@ -146,9 +163,14 @@ impl Feed<'_> {
     ) -> Result<Option<u64>, CaptureFault>
         requires feed { CanFeed (disk S.Shelf shelf.old) self.old }
         ensures feed { OnOk result (CanFeed (disk S.Shelf shelf.new) self.new) }
-        ensures gathered { IfOk result (λ next. IfSome next (λ second. IsGathered S.tells (mode_of schedule) (disk S.Shelf shelf.old) (disk S.Shelf shelf.new) second self.old.programme self.new)) }
-        ensures end { S.tells → IfOk result (λ next. IfNone next (NothingIsLeft (disk S.Shelf shelf.old) self.old.programme)) }
-        ensures reads { ReadsAgain S.tells (disk S.Shelf shelf.old) self.old.programme (disk S.Shelf shelf.new) result }
+        ensures gathered { IfOk result (λ next.
+            IfSome next (λ second. IsGathered S.tells (mode_of schedule) (disk S.Shelf shelf.old)
+            (disk S.Shelf shelf.new) second self.old.programme self.new)) }
+        ensures end { S.tells
+            → IfOk result (λ next. IfNone next (NothingIsLeft (disk S.Shelf shelf.old)
+            self.old.programme)) }
+        ensures reads { ReadsAgain S.tells (disk S.Shelf shelf.old) self.old.programme
+            (disk S.Shelf shelf.new) result }
     {
         let buffer = begin(alloc, schedule, &mut self.gathered, &mut self.played);
         let Some(second) = self.take_first(shelf, buffer)? else {

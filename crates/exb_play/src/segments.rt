@@ -33,7 +33,8 @@ use exb_topology_tables::Named;
 use std::alloc::Global;
 use std::marker::Brand;
 
-/// Plays a script and the captures that are named, of which this was told, into outputs that were made, and answers the summary line.
+/// Plays a script and the captures that are named, of which this was told, into outputs that were
+/// made, and answers the summary line.
 fn play_into<S: Shelf, R: OfRun>(
     alloc: Global,
     shelf: &mut S,
@@ -47,21 +48,29 @@ fn play_into<S: Shelf, R: OfRun>(
 ) -> Result<String, Fault>
     requires valid { IsValid script.now.setup.now }
     requires tree { manifest.now.tree ≡ shape_of script.now.setup.now }
-    requires script { IsScript (shape_of script.now.setup.now) script.now.commands.now script.now.fate.now }
+    requires script { IsScript (shape_of script.now.setup.now) script.now.commands.now
+        script.now.fate.now }
     requires captures { CanBeRead S.tells manifest.now names.now (S.file shelf.old) checked.now }
     requires fate { left fate < 2 ^ 56 }
     requires ready { IsReady manifest.now (S.ids shelf.old) outputs }
-    requires run { IsRunOf S.tells R.run script.now.setup.now script.now.commands.now names.now (S.file shelf.old) }
-    requires texts { S.tells → HasTexts manifest.now (pieces_of outputs) R.run.before (S.file shelf.old) first_text }
+    requires run { IsRunOf S.tells R.run script.now.setup.now script.now.commands.now names.now
+        (S.file shelf.old) }
+    requires texts { S.tells → HasTexts manifest.now (pieces_of outputs) R.run.before
+        (S.file shelf.old) first_text }
     requires sent { HasSent manifest.now outputs (λ q. []) }
-    ensures done { S.tells → IfOk result (λ line. HasPlayed (mode_of schedule) R.run.input manifest.now R.run.before (S.file shelf.new) (string_bytes line)) }
+    ensures done { S.tells
+        → IfOk result (λ line. HasPlayed (mode_of schedule) R.run.input manifest.now R.run.before
+        (S.file shelf.new) (string_bytes line)) }
     ensures says { IfOk result (λ line. IsSummary (string_bytes line)) }
-    ensures fronts { S.tells → mode_of schedule ≡ Eager → AreCutEagerly R.run.input manifest.now R.run.before (S.file shelf.new) }
-    ensures so_far { S.tells → AreCutSoFar (mode_of schedule) R.run.input manifest.now R.run.before (S.file shelf.new) }
+    ensures fronts { S.tells → mode_of schedule ≡ Eager
+        → AreCutEagerly R.run.input manifest.now R.run.before (S.file shelf.new) }
+    ensures so_far { S.tells → AreCutSoFar (mode_of schedule) R.run.input manifest.now R.run.before
+        (S.file shelf.new) }
     ensures never { S.tells → IfErr result (λ fault. IsChange fault → ⊥) }
     ensures others { S.tells → OnlyListed manifest.now (S.file shelf.old) (S.file shelf.new) }
     ensures opens { Opens (ReadsCapture names.now) (S.ids shelf.old) (S.ids shelf.new) }
-    ensures port { IfErr result (λ fault. (p at : ℕ) → fault ≡ Fault.Changed p at → is_named names.now p ≡ true) }
+    ensures port { IfErr result (λ fault. (p at : ℕ) → fault ≡ Fault.Changed p at
+        → is_named names.now p ≡ true) }
     ensures causes { IfErr result IsOfPlay }
     ensures faults { CountsFaults result (S.faults shelf.old) (S.faults shelf.new) }
 {
@@ -80,8 +89,8 @@ fn play_into<S: Shelf, R: OfRun>(
     )?)
 }
 
-/// Plays a script and the captures that are named, of which this was told, in a run of them. The outputs are made first;
-/// then each capture is read again in pieces.
+/// Plays a script and the captures that are named, of which this was told, in a run of them. The
+/// outputs are made first; then each capture is read again in pieces.
 fn play_run<S: Shelf, R: OfRun>(
     alloc: Global,
     shelf: &mut S,
@@ -94,19 +103,27 @@ fn play_run<S: Shelf, R: OfRun>(
 ) -> Result<String, Fault>
     requires valid { IsValid script.now.setup.now }
     requires tree { manifest.now.tree ≡ shape_of script.now.setup.now }
-    requires script { IsScript (shape_of script.now.setup.now) script.now.commands.now script.now.fate.now }
+    requires script { IsScript (shape_of script.now.setup.now) script.now.commands.now
+        script.now.fate.now }
     requires captures { CanBeRead S.tells manifest.now names.now (S.file shelf.old) checked.now }
     requires fate { left fate < 2 ^ 56 }
-    requires run { IsRunOf S.tells R.run script.now.setup.now script.now.commands.now names.now (S.file shelf.old) }
+    requires run { IsRunOf S.tells R.run script.now.setup.now script.now.commands.now names.now
+        (S.file shelf.old) }
     requires before { S.tells → R.run.before ≡ S.file shelf.old }
-    ensures done { S.tells → IfOk result (λ line. HasPlayed (mode_of schedule) R.run.input manifest.now R.run.before (S.file shelf.new) (string_bytes line)) }
+    ensures done { S.tells
+        → IfOk result (λ line. HasPlayed (mode_of schedule) R.run.input manifest.now R.run.before
+        (S.file shelf.new) (string_bytes line)) }
     ensures says { IfOk result (λ line. IsSummary (string_bytes line)) }
-    ensures fronts { S.tells → mode_of schedule ≡ Eager → AreCutEagerly R.run.input manifest.now R.run.before (S.file shelf.new) }
-    ensures so_far { S.tells → AreCutSoFar (mode_of schedule) R.run.input manifest.now R.run.before (S.file shelf.new) }
+    ensures fronts { S.tells → mode_of schedule ≡ Eager
+        → AreCutEagerly R.run.input manifest.now R.run.before (S.file shelf.new) }
+    ensures so_far { S.tells → AreCutSoFar (mode_of schedule) R.run.input manifest.now R.run.before
+        (S.file shelf.new) }
     ensures never { S.tells → IfErr result (λ fault. IsChange fault → ⊥) }
-    ensures only { OnlyPlays S.tells names.now manifest.now (S.file shelf.old) (S.file shelf.new) (S.ids shelf.old) (S.ids shelf.new) }
+    ensures only { OnlyPlays S.tells names.now manifest.now (S.file shelf.old) (S.file shelf.new)
+        (S.ids shelf.old) (S.ids shelf.new) }
     ensures made { MakesInOrder manifest.now result (S.ids shelf.old) (S.ids shelf.new) }
-    ensures port { IfErr result (λ fault. (p at : ℕ) → fault ≡ Fault.Changed p at → is_named names.now p ≡ true) }
+    ensures port { IfErr result (λ fault. (p at : ℕ) → fault ≡ Fault.Changed p at
+        → is_named names.now p ≡ true) }
     ensures causes { IfErr result IsOfPlay }
     ensures faults { CountsFaults result (S.faults shelf.old) (S.faults shelf.new) }
 {
@@ -116,7 +133,8 @@ fn play_run<S: Shelf, R: OfRun>(
     )
 }
 
-/// Plays a script and the captures that are named, of which this was told, and answers the summary line.
+/// Plays a script and the captures that are named, of which this was told, and answers the summary
+/// line.
 pub fn play<S: Shelf>(
     alloc: Global,
     shelf: &mut S,
@@ -129,17 +147,27 @@ pub fn play<S: Shelf>(
 ) -> Result<String, Fault>
     requires valid { IsValid script.now.setup.now }
     requires tree { manifest.now.tree ≡ shape_of script.now.setup.now }
-    requires script { IsScript (shape_of script.now.setup.now) script.now.commands.now script.now.fate.now }
+    requires script { IsScript (shape_of script.now.setup.now) script.now.commands.now
+        script.now.fate.now }
     requires captures { CanBeRead S.tells manifest.now names.now (S.file shelf.old) checked.now }
     requires fate { left fate < 2 ^ 56 }
-    ensures done { S.tells → IfOk result (λ line. HasPlayed (mode_of schedule) (input_from script.now.setup.now script.now.commands.now names.now (S.file shelf.old)) manifest.now (S.file shelf.old) (S.file shelf.new) (string_bytes line)) }
+    ensures done { S.tells
+        → IfOk result (λ line. HasPlayed (mode_of schedule)
+        (input_from script.now.setup.now script.now.commands.now names.now (S.file shelf.old))
+        manifest.now (S.file shelf.old) (S.file shelf.new) (string_bytes line)) }
     ensures says { IfOk result (λ line. IsSummary (string_bytes line)) }
-    ensures fronts { S.tells → mode_of schedule ≡ Eager → AreCutEagerly (input_from script.now.setup.now script.now.commands.now names.now (S.file shelf.old)) manifest.now (S.file shelf.old) (S.file shelf.new) }
-    ensures so_far { S.tells → AreCutSoFar (mode_of schedule) (input_from script.now.setup.now script.now.commands.now names.now (S.file shelf.old)) manifest.now (S.file shelf.old) (S.file shelf.new) }
+    ensures fronts { S.tells → mode_of schedule ≡ Eager
+        → AreCutEagerly (input_from script.now.setup.now script.now.commands.now names.now
+        (S.file shelf.old)) manifest.now (S.file shelf.old) (S.file shelf.new) }
+    ensures so_far { S.tells → AreCutSoFar (mode_of schedule)
+        (input_from script.now.setup.now script.now.commands.now names.now (S.file shelf.old))
+        manifest.now (S.file shelf.old) (S.file shelf.new) }
     ensures never { S.tells → IfErr result (λ fault. IsChange fault → ⊥) }
-    ensures only { OnlyPlays S.tells names.now manifest.now (S.file shelf.old) (S.file shelf.new) (S.ids shelf.old) (S.ids shelf.new) }
+    ensures only { OnlyPlays S.tells names.now manifest.now (S.file shelf.old) (S.file shelf.new)
+        (S.ids shelf.old) (S.ids shelf.new) }
     ensures made { MakesInOrder manifest.now result (S.ids shelf.old) (S.ids shelf.new) }
-    ensures port { IfErr result (λ fault. (p at : ℕ) → fault ≡ Fault.Changed p at → is_named names.now p ≡ true) }
+    ensures port { IfErr result (λ fault. (p at : ℕ) → fault ≡ Fault.Changed p at
+        → is_named names.now p ≡ true) }
     ensures causes { IfErr result IsOfPlay }
     ensures faults { CountsFaults result (S.faults shelf.old) (S.faults shelf.new) }
 {

@@ -24,7 +24,8 @@ use Rattle.exb_relay.specs.TreeEgress.{all_leaving}
 
 -- ---- the choice is that of the one bridge
 abbrev pub ChoiceIsTheBridges : Type 0
-ChoiceIsTheBridges = (b : Bridge) (look : Look) (v : ℕ) (m : List ℕ) (q : ℕ) → is_chosen_in (choice b look v m) q ≡ is_chosen b look v m q
+ChoiceIsTheBridges = (b : Bridge) (look : Look) (v : ℕ) (m : List ℕ) (q : ℕ) → is_chosen_in (choice b look v m) q
+    ≡ is_chosen b look v m q
 
 -- ---- local targets
 abbrev pub listed_kind : Option Kind → List Kind
@@ -83,13 +84,15 @@ pub record IsAt (t : Shape) (b : Bridge) (m : Numbers) (p : ℕ) (f : List ℕ) 
 
 abbrev pub SendsAreWords : Type 0
 SendsAreWords =
-    (t : Shape) (b : Bridge) (look : Look) (m : Numbers) (p : ℕ) (f : List ℕ) → IsTree t → IsReady t b m → IsNumbering m →
+    (t : Shape) (b : Bridge) (look : Look) (m : Numbers) (p : ℕ) (f : List ℕ) → IsTree t → IsReady t b m
+    → IsNumbering m →
     HasPvids b → IsBytes f → b.present p ≡ true → All (IsAt t b m p f) (sends_of t b look m p f)
 
 -- at most two at one bridge port
 abbrev pub AtMostTwo : Type 0
 AtMostTwo =
-    (t : Shape) (b : Bridge) (look : Look) (m : Numbers) (p : ℕ) (f : List ℕ) → IsTree t → IsReady t b m → b.present p ≡ true → (k : ℕ) →
+    (t : Shape) (b : Bridge) (look : Look) (m : Numbers) (p : ℕ) (f : List ℕ) → IsTree t → IsReady t b m
+    → b.present p ≡ true → (k : ℕ) →
     count_by (λ (x : SendTo). x.bridge_port == k) (sends_of t b look m p f) ≤ 2
 
 -- ---- what leaves
@@ -100,7 +103,8 @@ left_by t u f (Some v) sends q = all_leaving t u f v sends q
 -- Over tables that carry, what leaves each external port is what the one VLAN bridge sends there.
 abbrev pub SendsLeaveAsFlat : Type 0
 SendsLeaveAsFlat =
-    (t : Shape) (u : Tables) (b : Bridge) (look : Look) (m : Numbers) (p : ℕ) (f : List ℕ) → IsTree t → IsReady t b m → IsNumbering m →
+    (t : Shape) (u : Tables) (b : Bridge) (look : Look) (m : Numbers) (p : ℕ) (f : List ℕ) → IsTree t → IsReady t b m
+    → IsNumbering m →
     Carries t u b m → HasPvids b → IsBytes f → b.present p ≡ true → (q index moment : ℕ) → is_external t q ≡ true →
     map (λ (bytes : List ℕ). (moment, bytes)) (left_by t u f (passes b p f) (sends_of t b look m p f) q)
     ≡ sent_by b look (event.Relay p index moment f) q

@@ -77,7 +77,8 @@ group_word t m p f k kind set = if is_empty_set set then [] else words_to t m p 
 -- the tagged group's word comes first
 abbrev pub group_words : Shape → Bridge → Numbers → ℕ → List ℕ → ℕ → (ℕ → Bool) → ℕ → List SendTo
 group_words t b m p f v among k =
-    group_word t m p f k Tagged (set_for t b p v among k Tagged) ++ group_word t m p f k Untagged (set_for t b p v among k Untagged)
+    group_word t m p f k Tagged (set_for t b p v among k Tagged) ++ group_word t m p f k Untagged
+    (set_for t b p v among k Untagged)
 
 -- ---- a learned port
 -- one word to the channel of port r, if r is a target and so has a kind
@@ -89,7 +90,8 @@ channel_word t m p f k r (Some kind) = words_to t m p f k kind (m.channel k r)
 abbrev pub words_down : Shape → Bridge → Look → Numbers → ℕ → List ℕ → ℕ → EgressChoice → ℕ → List SendTo
 words_down t b look m p f v All k = group_words t b m p f v (λ q. true) k
 words_down t b look m p f v (Listed ports) k = group_words t b m p f v (port_in ports) k
-words_down t b look m p f v (Learned r) k = if is_under t k r then channel_word t m p f k r (target b look p f r) else []
+words_down t b look m p f v (Learned r) k = if is_under t k r then channel_word t m p f k r (target b look p f r)
+    else []
 
 -- ---- all of them
 abbrev pub local_send : ℕ → Option Kind → List SendTo

@@ -60,7 +60,8 @@ AreMembers b v m = (q : ℕ) → kind_in m.tagged m.untagged q ≡ b.member v q
 -- a port is one of the hearers of a kind
 abbrev pub is_hearer : Hearers → Kind → ℕ → Bool
 is_hearer h kind q =
-    ((bridge_of h.config.now).present q && port_in h.chosen.now q && is_kind kind (kind_in h.members.now.tagged h.members.now.untagged q))
+    ((bridge_of h.config.now).present q && port_in h.chosen.now q && is_kind kind
+    (kind_in h.members.now.tagged h.members.now.untagged q))
     && not (h.isolated && ((bridge_of h.config.now).rule q).isolated)
 
 -- the kind of a port that is in one of two sets

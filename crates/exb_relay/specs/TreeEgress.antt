@@ -24,7 +24,8 @@ coming_out t u (Some n) f q = carried t u n f q
 -- what a send makes leave at port q, by the bytes with which the frame goes out in each kind
 abbrev pub leaving_by : Shape → Tables → (Kind → List ℕ) → ℕ → ℕ → Option ETag → Kind → List (List ℕ)
 leaving_by t u out q bridge_port None kind = if q + 1 == bridge_port then out kind ∷ [] else []
-leaving_by t u out q bridge_port (Some tag) kind = coming_out t u (extender_on t bridge_port) (tagged (out kind) (tag_of tag)) q
+leaving_by t u out q bridge_port (Some tag) kind = coming_out t u (extender_on t bridge_port)
+    (tagged (out kind) (tag_of tag)) q
 
 abbrev pub leaving : Shape → Tables → (Kind → List ℕ) → ℕ → SendTo → List (List ℕ)
 leaving t u out q x = leaving_by t u out q x.bridge_port x.tag x.kind

@@ -9,8 +9,9 @@ use exb_model::port::PortId;
 use exb_model::port_set::PortSet;
 use exb_model::vlan::Vid;
 
-/// The ports of which the targets of a frame are taken (IEEE 802.1Q, clause 8.6): those of a static entry, else
-/// the learned port of its destination, else all. Contracts speak of it; no frame makes one.
+/// The ports of which the targets of a frame are taken (IEEE 802.1Q, clause 8.6): those of a static
+/// entry, else the learned port of its destination, else all. Contracts speak of it; no frame makes
+/// one.
 #[derive(Clone, Copy)]
 pub enum EgressChoice {
     All,

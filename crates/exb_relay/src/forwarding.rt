@@ -48,7 +48,8 @@ fn uplink_of(tree: &Tree, spaces: &Spaces, port: PortId) -> Option<Uplink>
     Some(Uplink { trunk, channel })
 }
 
-/// One word to the group of the hearers of a kind that lie below a cascade port of the bridge, counted from 0.
+/// One word to the group of the hearers of a kind that lie below a cascade port of the bridge,
+/// counted from 0.
 fn send_to_set(
     tree: &Tree,
     spaces: &Spaces,
@@ -61,10 +62,12 @@ fn send_to_set(
     requires place { place < 64 }
     requires cascade { is_cascade tree.now place ≡ true }
     requires spaces { HasSpaces tree.now spaces.now }
-    requires external { (q : ℕ) → is_hearer hearers.now kind q ≡ true → is_external tree.now q ≡ true }
+    requires external { (q : ℕ) → is_hearer hearers.now kind q ≡ true → is_external tree.now q
+        ≡ true }
     requires room { array_vec_len sends.old < 256 }
     ensures items { sends.new.items ≡ sends.old.items
-        ++ set_word (numbers_of spaces.now) source.now place kind (set_below tree.now place (is_hearer hearers.now kind)) }
+        ++ set_word (numbers_of spaces.now) source.now place kind
+        (set_below tree.now place (is_hearer hearers.now kind)) }
     ensures few { array_vec_len sends.new ≤ array_vec_len sends.old + 1 }
 {
     tree.is_tree();
@@ -86,11 +89,14 @@ fn send_at(
 )
     requires place { place < 64 }
     requires spaces { HasSpaces tree.now spaces.now }
-    requires tagged { (q : ℕ) → is_hearer hearers.now Kind.Tagged q ≡ true → is_external tree.now q ≡ true }
-    requires untagged { (q : ℕ) → is_hearer hearers.now Kind.Untagged q ≡ true → is_external tree.now q ≡ true }
+    requires tagged { (q : ℕ) → is_hearer hearers.now Kind.Tagged q ≡ true
+        → is_external tree.now q ≡ true }
+    requires untagged { (q : ℕ) → is_hearer hearers.now Kind.Untagged q ≡ true
+        → is_external tree.now q ≡ true }
     requires room { array_vec_len sends.old + 2 ≤ 256 }
     ensures items { sends.new.items ≡ sends.old.items
-        ++ member_sends tree.now (numbers_of spaces.now) source.now (is_hearer hearers.now Kind.Tagged) (is_hearer hearers.now Kind.Untagged) place }
+        ++ member_sends tree.now (numbers_of spaces.now) source.now
+        (is_hearer hearers.now Kind.Tagged) (is_hearer hearers.now Kind.Untagged) place }
     ensures few { array_vec_len sends.new ≤ array_vec_len sends.old + 2 }
 {
     tree.is_tree();
@@ -114,11 +120,14 @@ fn send_to_hearers(
     sends: &mut ArrayVec<SendTo, 256>,
 )
     requires spaces { HasSpaces tree.now spaces.now }
-    requires tagged { (q : ℕ) → is_hearer hearers.now Kind.Tagged q ≡ true → is_external tree.now q ≡ true }
-    requires untagged { (q : ℕ) → is_hearer hearers.now Kind.Untagged q ≡ true → is_external tree.now q ≡ true }
+    requires tagged { (q : ℕ) → is_hearer hearers.now Kind.Tagged q ≡ true
+        → is_external tree.now q ≡ true }
+    requires untagged { (q : ℕ) → is_hearer hearers.now Kind.Untagged q ≡ true
+        → is_external tree.now q ≡ true }
     requires empty { sends.old.items ≡ [] }
     ensures { sends.new.items
-        ≡ member_list tree.now (numbers_of spaces.now) source.now (is_hearer hearers.now Kind.Tagged) (is_hearer hearers.now Kind.Untagged) }
+        ≡ member_list tree.now (numbers_of spaces.now) source.now
+        (is_hearer hearers.now Kind.Tagged) (is_hearer hearers.now Kind.Untagged) }
 {
     let mut left = ways(tree, hearers);
     'ports: while left != 0 {
@@ -193,7 +202,8 @@ fn send_to_learned(
     requires spaces { HasSpaces tree.now spaces.now }
     requires members { AreMembers (bridge_of config.now) passed.now.vid passed.now.members.now }
     requires empty { sends.old.items ≡ [] }
-    ensures { sends.new.items ≡ learned_sends tree.now (numbers_of spaces.now) passed.now.source port
+    ensures { sends.new.items ≡ learned_sends tree.now (numbers_of spaces.now) passed.now.source
+        port
         (kind_at (bridge_of config.now) passed.now.source.port passed.now.vid port) }
 {
     if let Some(kind) = kind_at(config, passed, port) {
@@ -215,10 +225,13 @@ fn send_all(
     requires external { AreExternal tree.now (bridge_of config.now) }
     requires spaces { HasSpaces tree.now spaces.now }
     requires members { AreMembers (bridge_of config.now) passed.now.vid passed.now.members.now }
-    requires source { IsSource tree.now (numbers_of spaces.now) passed.now.source.port frame.now passed.now.source }
-    requires passes { passes (bridge_of config.now) passed.now.source.port frame.now ≡ Some passed.now.vid }
+    requires source { IsSource tree.now (numbers_of spaces.now) passed.now.source.port frame.now
+        passed.now.source }
+    requires passes { passes (bridge_of config.now) passed.now.source.port frame.now
+        ≡ Some passed.now.vid }
     requires empty { sends.old.items ≡ [] }
-    ensures { sends.new.items ≡ sends_in tree.now (bridge_of config.now) (look_of learned.now) (numbers_of spaces.now)
+    ensures { sends.new.items ≡ sends_in tree.now (bridge_of config.now) (look_of learned.now)
+        (numbers_of spaces.now)
         passed.now.source.port frame.now (Some passed.now.vid) }
 {
     tree.is_tree();
@@ -250,10 +263,11 @@ fn source_of(tree: &Tree, spaces: &Spaces, port: PortId, frame: &[u8], seen: &Se
     }
 }
 
-/// What the bridge makes of a frame at a present port, and all that it sends for it. The frame isn't learned.
-/// Each present port is an external port of the tree, and the spaces are those of its cascade ports. Where the
-/// spaces hold a group for each set of the configuration and a channel for each present port of an extender,
-/// as before, between and after the steps of a change, all targets are reached (`sends_leave_as_flat`).
+/// What the bridge makes of a frame at a present port, and all that it sends for it. The frame
+/// isn't learned. Each present port is an external port of the tree, and the spaces are those of
+/// its cascade ports. Where the spaces hold a group for each set of the configuration and a channel
+/// for each present port of an extender, as before, between and after the steps of a change, all
+/// targets are reached (`sends_leave_as_flat`).
 pub fn relay(
     tree: &Tree,
     config: &Config,
@@ -267,7 +281,8 @@ pub fn relay(
     requires external { AreExternal tree.now (bridge_of config.now) }
     requires spaces { HasSpaces tree.now spaces.now }
     ensures ingress { result ≡ ingress_of (bridge_of config.now) port frame.now }
-    ensures sends { sends.new.items ≡ sends_of tree.now (bridge_of config.now) (look_of learned.now) (numbers_of spaces.now) port frame.now }
+    ensures sends { sends.new.items ≡ sends_of tree.now (bridge_of config.now) (look_of learned.now)
+        (numbers_of spaces.now) port frame.now }
 {
     sends.clear();
     let seen = classify(frame);

@@ -9,8 +9,9 @@ use exb_model::port::PortId;
 use exb_model::port_set::PortSet;
 use exb_model::vlan::Kind;
 
-/// The ports that hear a frame: the present members of its VLAN, of some chosen ports; an isolated source isn't heard
-/// by isolated ports. The source itself may be among them. Only the words of devices that are asked for are made.
+/// The ports that hear a frame: the present members of its VLAN, of some chosen ports; an isolated
+/// source isn't heard by isolated ports. The source itself may be among them. Only the words of
+/// devices that are asked for are made.
 #[derive(Clone, Copy)]
 pub(crate) struct Hearers<'a> {
     pub config: &'a Config,
@@ -48,7 +49,8 @@ impl Hearers<'_> {
     /// How a port other than the source gets the frame, if it hears it.
     pub fn target(&self, source: PortId, port: PortId) -> Option<Kind>
         ensures { result ≡ (if port == source then None
-            else kind_among (is_hearer self.now Kind.Tagged) (is_hearer self.now Kind.Untagged) port) }
+            else kind_among (is_hearer self.now Kind.Tagged) (is_hearer self.now Kind.Untagged)
+            port) }
     {
         if port == source {
             None

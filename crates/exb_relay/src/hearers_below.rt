@@ -28,8 +28,10 @@ fn mask_below(tree: &Tree, bridge_port: u8, hearers: &Hearers, kind: Kind, exten
 
 /// Whether a hearer of a kind lies below a port of the bridge, `b1` to `b64` as 1 to 64.
 pub(crate) fn has_below(tree: &Tree, bridge_port: u8, hearers: &Hearers, kind: Kind) -> bool
-    requires external { (q : ℕ) → is_hearer hearers.now kind q ≡ true → is_external tree.now q ≡ true }
-    ensures { (k : ℕ) → bridge_port ≡ k + 1 → result ≡ not (is_empty_set (set_below tree.now k (is_hearer hearers.now kind))) }
+    requires external { (q : ℕ) → is_hearer hearers.now kind q ≡ true → is_external tree.now q
+        ≡ true }
+    ensures { (k : ℕ) → bridge_port ≡ k + 1 → result
+        ≡ not (is_empty_set (set_below tree.now k (is_hearer hearers.now kind))) }
 {
     tree.is_tree();
     for extender in tree.order() {
@@ -42,8 +44,10 @@ pub(crate) fn has_below(tree: &Tree, bridge_port: u8, hearers: &Hearers, kind: K
 
 /// The hearers of a kind that lie below a port of the bridge.
 pub(crate) fn below(tree: &Tree, bridge_port: u8, hearers: &Hearers, kind: Kind) -> PortSet
-    requires external { (q : ℕ) → is_hearer hearers.now kind q ≡ true → is_external tree.now q ≡ true }
-    ensures { (k q : ℕ) → bridge_port ≡ k + 1 → port_in result q ≡ (is_hearer hearers.now kind q && is_under tree.now k q) }
+    requires external { (q : ℕ) → is_hearer hearers.now kind q ≡ true → is_external tree.now q
+        ≡ true }
+    ensures { (k q : ℕ) → bridge_port ≡ k + 1 → port_in result q
+        ≡ (is_hearer hearers.now kind q && is_under tree.now k q) }
 {
     tree.is_tree();
     let mut words = [0u64; 65];
@@ -53,10 +57,11 @@ pub(crate) fn below(tree: &Tree, bridge_port: u8, hearers: &Hearers, kind: Kind)
     PortSet { words }
 }
 
-/// The ports of the bridge at which a frame may leave or go down, bit k for port k counted from 0: those that are hearers,
-/// and those on which an extender hangs.
+/// The ports of the bridge at which a frame may leave or go down, bit k for port k counted from 0:
+/// those that are hearers, and those on which an extender hangs.
 pub(crate) fn ways(tree: &Tree, hearers: &Hearers) -> u64
-    ensures local { (kind : Kind) → (k : ℕ) → k < 64 → (bit_at result k == 1) ≡ false → is_hearer hearers.now kind k ≡ false }
+    ensures local { (kind : Kind) → (k : ℕ) → k < 64 → (bit_at result k == 1) ≡ false
+        → is_hearer hearers.now kind k ≡ false }
     ensures deep { (k q : ℕ) → (bit_at result k == 1) ≡ false → is_under tree.now k q ≡ false }
 {
     tree.is_tree();

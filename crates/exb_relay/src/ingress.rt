@@ -48,12 +48,14 @@ pub(crate) fn claimed(config: &Config, port: PortId, seen: &Seen) -> Option<Vid>
 
 /// Whether the port's filter lets in frames of a VLAN with these members.
 fn lets_in(config: &Config, port: PortId, members: &Members) -> bool
-    ensures { result ≡ (not ((bridge_of config.now).rule port).filter || is_some (kind_in members.now.tagged members.now.untagged port)) }
+    ensures { result ≡ (not ((bridge_of config.now).rule port).filter
+        || is_some (kind_in members.now.tagged members.now.untagged port)) }
 {
     !config.rule(port).filter || members.kind(port).is_some()
 }
 
-/// The members of a VLAN; None exactly where it isn't in the table, or the port's filter doesn't let it in.
+/// The members of a VLAN; None exactly where it isn't in the table, or the port's filter doesn't
+/// let it in.
 pub(crate) fn admit(config: &Config, port: PortId, vid: Vid) -> Option<&Members>
     ensures admitted { is_some (option_copied result) ≡ is_let_in (bridge_of config.now) port vid }
     ensures members { IfSome result (λ m. AreMembers (bridge_of config.now) vid m.now) }

@@ -19,8 +19,8 @@ pub(crate) fn every_port() -> PortSet
     }
 }
 
-/// How a chosen port gets a frame that passed, if it does: it is another port than the frame's, present and a member,
-/// and the two aren't both isolated.
+/// How a chosen port gets a frame that passed, if it does: it is another port than the frame's,
+/// present and a member, and the two aren't both isolated.
 pub(crate) fn kind_at(config: &Config, passed: &Passed, port: PortId) -> Option<Kind>
     requires { AreMembers (bridge_of config.now) passed.now.vid passed.now.members.now }
     ensures { result ≡ kind_at (bridge_of config.now) passed.now.source.port passed.now.vid port }

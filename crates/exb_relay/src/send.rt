@@ -2,8 +2,9 @@
 use exb_frame::etag::ETag;
 use exb_model::vlan::{Kind, Vid};
 
-/// One send at a port of the bridge, `b1` to `b64` as 1 to 64. Without an E-TAG the frame leaves at that port at
-/// once; with one it goes into the extender that hangs there. `kind` says whether it has a VLAN tag.
+/// One send at a port of the bridge, `b1` to `b64` as 1 to 64. Without an E-TAG the frame leaves at
+/// that port at once; with one it goes into the extender that hangs there. `kind` says whether it
+/// has a VLAN tag.
 #[derive(Clone, Copy, Default)]
 pub struct SendTo {
     pub bridge_port: u8,
@@ -11,8 +12,8 @@ pub struct SendTo {
     pub kind: Kind,
 }
 
-/// What the bridge makes of a frame at its port: it is dropped, or it passes in a VLAN with the priority of its
-/// VLAN tag (`pcp` is below 8), which is 0 without one.
+/// What the bridge makes of a frame at its port: it is dropped, or it passes in a VLAN with the
+/// priority of its VLAN tag (`pcp` is below 8), which is 0 without one.
 #[derive(Clone, Copy)]
 pub enum Ingress {
     Dropped,

@@ -6,16 +6,16 @@ use exb_config::members::Members;
 use exb_model::port::PortId;
 use exb_model::vlan::Vid;
 
-/// The way up of a port of an extender: the port of the bridge above it, 1 to 64, and the channel that the port
-/// has in the number space there.
+/// The way up of a port of an extender: the port of the bridge above it, 1 to 64, and the channel
+/// that the port has in the number space there.
 #[derive(Clone, Copy)]
 pub(crate) struct Uplink {
     pub trunk: u8,
     pub channel: u16,
 }
 
-/// The port of a frame that passes, with its way up where it is a port of an extender, and the priority of the
-/// frame (`pcp` is below 8).
+/// The port of a frame that passes, with its way up where it is a port of an extender, and the
+/// priority of the frame (`pcp` is below 8).
 #[derive(Clone, Copy)]
 pub(crate) struct Source {
     pub port: PortId,
@@ -33,8 +33,9 @@ pub(crate) struct Passed<'a> {
 }
 
 impl Source {
-    /// The number by which extenders below a port of the bridge, counted from 0, know the source: its channel
-    /// where it is below that port too, and 0 elsewhere, since its channel is another port's there.
+    /// The number by which extenders below a port of the bridge, counted from 0, know the source:
+    /// its channel where it is below that port too, and 0 elsewhere, since its channel is another
+    /// port's there.
     pub fn ingress(&self, place: u8) -> u16
         requires { place < 64 }
         ensures { result ≡ ingress_for self.now.uplink place }

@@ -41,7 +41,8 @@ CanBeDone None file = ⊥
 CanBeDone (Some (Run name options)) file = (t : Topology) × IsReady name file t
 CanBeDone (Some (Check name)) file = (t : Topology) × HoldsTopology name file t
 CanBeDone (Some (Make number)) file = ⊤
-CanBeDone (Some (Audit name)) file = (t : Topology) × HoldsTopology name file t × (x : Seen) × IsSeen (scope_of t) file x × IsLegal (evidence_of (scope_of t) x)
+CanBeDone (Some (Audit name)) file = (t : Topology) × HoldsTopology name file t × (x : Seen)
+    × IsSeen (scope_of t) file x × IsLegal (evidence_of (scope_of t) x)
 CanBeDone (Some (Net name counters)) file = CanNetBeDone name file
 
 -- to play a topology or a net is asked for, by which alone files are written
@@ -89,7 +90,8 @@ IsDone (Some (Net name counters)) old new text = NetPlayed name counters old new
 
 -- no file but the outputs of what is asked for has changed
 abbrev pub OnlyAsked : Option Ask → Files → Files → Type 0
-OnlyAsked (Some (Run name options)) old new = (t : Topology) → HoldsTopology name old t → OnlyOutputs options (shape_of t.setup) t.prefix old new
+OnlyAsked (Some (Run name options)) old new = (t : Topology) → HoldsTopology name old t
+    → OnlyOutputs options (shape_of t.setup) t.prefix old new
 OnlyAsked (Some (Net name counters)) old new = OnlyNetAsked name counters old new
 OnlyAsked _ old new = SameFiles old new
 
@@ -99,8 +101,8 @@ pub record LeavesFronts (name : List ℕ) (old new : Files) : Type 0 where
   pub holds : HoldsTopology name old topology
   pub fronts : AreFrontsOf (input_of topology old) topology.prefix old new
 
--- However a run in this order ends: where it is the eager one, no file has changed, or each capture and the journal are as they were
--- or hold a front of their text.
+-- However a run in this order ends: where it is the eager one, no file has changed, or each capture and the journal are
+-- as they were or hold a front of their text.
 abbrev pub AreFrontsIn : Option ℕ → List ℕ → Files → Files → Type 0
 AreFrontsIn None name old new = SameFiles old new ⊎ LeavesFronts name old new
 AreFrontsIn (Some seed) name old new = ⊤
@@ -117,8 +119,9 @@ pub record AuditStops (name : List ℕ) (file : Files) (fault : Fault) : Type 0 
   pub holds : HoldsTopology name file topology
   pub stops : StopsAudit (scope_of topology) file fault
 
--- This stops what is asked for, the first in the order in which things are looked at: the words, the topology, where it is played its
--- captures, and where it is audited all that is read and judged; of a net its file, all topologies and wires, and then the captures.
+-- This stops what is asked for, the first in the order in which things are looked at: the words, the topology, where it
+-- is played its captures, and where it is audited all that is read and judged; of a net its file, all topologies and
+-- wires, and then the captures.
 abbrev pub Stops : Option Ask → Files → Fault → Type 0
 Stops None file fault = fault ≡ Usage
 Stops (Some (Run name options)) file fault = IsRefused name (file name) fault ⊎ CaptureFaulty name file fault
@@ -140,13 +143,16 @@ IsFailure (Some (Net name counters)) fault = IsNetFailure fault
 -- the statuses that can come
 abbrev pub IsStatus : Option Ask → ℕ → Type 0
 IsStatus None n = IsTrue (n == 1 || n == 2 || n == 7)
-IsStatus (Some (Run name options)) n = IsTrue (n == 0 || n == 1 || n == 3 || n == 4 || n == 5 || n == 6 || n == 7 || n == 10)
+IsStatus (Some (Run name options)) n = IsTrue (n == 0 || n == 1 || n == 3 || n == 4 || n == 5 || n == 6 || n == 7
+    || n == 10)
 IsStatus (Some (Check name)) n = IsTrue (n == 0 || n == 1 || n == 3 || n == 5 || n == 6 || n == 7)
 IsStatus (Some (Make number)) n = IsTrue (n == 0 || n == 1 || n == 7)
-IsStatus (Some (Audit name)) n = IsTrue (n == 0 || n == 1 || n == 3 || n == 4 || n == 5 || n == 6 || n == 7 || n == 11 || n == 12)
+IsStatus (Some (Audit name)) n = IsTrue (n == 0 || n == 1 || n == 3 || n == 4 || n == 5 || n == 6 || n == 7 || n == 11
+    || n == 12)
 IsStatus (Some (Net name counters)) n = IsNetStatus n
 
--- the statuses of faults of what is asked for: the topology or the net, the captures that are named, and what an audit reads and judges
+-- the statuses of faults of what is asked for: the topology or the net, the captures that are named, and what an audit
+-- reads and judges
 abbrev pub IsOfInput : ℕ → Type 0
 IsOfInput n = IsTrue (n == 3 || n == 4 || n == 5 || n == 11 || n == 12)
 
@@ -154,7 +160,8 @@ IsOfInput n = IsTrue (n == 3 || n == 4 || n == 5 || n == 11 || n == 12)
 abbrev pub StopsWith : Option Ask → Files → ℕ → Type 0
 StopsWith a file status = (fault : Fault) × Stops a file fault × (fault_status fault ≡ status)
 
--- By its status, which count of faults rose: those of the shelf, or those of the sink. Only a run of a topology or a net counts failures to write.
+-- By its status, which count of faults rose: those of the shelf, or those of the sink. Only a run of a topology or a
+-- net counts failures to write.
 pub record RoseBy (a : Option Ask) (status : ℕ) (counted counts : Faults) (failed fails : ℕ) : Type 0 where
   pub five : status ≡ 5 → Rose counted.missing counts.missing
   pub six : status ≡ 6 → Rose counted.reads counts.reads
@@ -164,8 +171,10 @@ pub record RoseBy (a : Option Ask) (status : ℕ) (counted counts : Faults) (fai
 abbrev pub IsCause : Option Ask → Files → Faults → Faults → Fault → Type 0
 IsCause a file counted counts fault =
     Stops a file fault
-    ⊎ (IsFailure a fault × (fault ≡ Read → Rose counted.reads counts.reads) × (fault ≡ Write → Rose counted.writes counts.writes))
+    ⊎ (IsFailure a fault × (fault ≡ Read → Rose counted.reads counts.reads)
+    × (fault ≡ Write → Rose counted.writes counts.writes))
 
 -- the text that was to be printed: the line of what ended it, or what says that it is done
 abbrev pub IsText : Option Ask → Files → Files → Faults → Faults → List ℕ → Type 0
-IsText a old new counted counts text = ((fault : Fault) × IsCause a old counted counts fault × (text ≡ fault_line fault)) ⊎ IsDone a old new text
+IsText a old new counted counts text = ((fault : Fault) × IsCause a old counted counts fault
+    × (text ≡ fault_line fault)) ⊎ IsDone a old new text

@@ -54,5 +54,6 @@ pub record IsInputOf (number : ℕ) (input : GeneratedInput) : Type 0 where
   pub named : All (λ c. NamesExternal (tree_of (made number)) c.command) input.commands
   pub few : length input.commands ≡ 20
   pub rising : AllPairs (λ a b. a.at ≤ b.at) input.commands
-  pub captures : map read_of input.captures.items ≡ map (λ q. (q, Ok ((made number).records q))) (external_ports (tree_of (made number)))
+  pub captures : map read_of input.captures.items ≡ map (λ q. (q, Ok ((made number).records q)))
+      (external_ports (tree_of (made number)))
   pub small : sum_by (λ c. length c.file.items) input.captures.items ≤ 2 ^ 22

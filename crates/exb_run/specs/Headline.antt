@@ -22,11 +22,11 @@ use Rattle.exb_play.specs.Outputs.{IsTraceOf}
 use Rattle.exb_outputs.specs.OutputNames.{AreWhole, OnlyOutputs}
 use Rattle.exb_outputs.specs.KindTexts.{output_text}
 
--- The file of this name holds a topology, and each capture that it names can be played. There is a history that this input allows,
--- which without a seed is its eager history; the file of each external port holds what one VLAN bridge that owns all the ports sends
--- at it over that history; the journal holds the history; the trace and the counters, where they are asked for, hold a legal trace of
--- it and the counts over it, from scratch; so the file of each kind that is made holds its text; no other file has changed; and its
--- summary was printed, and nothing else.
+-- The file of this name holds a topology, and each capture that it names can be played. There is a history that this
+-- input allows, which without a seed is its eager history; the file of each external port holds what one VLAN bridge
+-- that owns all the ports sends at it over that history; the journal holds the history; the trace and the counters,
+-- where they are asked for, hold a legal trace of it and the counts over it, from scratch; so the file of each kind
+-- that is made holds its text; no other file has changed; and its summary was printed, and nothing else.
 pub record Headline (name : List ℕ) (options : Options) (old new : Files) (before after : List ℕ) : Type 0 where
   pub bytes : List ℕ
   pub there : old name ≡ Some bytes
@@ -40,9 +40,12 @@ pub record Headline (name : List ℕ) (options : Options) (old new : Files) (bef
       → new (capture_name topology.prefix q) ≡ Some (capture_text (flat (basis_of (input_of topology old)) history q))
   pub journal : new (journal_name topology.prefix) ≡ Some (journal_text history)
   pub trace : options.trace ≡ true
-      → (lines : List TraceLine) × (new (trace_name topology.prefix) ≡ Some (trace_text lines)) × IsTraceOf (input_of topology old) history lines
+      → (lines : List TraceLine) × (new (trace_name topology.prefix) ≡ Some (trace_text lines))
+      × IsTraceOf (input_of topology old) history lines
   pub counters : options.counters ≡ true
-      → new (counters_name topology.prefix) ≡ Some (count_text (shape_of topology.setup) (basis_of (input_of topology old)) history)
-  pub files : (lines : List TraceLine) × AreWhole options (shape_of topology.setup) topology.prefix new (output_text (input_of topology old) history lines)
+      → new (counters_name topology.prefix)
+      ≡ Some (count_text (shape_of topology.setup) (basis_of (input_of topology old)) history)
+  pub files : (lines : List TraceLine) × AreWhole options (shape_of topology.setup) topology.prefix new
+      (output_text (input_of topology old) history lines)
   pub others : OnlyOutputs options (shape_of topology.setup) topology.prefix old new
   pub prints : after ≡ before ++ summary (shape_of topology.setup) (basis_of (input_of topology old)) history

@@ -10,9 +10,10 @@ use Rattle.exb_shelf.specs.Files.{Files}
 use Rattle.exb_topology.specs.declared.topology.Topology.{Topology}
 use Rattle.exb_topology.specs.Topologies.{topology_of, topology_view}
 
--- Over each history that the input of a topology allows, be it eager or drawn, the counts of all external ports together are those of
--- the summary.
+-- Over each history that the input of a topology allows, be it eager or drawn, the counts of all external ports
+-- together are those of the summary.
 abbrev pub CountersSumUp : Type 0
 CountersSumUp =
-    (bytes : List ℕ) (t : Topology) (file : Files) (m : Mode) (h : History) → topology_of bytes ≡ Ok (topology_view t) → Legal m (input_of t file) h
+    (bytes : List ℕ) (t : Topology) (file : Files) (m : Mode) (h : History) → topology_of bytes ≡ Ok (topology_view t)
+    → Legal m (input_of t file) h
     → AreSummed (shape_of t.setup) (basis_of (input_of t file)) h

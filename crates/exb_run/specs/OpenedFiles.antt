@@ -83,17 +83,19 @@ MakesOutput (Some (Run name options)) file i = MakesOutputOf name options file i
 MakesOutput (Some (Net name counters)) file i = MakesNetOutputOf name counters file i
 MakesOutput _ file i = ⊥
 
--- Which files are opened: none where the words are not accepted or an input is made, the topology alone where it is refused or
--- checked, of a net none but to be read where it is refused, and files to be written in a run of a topology or a net alone, at statuses 0,
--- 1, 6, 7 and 10. Where files are told, none is read but the topology and its captures, and in an audit what a run of it wrote, and none is
--- made but its outputs; in a net its file, the topologies and their captures, and none is made but its outputs.
+-- Which files are opened: none where the words are not accepted or an input is made, the topology alone where it is
+-- refused or checked, of a net none but to be read where it is refused, and files to be written in a run of a topology
+-- or a net alone, at statuses 0, 1, 6, 7 and 10. Where files are told, none is read but the topology and its captures,
+-- and in an audit what a run of it wrote, and none is made but its outputs; in a net its file, the topologies and their
+-- captures, and none is made but its outputs.
 pub record OpensBy (tells : Type 0) (status : ℕ) (a : Option Ask) (file : Files) (given ids : ℕ → Id) : Type 0 where
   pub nothing : a ≡ None → (j : ℕ) → ids j ≡ given j
   pub made : (number : ℕ) → a ≡ Some (Make number) → (j : ℕ) → ids j ≡ given j
   pub topology : status ≡ 3 → Opens (ReadsRefused a) given ids
   pub checked : (name : List ℕ) → a ≡ Some (Check name) → Opens (ReadsTopology a) given ids
   pub reads : status ≢ 0 → status ≢ 1 → status ≢ 6 → status ≢ 7 → status ≢ 10 → Opens IsReading given ids
-  pub wanted : tells → status ≢ 0 → status ≢ 1 → status ≢ 6 → status ≢ 7 → status ≢ 10 → Opens (IsWanted a file) given ids
+  pub wanted : tells → status ≢ 0 → status ≢ 1 → status ≢ 6 → status ≢ 7 → status ≢ 10
+      → Opens (IsWanted a file) given ids
   pub audited : (name : List ℕ) → a ≡ Some (Audit name) → Opens IsReading given ids
   pub only : tells → Opens (λ i. IsWanted a file i ⊎ MakesOutput a file i) given ids
 
@@ -112,41 +114,49 @@ ReadsUpTo name t p i = IsReadingOf name i ⊎ ReadsBelow t.captures (p + 1) i
 
 -- the capture of each port that is named was opened before this id was given
 abbrev pub EachBefore : List Named → ℕ → (ℕ → Id) → (ℕ → Id) → Type 0
-EachBefore names i given ids = (q : ℕ) (name : List ℕ) → q < 4160 → name_of names q ≡ Some name → (j : ℕ) × ((given j).given ≡ false) × IsReadingOf name (ids j) × (j < i)
+EachBefore names i given ids = (q : ℕ) (name : List ℕ) → q < 4160 → name_of names q ≡ Some name
+    → (j : ℕ) × ((given j).given ≡ false) × IsReadingOf name (ids j) × (j < i)
 
 -- so before each file that was made
 abbrev pub MadeBehind : List Named → (ℕ → Id) → (ℕ → Id) → Type 0
-MadeBehind names given ids = (i : ℕ) → (given i).given ≡ false → (ids i).given ≡ true → (ids i).reads ≡ false → EachBefore names i given ids
+MadeBehind names given ids = (i : ℕ) → (given i).given ≡ false → (ids i).given ≡ true → (ids i).reads ≡ false
+    → EachBefore names i given ids
 
--- What a run of a topology opened, whatever the shelf tells: the topology, its captures, and its outputs, which were made in order,
--- each once and behind all captures, and all of them where all went well or a capture turned out to be another one, which is that of a
--- port that is named. Where the fault is one of a capture no capture of a later port was opened; nor was one, or an output made, where
--- files are told and a capture has a fault.
-pub record RunOpens (tells : Type 0) (name : List ℕ) (options : Options) (o : Result (String Global) Fault) (file : Files) (given ids : ℕ → Id) : Type 0 where
+-- What a run of a topology opened, whatever the shelf tells: the topology, its captures, and its outputs, which were
+-- made in order, each once and behind all captures, and all of them where all went well or a capture turned out to be
+-- another one, which is that of a port that is named. Where the fault is one of a capture no capture of a later port
+-- was opened; nor was one, or an output made, where files are told and a capture has a fault.
+pub record RunOpens (tells : Type 0) (name : List ℕ) (options : Options) (o : Result (String Global) Fault)
+    (file : Files) (given ids : ℕ → Id) : Type 0 where
   pub topology : Topology
   pub holds : tells → HoldsTopology name file topology
   pub opened : Opens (λ i. IsReadingOf name i ⊎ IsFileOf options topology i) given ids
   pub made : MakesInOrder (manifest_for topology options) o given ids
   pub behind : MadeBehind topology.captures given ids
   pub changed : (p at : ℕ) → IsErrOf o (Changed p at) → is_named topology.captures p ≡ true
-  pub own : (p : ℕ) (flaw : InputFlaw) → IsErrOf o (Capture p flaw) → (is_named topology.captures p ≡ true) × Opens (ReadsUpTo name topology p) given ids
-  pub first : tells → (p : ℕ) (fault : Fault) → FirstFault topology.captures file p fault → Opens (ReadsUpTo name topology p) given ids
+  pub own : (p : ℕ) (flaw : InputFlaw) → IsErrOf o (Capture p flaw) → (is_named topology.captures p ≡ true)
+      × Opens (ReadsUpTo name topology p) given ids
+  pub first : tells → (p : ℕ) (fault : Fault) → FirstFault topology.captures file p fault
+      → Opens (ReadsUpTo name topology p) given ids
 
 -- the topology was not taken
 abbrev pub IsRefusedEarly : Result (String Global) Fault → Type 0
 IsRefusedEarly (Ok line) = ⊥
 IsRefusedEarly (Err fault) = IsOfTopology fault
 
--- what was opened where this was asked for: that of a run, or the topology alone, where it was not taken; and so of a net
+-- what was opened where this was asked for: that of a run, or the topology alone, where it was not taken; and so of a
+-- net
 abbrev pub OpensInOrder : Type 0 → Option Ask → Result (String Global) Fault → Files → (ℕ → Id) → (ℕ → Id) → Type 0
-OpensInOrder tells (Some (Run name options)) o file given ids = (IsRefusedEarly o × Opens (IsReadingOf name) given ids) ⊎ RunOpens tells name options o file given ids
+OpensInOrder tells (Some (Run name options)) o file given ids = (IsRefusedEarly o × Opens (IsReadingOf name) given ids)
+    ⊎ RunOpens tells name options o file given ids
 OpensInOrder tells (Some (Net name counters)) o file given ids = NetOpensInOrder tells name counters o file given ids
 OpensInOrder tells a o file given ids = ⊤
 
--- The same by the status, with the line that was printed: at 4 that of the last port of which a capture was opened, and at 10 that of a
--- port whose capture is named. At 6 no output was made, since the topology or a capture could not be read, or all were, since a capture
--- could not be read again.
-pub record RunOpened (tells printing : Type 0) (name : List ℕ) (options : Options) (status : ℕ) (file : Files) (given ids : ℕ → Id) (before after : List ℕ) : Type 0 where
+-- The same by the status, with the line that was printed: at 4 that of the last port of which a capture was opened, and
+-- at 10 that of a port whose capture is named. At 6 no output was made, since the topology or a capture could not be
+-- read, or all were, since a capture could not be read again.
+pub record RunOpened (tells printing : Type 0) (name : List ℕ) (options : Options) (status : ℕ) (file : Files)
+    (given ids : ℕ → Id) (before after : List ℕ) : Type 0 where
   pub topology : Topology
   pub holds : tells → HoldsTopology name file topology
   pub opened : Opens (λ i. IsReadingOf name i ⊎ IsFileOf options topology i) given ids
@@ -155,11 +165,16 @@ pub record RunOpened (tells printing : Type 0) (name : List ℕ) (options : Opti
   pub behind : MadeBehind topology.captures given ids
   pub all : (status ≡ 0) ⊎ (status ≡ 10) → count ≡ output_count (manifest_for topology options)
   pub six : status ≡ 6 → (count ≡ 0) ⊎ (count ≡ output_count (manifest_for topology options))
-  pub four : status ≡ 4 → (p : ℕ) × (flaw : InputFlaw) × (is_named topology.captures p ≡ true) × Opens (ReadsUpTo name topology p) given ids × (printing → after ≡ before ++ fault_line (Capture p flaw))
-  pub ten : status ≡ 10 → (p : ℕ) × (byte : ℕ) × (p < 4160) × (is_named topology.captures p ≡ true) × (printing → after ≡ before ++ fault_line (Changed p byte))
-  pub first : tells → (p : ℕ) (fault : Fault) → FirstFault topology.captures file p fault → Opens (ReadsUpTo name topology p) given ids
+  pub four : status ≡ 4 → (p : ℕ) × (flaw : InputFlaw) × (is_named topology.captures p ≡ true)
+      × Opens (ReadsUpTo name topology p) given ids × (printing → after ≡ before ++ fault_line (Capture p flaw))
+  pub ten : status ≡ 10 → (p : ℕ) × (byte : ℕ) × (p < 4160) × (is_named topology.captures p ≡ true)
+      × (printing → after ≡ before ++ fault_line (Changed p byte))
+  pub first : tells → (p : ℕ) (fault : Fault) → FirstFault topology.captures file p fault
+      → Opens (ReadsUpTo name topology p) given ids
 
 -- what a run opened, or the topology alone, at 1, 3, 5, 6 and 7
-abbrev pub OpenedInOrder : Type 0 → Type 0 → List ℕ → Options → ℕ → Files → (ℕ → Id) → (ℕ → Id) → List ℕ → List ℕ → Type 0
+abbrev pub OpenedInOrder : Type 0 → Type 0 → List ℕ → Options → ℕ → Files → (ℕ → Id) → (ℕ → Id) → List ℕ → List ℕ
+    → Type 0
 OpenedInOrder tells printing name options status file given ids before after =
-    ((status ≢ 0) × (status ≢ 4) × (status ≢ 10) × Opens (IsReadingOf name) given ids) ⊎ RunOpened tells printing name options status file given ids before after
+    ((status ≢ 0) × (status ≢ 4) × (status ≢ 10) × Opens (IsReadingOf name) given ids)
+    ⊎ RunOpened tells printing name options status file given ids before after

@@ -21,12 +21,15 @@ use Rattle.exb_outputs.specs.KindTexts.{output_text, IsWrittenAlong}
 use Rattle.exb_net.specs.Answers.{AreFrontsOfNet}
 
 -- ---- by their names
--- the file of each external port, the journal, and where it is asked for the trace: each is as it was, or holds a front of its text
+-- the file of each external port, the journal, and where it is asked for the trace: each is as it was, or holds a front
+-- of its text
 abbrev pub AreCutOf : Options → Shape → List ℕ → Files → Files → (OutputKind → List ℕ) → Type 0
-AreCutOf options tree prefix old new text = (o : OutputKind) → IsMade options tree o → IsWrittenAlong o → IsCut (old (file_name prefix o)) (new (file_name prefix o)) (text o)
+AreCutOf options tree prefix old new text = (o : OutputKind) → IsMade options tree o → IsWrittenAlong o
+    → IsCut (old (file_name prefix o)) (new (file_name prefix o)) (text o)
 
--- There is a history of the first segments of the input: each of these files is as it was or holds a front of its text over that history. So
--- the captures are fronts of what the one flat bridge sends over it, and the trace is a front of a legal trace of it.
+-- There is a history of the first segments of the input: each of these files is as it was or holds a front of its text
+-- over that history. So the captures are fronts of what the one flat bridge sends over it, and the trace is a front of
+-- a legal trace of it.
 pub record LeavesPart (options : Options) (t : Topology) (old new : Files) : Type 0 where
   pub history : History
   pub lines : List TraceLine
@@ -36,10 +39,13 @@ pub record LeavesPart (options : Options) (t : Topology) (old new : Files) : Typ
 
 -- no file has changed; or these hold no more than they begin with; or they hold parts
 abbrev pub LeavesParts : Options → Topology → Files → Files → Type 0
-LeavesParts options t old new = SameFiles old new ⊎ AreCutOf options (shape_of t.setup) t.prefix old new first_text ⊎ LeavesPart options t old new
+LeavesParts options t old new = SameFiles old new ⊎ AreCutOf options (shape_of t.setup) t.prefix old new first_text
+    ⊎ LeavesPart options t old new
 
--- so of the topology in the file of this name, if no file is the same; a net, which is played eagerly, leaves fronts of what it calls for
+-- so of the topology in the file of this name, if no file is the same; a net, which is played eagerly, leaves fronts of
+-- what it calls for
 abbrev pub AreParts : Option Ask → Files → Files → Type 0
-AreParts (Some (Run name options)) old new = SameFiles old new ⊎ ((t : Topology) × HoldsTopology name old t × LeavesParts options t old new)
+AreParts (Some (Run name options)) old new = SameFiles old new
+    ⊎ ((t : Topology) × HoldsTopology name old t × LeavesParts options t old new)
 AreParts (Some (Net name counters)) old new = AreFrontsOfNet name old new
 AreParts _ old new = SameFiles old new

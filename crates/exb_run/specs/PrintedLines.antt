@@ -18,11 +18,12 @@ pub record IsCounted (fault : Fault) (counted counts : Faults) : Type 0 where
 -- a line that can be printed, by its own status: that of a fault, or what says that what is asked for is done
 abbrev pub IsLineOf : Option Ask → Faults → Faults → ℕ → List ℕ → Type 0
 IsLineOf a counted counts own line =
-    ((fault : Fault) × CanCome a fault × IsCounted fault counted counts × (fault_status fault ≡ own) × (line ≡ fault_line fault))
+    ((fault : Fault) × CanCome a fault × IsCounted fault counted counts × (fault_status fault ≡ own)
+    × (line ≡ fault_line fault))
     ⊎ ((own ≡ 0) × SaysDone a line)
 
--- One line was to be printed. All of it was where the status is its own, but for 1 and 7, where a sink may have failed or wanted memory;
--- where the status is another, which is then 1 or 7, a front of it was printed that isn't all of it.
+-- One line was to be printed. All of it was where the status is its own, but for 1 and 7, where a sink may have failed
+-- or wanted memory; where the status is another, which is then 1 or 7, a front of it was printed that isn't all of it.
 pub record Prints (a : Option Ask) (counted counts : Faults) (status : ℕ) (before after : List ℕ) : Type 0 where
   pub own : ℕ
   pub line : List ℕ

@@ -18,7 +18,8 @@ use std::alloc::Global;
 /// The two lines that say what a setup needs.
 fn lines_of(alloc: Global, setup: &Setup) -> Result<String, Fault>
     requires { IsValid setup.now }
-    ensures lines { IfOk result (λ lines. string_bytes lines ≡ lines_of (needs_of setup.now) (limits_of setup.now)) }
+    ensures lines { IfOk result (λ lines. string_bytes lines
+        ≡ lines_of (needs_of setup.now) (limits_of setup.now)) }
     ensures memory { IfErr result (λ fault. fault ≡ Fault.Memory) }
 {
     let needs = Needs::of(alloc, setup)?;
@@ -31,8 +32,10 @@ pub(crate) fn check_topology<S: Shelf>(
     shelf: &mut S,
     name: &str,
 ) -> Result<String, Fault>
-    ensures came { CameOut S.tells (Some (Check name.now)) result (S.file shelf.old) (S.file shelf.new) }
-    ensures opens { OpensBy S.tells (status_of result) (Some (Check name.now)) (S.file shelf.old) (S.ids shelf.old) (S.ids shelf.new) }
+    ensures came { CameOut S.tells (Some (Check name.now)) result (S.file shelf.old)
+        (S.file shelf.new) }
+    ensures opens { OpensBy S.tells (status_of result) (Some (Check name.now)) (S.file shelf.old)
+        (S.ids shelf.old) (S.ids shelf.new) }
     ensures faults { CountsFaults result (S.faults shelf.old) (S.faults shelf.new) }
 {
     let topology = read_topology(alloc, shelf, name)?;

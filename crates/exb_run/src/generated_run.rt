@@ -18,7 +18,8 @@ use exb_shelf::ScratchShelf;
 use exb_topology_tables::Named;
 use std::alloc::Global;
 
-/// What the names of all files begin with that are written: none is the name of a capture that was made.
+/// What the names of all files begin with that are written: none is the name of a capture that was
+/// made.
 const PREFIX: &str = "out/";
 
 /// Puts a capture on a shelf, and names it behind others.
@@ -28,7 +29,8 @@ fn put_one(
     capture: &GeneratedCapture,
     names: &mut Vec<Named>,
 ) -> Result<(), NoMemory>
-    ensures { OnOk result (KeepsMore capture.now names.old.items names.new.items (scratch_files shelf.old) (scratch_files shelf.new)) }
+    ensures { OnOk result (KeepsMore capture.now names.old.items names.new.items
+        (scratch_files shelf.old) (scratch_files shelf.new)) }
 {
     let port = capture.port;
     let number = port.number();
@@ -45,7 +47,8 @@ fn put_all(
     shelf: &mut ScratchShelf,
     captures: &[GeneratedCapture],
 ) -> Result<Vec<Named>, NoMemory>
-    ensures { IfOk result (λ names. KeepsFirst captures.now captures.now names.items (scratch_files shelf.new)) }
+    ensures { IfOk result (λ names. KeepsFirst captures.now captures.now names.items
+        (scratch_files shelf.new)) }
 {
     let mut names = Vec::new(alloc);
     'putting: for capture in captures {
@@ -54,7 +57,8 @@ fn put_all(
     Ok(names)
 }
 
-/// Plays an input of which the captures are kept, and answers the summary line. Its number is for the contract alone.
+/// Plays an input of which the captures are kept, and answers the summary line. Its number is for
+/// the contract alone.
 fn play_kept(
     alloc: Global,
     number: u64,
@@ -64,7 +68,8 @@ fn play_kept(
     fate: Box<dyn Fate>,
 ) -> Result<String, Fault>
     requires made { IsInputOf number input.now }
-    requires kept { KeepsFirst input.now.captures.items input.now.captures.items names.now (scratch_files shelf.old) }
+    requires kept { KeepsFirst input.now.captures.items input.now.captures.items names.now
+        (scratch_files shelf.old) }
     requires fate { left fate < 2 ^ 56 }
     ensures line { IfOk result (λ line. string_bytes line ≡ eager_summary (made number)) }
     ensures memory { IfErr result (λ fault. fault ≡ Fault.Memory) }

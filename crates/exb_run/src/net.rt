@@ -12,7 +12,8 @@ use exb_net::play_net;
 use exb_shelf::Shelf;
 use std::alloc::Global;
 
-/// Reads the net in the file of this name, plays it, and answers the summary line of all its bridges.
+/// Reads the net in the file of this name, plays it, and answers the summary line of all its
+/// bridges.
 pub(crate) fn run_net<S: Shelf>(
     alloc: Global,
     shelf: &mut S,
@@ -24,9 +25,12 @@ pub(crate) fn run_net<S: Shelf>(
     requires fate { left fate < 2 ^ 56 }
     requires many { 15 ≤ length more.items }
     requires each { All (λ f. left f < 2 ^ 56) more.items }
-    ensures came { CameOut S.tells (Some (Net name.now counters)) result (S.file shelf.old) (S.file shelf.new) }
-    ensures opens { OpensBy S.tells (status_of result) (Some (Net name.now counters)) (S.file shelf.old) (S.ids shelf.old) (S.ids shelf.new) }
-    ensures order { OpensInOrder S.tells (Some (Net name.now counters)) result (S.file shelf.old) (S.ids shelf.old) (S.ids shelf.new) }
+    ensures came { CameOut S.tells (Some (Net name.now counters)) result (S.file shelf.old)
+        (S.file shelf.new) }
+    ensures opens { OpensBy S.tells (status_of result) (Some (Net name.now counters))
+        (S.file shelf.old) (S.ids shelf.old) (S.ids shelf.new) }
+    ensures order { OpensInOrder S.tells (Some (Net name.now counters)) result (S.file shelf.old)
+        (S.ids shelf.old) (S.ids shelf.new) }
     ensures faults { CountsFaults result (S.faults shelf.old) (S.faults shelf.new) }
 {
     play_net(alloc, shelf, name, counters, fate, more)

@@ -59,36 +59,51 @@ fn play_topology<S: Shelf>(
     requires valid { IsValid topology.now.setup }
     requires sound { IsSound topology.now }
     requires fate { left fate < 2 ^ 56 }
-    ensures good { S.tells → IfOk result (λ line. AreAllGood topology.now.captures (S.file shelf.old)) }
+    ensures good { S.tells → IfOk result (λ line. AreAllGood topology.now.captures
+        (S.file shelf.old)) }
     ensures done { S.tells → IfOk result (λ line.
-        IsPlayed (mode_for options.seed) options (input_of topology.now (S.file shelf.old)) topology.now.prefix
+        IsPlayed (mode_for options.seed) options (input_of topology.now (S.file shelf.old))
+        topology.now.prefix
         (S.file shelf.old) (S.file shelf.new) (string_bytes line)) }
     ensures says { IfOk result (λ line. IsSummary (string_bytes line)) }
     ensures fronts { S.tells → mode_for options.seed ≡ Eager
-        → AreFrontsOf (input_of topology.now (S.file shelf.old)) topology.now.prefix (S.file shelf.old) (S.file shelf.new) }
-    ensures parts { S.tells → LeavesParts options topology.now (S.file shelf.old) (S.file shelf.new) }
+        → AreFrontsOf (input_of topology.now (S.file shelf.old)) topology.now.prefix
+        (S.file shelf.old) (S.file shelf.new) }
+    ensures parts { S.tells → LeavesParts options topology.now (S.file shelf.old)
+        (S.file shelf.new) }
 
     // Each fault has its cause.
     ensures cause { S.tells → IfErr result (λ fault.
-        ((p : ℕ) × FirstFault topology.now.captures (S.file shelf.old) p fault) ⊎ (fault ≡ Fault.Read) ⊎ (fault ≡ Fault.Write) ⊎ (fault ≡ Fault.Memory)) }
-    ensures stops { S.tells → (p : ℕ) (fault : Fault) → FirstFault topology.now.captures (S.file shelf.old) p fault
+        ((p : ℕ) × FirstFault topology.now.captures (S.file shelf.old) p fault)
+        ⊎ (fault ≡ Fault.Read) ⊎ (fault ≡ Fault.Write) ⊎ (fault ≡ Fault.Memory)) }
+    ensures stops { S.tells → (p : ℕ) (fault : Fault)
+        → FirstFault topology.now.captures (S.file shelf.old) p fault
         → IsErrOf result fault ⊎ IsErrOf result Fault.Read ⊎ IsErrOf result Fault.Memory }
     ensures causes { IfErr result IsOfPlaying }
 
     // What stays, and what is opened.
-    ensures early { IfErr result (λ fault. IsOfPlay fault ⊎ SameFiles (S.file shelf.old) (S.file shelf.new)) }
-    ensures stopped { S.tells → (p : ℕ) (fault : Fault) → FirstFault topology.now.captures (S.file shelf.old) p fault
+    ensures early { IfErr result (λ fault. IsOfPlay fault
+        ⊎ SameFiles (S.file shelf.old) (S.file shelf.new)) }
+    ensures stopped { S.tells → (p : ℕ) (fault : Fault)
+        → FirstFault topology.now.captures (S.file shelf.old) p fault
         → SameFiles (S.file shelf.old) (S.file shelf.new) }
-    ensures others { S.tells → OnlyOutputs options (shape_of topology.now.setup) topology.now.prefix (S.file shelf.old) (S.file shelf.new) }
-    ensures opened { IfErr result (λ fault. IsOfPlay fault ⊎ Opens (ReadsCapture topology.now.captures) (S.ids shelf.old) (S.ids shelf.new)) }
-    ensures played { S.tells → Opens (IsOpenedFor options topology.now (S.file shelf.old)) (S.ids shelf.old) (S.ids shelf.new) }
+    ensures others { S.tells → OnlyOutputs options (shape_of topology.now.setup) topology.now.prefix
+        (S.file shelf.old) (S.file shelf.new) }
+    ensures opened { IfErr result (λ fault. IsOfPlay fault
+        ⊎ Opens (ReadsCapture topology.now.captures) (S.ids shelf.old) (S.ids shelf.new)) }
+    ensures played { S.tells → Opens (IsOpenedFor options topology.now (S.file shelf.old))
+        (S.ids shelf.old) (S.ids shelf.new) }
     ensures files { Opens (IsFileOf options topology.now) (S.ids shelf.old) (S.ids shelf.new) }
-    ensures made { MakesInOrder (manifest_for topology.now options) result (S.ids shelf.old) (S.ids shelf.new) }
+    ensures made { MakesInOrder (manifest_for topology.now options) result (S.ids shelf.old)
+        (S.ids shelf.new) }
     ensures behind { MadeBehind topology.now.captures (S.ids shelf.old) (S.ids shelf.new) }
-    ensures port { IfErr result (λ fault. (p at : ℕ) → fault ≡ Fault.Changed p at → is_named topology.now.captures p ≡ true) }
-    ensures own { (p : ℕ) (flaw : InputFlaw) → IsErrOf result (Fault.Capture p flaw) → (is_named topology.now.captures p ≡ true)
+    ensures port { IfErr result (λ fault. (p at : ℕ) → fault ≡ Fault.Changed p at
+        → is_named topology.now.captures p ≡ true) }
+    ensures own { (p : ℕ) (flaw : InputFlaw) → IsErrOf result (Fault.Capture p flaw)
+        → (is_named topology.now.captures p ≡ true)
         × Opens (ReadsBelow topology.now.captures (p + 1)) (S.ids shelf.old) (S.ids shelf.new) }
-    ensures upto { S.tells → (p : ℕ) (fault : Fault) → FirstFault topology.now.captures (S.file shelf.old) p fault
+    ensures upto { S.tells → (p : ℕ) (fault : Fault)
+        → FirstFault topology.now.captures (S.file shelf.old) p fault
         → Opens (ReadsBelow topology.now.captures (p + 1)) (S.ids shelf.old) (S.ids shelf.new) }
     ensures faults { CountsFaults result (S.faults shelf.old) (S.faults shelf.new) }
 {
@@ -116,7 +131,8 @@ fn play_topology<S: Shelf>(
     played
 }
 
-/// Reads the topology of this name, plays it, and answers the summary line. Within `work` a frame would take a few instructions more.
+/// Reads the topology of this name, plays it, and answers the summary line. Within `work` a frame
+/// would take a few instructions more.
 #[inline(never)]
 fn run_topology<S: Shelf>(
     alloc: Global,
@@ -126,9 +142,12 @@ fn run_topology<S: Shelf>(
     fate: Box<dyn Fate>,
 ) -> Result<String, Fault>
     requires { left fate < 2 ^ 56 }
-    ensures came { CameOut S.tells (Some (Run name.now options)) result (S.file shelf.old) (S.file shelf.new) }
-    ensures opens { OpensBy S.tells (status_of result) (Some (Run name.now options)) (S.file shelf.old) (S.ids shelf.old) (S.ids shelf.new) }
-    ensures order { OpensInOrder S.tells (Some (Run name.now options)) result (S.file shelf.old) (S.ids shelf.old) (S.ids shelf.new) }
+    ensures came { CameOut S.tells (Some (Run name.now options)) result (S.file shelf.old)
+        (S.file shelf.new) }
+    ensures opens { OpensBy S.tells (status_of result) (Some (Run name.now options))
+        (S.file shelf.old) (S.ids shelf.old) (S.ids shelf.new) }
+    ensures order { OpensInOrder S.tells (Some (Run name.now options)) result (S.file shelf.old)
+        (S.ids shelf.old) (S.ids shelf.new) }
     ensures faults { CountsFaults result (S.faults shelf.old) (S.faults shelf.new) }
 {
     let topology = read_topology(alloc, shelf, name)?;
@@ -153,8 +172,10 @@ fn work<S: Shelf>(
     ensures makes { (number : ℕ) → asked words.now ≡ Some (Make number)
         → IfOk result (λ line. string_bytes line ≡ eager_summary (made number)) }
     ensures alone { (number : ℕ) → asked words.now ≡ Some (Make number) → shelf.new ≡ shelf.old }
-    ensures opens { OpensBy S.tells (status_of result) (asked words.now) (S.file shelf.old) (S.ids shelf.old) (S.ids shelf.new) }
-    ensures order { OpensInOrder S.tells (asked words.now) result (S.file shelf.old) (S.ids shelf.old) (S.ids shelf.new) }
+    ensures opens { OpensBy S.tells (status_of result) (asked words.now) (S.file shelf.old)
+        (S.ids shelf.old) (S.ids shelf.new) }
+    ensures order { OpensInOrder S.tells (asked words.now) result (S.file shelf.old)
+        (S.ids shelf.old) (S.ids shelf.new) }
     ensures faults { CountsFaults result (S.faults shelf.old) (S.faults shelf.new) }
 {
     match accept(words) {
@@ -183,16 +204,26 @@ pub fn run<S: Shelf, O: Sink>(
     requires fate { left fate < 2 ^ 56 }
     requires many { 15 ≤ length more.items }
     requires each { All (λ f. left f < 2 ^ 56) more.items }
-    // 0: all that the words ask for was read, played and written, and the sink got the text that says so and nothing else. The headline is here.
-    ensures done { Done S.tells O.tells (asked words.now) result (S.file shelf.old) (S.file shelf.new) (O.text out.old) (O.text out.new) }
-    // 2, 3, 4, 5, 11 and 12: exactly by the first fault of the words, or of what they ask for. Its line is printed, and no file has changed.
-    ensures refused { Refused S.tells O.tells (asked words.now) result (S.file shelf.old) (S.file shelf.new) (O.faults out.old) (O.faults out.new) (O.text out.old) (O.text out.new) }
-    // 1, 6, 7 and 10: memory ran out, or the shelf or the sink failed and counted that, once; nothing is tried again. Else what can be done is done.
-    ensures broken { Broken S.tells O.tells (asked words.now) result (S.file shelf.old) (S.file shelf.new) (S.faults shelf.old) (S.faults shelf.new)
-        (S.ids shelf.old) (S.ids shelf.new) (O.faults out.old) (O.faults out.new) (O.text out.old) (O.text out.new) }
-    // However it ended: what is printed, which files stay and what the others hold, and what was opened, in which order.
-    ensures leaves { Leaves S.tells O.tells (asked words.now) result (S.file shelf.old) (S.file shelf.new) (S.faults shelf.old) (S.faults shelf.new)
-        (S.ids shelf.old) (S.ids shelf.new) (O.faults out.old) (O.faults out.new) (O.text out.old) (O.text out.new) }
+    // 0: all that the words ask for was read, played and written, and the sink got the text that
+    // says so and nothing else. The headline is here.
+    ensures done { Done S.tells O.tells (asked words.now) result (S.file shelf.old)
+        (S.file shelf.new) (O.text out.old) (O.text out.new) }
+    // 2, 3, 4, 5, 11 and 12: exactly by the first fault of the words, or of what they ask for. Its
+    // line is printed, and no file has changed.
+    ensures refused { Refused S.tells O.tells (asked words.now) result (S.file shelf.old)
+        (S.file shelf.new) (O.faults out.old) (O.faults out.new) (O.text out.old) (O.text out.new) }
+    // 1, 6, 7 and 10: memory ran out, or the shelf or the sink failed and counted that, once;
+    // nothing is tried again. Else what can be done is done.
+    ensures broken { Broken S.tells O.tells (asked words.now) result (S.file shelf.old)
+        (S.file shelf.new) (S.faults shelf.old) (S.faults shelf.new)
+        (S.ids shelf.old) (S.ids shelf.new) (O.faults out.old) (O.faults out.new) (O.text out.old)
+        (O.text out.new) }
+    // However it ended: what is printed, which files stay and what the others hold, and what was
+    // opened, in which order.
+    ensures leaves { Leaves S.tells O.tells (asked words.now) result (S.file shelf.old)
+        (S.file shelf.new) (S.faults shelf.old) (S.faults shelf.new)
+        (S.ids shelf.old) (S.ids shelf.new) (O.faults out.old) (O.faults out.new) (O.text out.old)
+        (O.text out.new) }
     // Which statuses can come; and to make an input asks nothing of the shelf.
     ensures status { IsStatus (asked words.now) result }
     ensures alone { (number : ℕ) → asked words.now ≡ Some (Make number) → shelf.new ≡ shelf.old }

@@ -14,12 +14,14 @@ const ONE: &str =
 const CLASSIC: &str =
     "D4C3B2A1 02000400 8x00 00000400 01000000 64000000 00000000 3C000000 3C000000 60x00";
 
-/// The same as pcapng: a section, an interface of Ethernet in microseconds, and at byte 48 the packet.
+/// The same as pcapng: a section, an interface of Ethernet in microseconds, and at byte 48 the
+/// packet.
 const BLOCKS: &str =
     "0A0D0D0A 1C000000 4D3C2B1A 01000000 8xFF 1C000000 01000000 14000000 01000000 00000400 14000000 06000000 5C000000 00000000 00000000 00E1F505 3C000000 3C000000 60x00 5C000000";
 
-/// What stands in the place of the classic one when it is read again, and the byte at which it changed: one that ends sooner, one that goes on, one of
-/// another kind, one that begins sooner, and none that is read.
+/// What stands in the place of the classic one when it is read again, and the byte at which it
+/// changed: one that ends sooner, one that goes on, one of another kind, one that begins sooner,
+/// and none that is read.
 const CLASSIC_CHANGED: &str =
     "D4C3B2A1 02000400 8x00 00000400 01000000 64000000 00000000 3C000000 3C000000 59x00>24\n\
      D4C3B2A1 02000400 8x00 00000400 01000000 64000000 00000000 3C000000 3C000000 61x00>100\n\
@@ -27,8 +29,9 @@ const CLASSIC_CHANGED: &str =
      D4C3B2A1 02000400 8x00 00000400 01000000 63000000 00000000 3C000000 3C000000 60x00>24\n\
      100x00>0";
 
-/// In the place of the other: one that ends sooner, one that goes on with a skipped block, one of another kind, one without that interface, one
-/// whose packet's lengths differ, one that begins sooner, and one without a packet.
+/// In the place of the other: one that ends sooner, one that goes on with a skipped block, one of
+/// another kind, one without that interface, one whose packet's lengths differ, one that begins
+/// sooner, and one without a packet.
 const BLOCKS_CHANGED: &str =
     "0A0D0D0A 1C000000 4D3C2B1A 01000000 8xFF 1C000000 01000000 14000000 01000000 00000400 14000000 06000000 5C000000 00000000 00000000 00E1F505 3C000000 3C000000 60x00 5C0000>48\n\
      0A0D0D0A 1C000000 4D3C2B1A 01000000 8xFF 1C000000 01000000 14000000 01000000 00000400 14000000 06000000 5C000000 00000000 00000000 00E1F505 3C000000 3C000000 60x00 5C000000 05000000 10000000 00000000 10000000>140\n\
@@ -43,7 +46,8 @@ fn put_there(rt: &impl Abort, shelf: &mut ChangingShelf, name: &str, bytes: &[u8
     shelf.put(name, bytes).expect(rt, "memory");
 }
 
-// A shelf with a topology and a capture, in the place of which another one stands when it is read again.
+// A shelf with a topology and a capture, in the place of which another one stands when it is read
+// again.
 fn changing_shelf(rt: &impl Abort, alloc: Global, first: &str, again: &str) -> ChangingShelf {
     let again = bytes_of(rt, alloc, again);
     let mut shelf = ChangingShelf::new(alloc, "zeros.pcap", again.as_slice()).expect(rt, "memory");

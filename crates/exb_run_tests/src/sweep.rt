@@ -1,7 +1,8 @@
-//! Whole runs of which each call of shelf and sink is disturbed in turn: it fails, wants memory, or moves fewer bytes than it could.
-//! The status is the one that this means, what is printed is its line or a front of the summary, and each file that the run makes
-//! is absent, as it was, or a front of what the undisturbed run writes, and holds all that the shelf took for it. Where nothing failed
-//! all is whole.
+//! Whole runs of which each call of shelf and sink is disturbed in turn: it fails, wants memory, or
+//! moves fewer bytes than it could. The status is the one that this means, what is printed is its
+//! line or a front of the summary, and each file that the run makes is absent, as it was, or a
+//! front of what the undisturbed run writes, and holds all that the shelf took for it. Where
+//! nothing failed all is whole.
 mod runs;
 
 use crate::compare::{holds, same_status};
@@ -209,7 +210,8 @@ impl<'a> SweepBench<'a> {
         self.judge_read(rt, played, self.site.run.captures);
     }
 
-    // Asserts what comes of a run whose calls are disturbed: this status, this line or a front of it, and the files.
+    // Asserts what comes of a run whose calls are disturbed: this status, this line or a front of
+    // it, and the files.
     fn judge(
         &self,
         rt: &impl Abort,
@@ -255,7 +257,8 @@ impl<'a> SweepBench<'a> {
         self.judge_call(rt, call.asked, Disturbance::WantsMemory { at });
     }
 
-    // Whether a call that could move so many bytes is tried with these: with all of them in the run of the fewest files, else with some.
+    // Whether a call that could move so many bytes is tried with these: with all of them in the run
+    // of the fewest files, else with some.
     fn is_tried(&self, bytes: usize, moved: usize) -> bool {
         let step = (moved / 6).saturating_add(1);
         let some = bytes == 1 || moved.saturating_sub(bytes) == 1 || bytes % step == 0;
@@ -399,7 +402,8 @@ fn judge_writes(rt: &impl Abort, bench: &SweepBench<'_>) {
     holds(rt, bench.whole.out.calls().len() == 1, "lines");
 }
 
-// A bench for a run, over texts that are there under the names of its outputs; none is where the text is empty.
+// A bench for a run, over texts that are there under the names of its outputs; none is where the
+// text is empty.
 fn bench_of<'a>(rt: &impl Abort, alloc: Global, run: &'a Run, before: &'a str) -> SweepBench<'a> {
     let bench = SweepBench::new(rt, alloc, run, before);
     judge_reads(rt, &bench);
@@ -407,7 +411,8 @@ fn bench_of<'a>(rt: &impl Abort, alloc: Global, run: &'a Run, before: &'a str) -
     bench
 }
 
-// Has each call of a run fail or want memory, where nothing is there under the names of its outputs.
+// Has each call of a run fail or want memory, where nothing is there under the names of its
+// outputs.
 fn fail_fresh(rt: &impl Abort, alloc: Global, run: &Run) {
     let bench = bench_of(rt, alloc, run, "");
     bench.fail(rt);

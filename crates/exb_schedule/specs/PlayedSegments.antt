@@ -15,15 +15,16 @@ use Rattle.exb_model.specs.declared.arrival.Arrival.{Arrival}
 use Rattle.exb_schedule.specs.SeededSegments.{seconds_of}
 use Rattle.exb_schedule.specs.StepSequences.{HasRun}
 
--- These steps let the seconds pass in one tick, where there are any, and give the commands, in order, and the arrivals, each once and in
--- any order; none of them marks.
+-- These steps let the seconds pass in one tick, where there are any, and give the commands, in order, and the arrivals,
+-- each once and in any order; none of them marks.
 pub record GivesThese (seconds : ℕ) (cs : List Timed) (frames : List Arrival) (steps : List Step) : Type 0 where
   pub time : seconds_in steps ≡ seconds_of seconds
   pub commands : commands_of (given_in steps) ≡ map (λ (c : Timed). c.command) cs
   pub arrivals : IsPermutation (arrivals_of (given_in steps)) frames
   pub unmarked : Each IsUnmarked steps
 
--- These steps were made, each of which might be made when its turn came; then all settled, by moves alone, and was marked.
+-- These steps were made, each of which might be made when its turn came; then all settled, by moves alone, and was
+-- marked.
 pub record IsPlayedOut (steps : List Step) (old new : Network) : Type 0 where
   pub moves : List Step
   pub only : machine.Each IsMove moves

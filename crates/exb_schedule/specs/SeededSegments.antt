@@ -46,13 +46,15 @@ pub record IsReady (n : Network) (seconds : ℕ) (cs : List Timed) (frames : Lis
   pub comes : MayComeAll (tree_of n) (world_of n).next frames
 
 -- ---- what was given
--- Of a segment with these seconds, commands and arrivals so many seconds are left, the first commands were given, and the arrivals
--- that are flagged; what is left can be given.
-pub record HasDrawn (all : ℕ) (cs : List Timed) (frames : List Arrival) (seconds taken : ℕ) (given : List Bool) (old now : Network) : Type 0 where
+-- Of a segment with these seconds, commands and arrivals so many seconds are left, the first commands were given, and
+-- the arrivals that are flagged; what is left can be given.
+pub record HasDrawn (all : ℕ) (cs : List Timed) (frames : List Arrival) (seconds taken : ℕ) (given : List Bool)
+    (old now : Network) : Type 0 where
   pub steps : List Step
   pub made : HasRun steps old now
   pub time : seconds_in steps ++ seconds_of seconds ≡ seconds_of all
-  pub commands : commands_of (given_in steps) ++ map (λ (c : Timed). c.command) (drop taken cs) ≡ map (λ (c : Timed). c.command) cs
+  pub commands : commands_of (given_in steps) ++ map (λ (c : Timed). c.command) (drop taken cs)
+      ≡ map (λ (c : Timed). c.command) cs
   pub arrivals : IsPermutation (arrivals_of (given_in steps) ++ left_of given frames) frames
   pub unmarked : Each IsUnmarked steps
   pub whole : length given ≡ length frames
@@ -61,12 +63,14 @@ pub record HasDrawn (all : ℕ) (cs : List Timed) (frames : List Arrival) (secon
 -- So it goes on: of any segment with these commands and arrivals.
 abbrev pub GoesOn : List Timed → List Arrival → RemainingInput → RemainingInput → Network → Network → Type 0
 GoesOn cs frames r s now new =
-    (all : ℕ) (old : Network) → HasDrawn all cs frames r.seconds r.taken r.given.items old now → HasDrawn all cs frames s.seconds s.taken s.given.items old new
+    (all : ℕ) (old : Network) → HasDrawn all cs frames r.seconds r.taken r.given.items old now
+    → HasDrawn all cs frames s.seconds s.taken s.given.items old new
 
 -- a move alone, which gives nothing of any segment
 abbrev pub Keeps : Network → Network → Type 0
 Keeps now new =
-    (all : ℕ) (cs : List Timed) (frames : List Arrival) (seconds taken : ℕ) (given : List Bool) (old : Network) → HasDrawn all cs frames seconds taken given old now → HasDrawn all cs frames seconds taken given old new
+    (all : ℕ) (cs : List Timed) (frames : List Arrival) (seconds taken : ℕ) (given : List Bool) (old : Network)
+    → HasDrawn all cs frames seconds taken given old now → HasDrawn all cs frames seconds taken given old new
 
 -- Of a segment all was given, in an order that its commands keep.
 pub record IsDrawn (seconds : ℕ) (cs : List Timed) (frames : List Arrival) (old now : Network) : Type 0 where

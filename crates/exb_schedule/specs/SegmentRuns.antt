@@ -49,9 +49,10 @@ pub record IsSegment (i : Input) (s : Segment) (seconds : ℕ) (cs : List Timed)
   pub arrivals_are : s.arrivals ≡ frames
 
 -- ---- a run so far
--- After the opening and these segments of an input, each settled and marked, this was told, with whether each relayed frame passed,
--- and this has left; these are the lines of the trace, where one is kept, and else there are none.
-pub record HasPlayed (m : Mode) (i : Input) (so_far : List Segment) (n : Network) (events : List Event) (passed : List Bool) (left : List Left) (lines : List TraceLine) : Type 0 where
+-- After the opening and these segments of an input, each settled and marked, this was told, with whether each relayed
+-- frame passed, and this has left; these are the lines of the trace, where one is kept, and else there are none.
+pub record HasPlayed (m : Mode) (i : Input) (so_far : List Segment) (n : Network) (events : List Event)
+    (passed : List Bool) (left : List Left) (lines : List TraceLine) : Type 0 where
   pub done : Stepped
   pub plays : PlaysIn m i so_far done
   pub tree : shape_in n ≡ tree_of i
@@ -63,9 +64,13 @@ pub record HasPlayed (m : Mode) (i : Input) (so_far : List Segment) (n : Network
   pub traced : n.log.tracing ≡ true → lines ≡ all_told done.lines
   pub silent : n.log.tracing ≡ false → lines ≡ []
 
--- One segment more is played, whatever was played before: with what the network told and has left since then behind that of before.
+-- One segment more is played, whatever was played before: with what the network told and has left since then behind
+-- that of before.
 abbrev pub PlaysOn : Mode → ℕ → List Timed → List Arrival → Network → Network → Type 0
 PlaysOn m seconds cs frames old new =
-    (i : Input) (so_far : List Segment) (s : Segment) (events : List Event) (passed : List Bool) (left : List Left) (lines : List TraceLine) → IsSegment i s seconds cs frames →
-    HasPlayed m i so_far old (events ++ old.log.events) (passed ++ old.log.passed) (left ++ all_left old.log.left) (lines ++ old.log.lines) →
-    HasPlayed m i (so_far ++ s ∷ []) new (events ++ new.log.events) (passed ++ new.log.passed) (left ++ all_left new.log.left) (lines ++ new.log.lines)
+    (i : Input) (so_far : List Segment) (s : Segment) (events : List Event) (passed : List Bool) (left : List Left)
+    (lines : List TraceLine) → IsSegment i s seconds cs frames →
+    HasPlayed m i so_far old (events ++ old.log.events) (passed ++ old.log.passed) (left ++ all_left old.log.left)
+    (lines ++ old.log.lines) →
+    HasPlayed m i (so_far ++ s ∷ []) new (events ++ new.log.events) (passed ++ new.log.passed)
+    (left ++ all_left new.log.left) (lines ++ new.log.lines)

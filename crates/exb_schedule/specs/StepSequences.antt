@@ -11,8 +11,8 @@ use Rattle.exb_world.specs.WorldContracts.{Network, world_of, tree_of, bounds_of
 use Rattle.exb_bridge.specs.BridgeWorlds.{all_left}
 use Rattle.exb_world_spec.specs.Runs.ReachedWorlds.{MayTakeAll}
 
--- The network is where this was done: its world is that, and what was told and has left stands behind what was told and had left
--- before; so do the lines of its trace, where one is kept, and else none is added.
+-- The network is where this was done: its world is that, and what was told and has left stands behind what was told and
+-- had left before; so do the lines of its trace, where one is kept, and else none is added.
 pub record IsMoved (done : Stepped) (old new : Network) : Type 0 where
   pub world : world_of new ≡ done.world
   pub events : new.log.events ≡ old.log.events ++ done.events

@@ -14,8 +14,8 @@ use exb_fate::Fate;
 use exb_model::setup::Verdict;
 use exb_world::{Way, World, WorldFault};
 
-/// Asks the fate of a control word that is free, and does what it says: the word is delivered, lost, delivered and kept, or left.
-/// Answers the place of the next one.
+/// Asks the fate of a control word that is free, and does what it says: the word is delivered,
+/// lost, delivered and kept, or left. Answers the place of the next one.
 #[cold]
 #[inline(never)]
 pub(crate) fn take_control(
@@ -28,7 +28,8 @@ pub(crate) fn take_control(
     requires there { is_extender (tree_of world.old) link ≡ true }
     requires free { place < leading (words_on link (way_of way) (world_of world.old)) }
     requires low { place + 1 < 2 ^ 64 }
-    ensures ok { IfOk result (λ next. HasTaken link (way_of way) place next (left fate.old) (left fate.new) world.old world.new) }
+    ensures ok { IfOk result (λ next. HasTaken link (way_of way) place next (left fate.old)
+        (left fate.new) world.old world.new) }
     ensures failed { OnErr result ((result ≡ Err WorldFault.Failed) ↔ (world.old.failed ≡ true)) }
     ensures memory { OnErr result (world.new.failed ≡ true) }
     ensures falls { left fate.new ≤ left fate.old }
@@ -50,7 +51,8 @@ pub(crate) fn take_control(
     }
 }
 
-/// Looks at the next word of a direction: a data word is carried, and of a control word the fate is asked. It is no longer left.
+/// Looks at the next word of a direction: a data word is carried, and of a control word the fate is
+/// asked. It is no longer left.
 #[inline(always)]
 fn take_next(
     world: &mut World,
@@ -63,9 +65,12 @@ fn take_next(
     requires next { AreNext link (way_of way) (world_of world.old) rest.old }
     requires some { 0 < rest.old.frames + rest.old.control }
     requires low { rest.old.place + rest.old.control < 2 ^ 64 }
-    ensures ok { (whole : List Verdict → Played) (before : ℕ) (old : Network) → GoesThrough link (way_of way) whole before (left fate.old) old world.old rest.old
-        → OnOk result (GoesThrough link (way_of way) whole before (left fate.new) old world.new rest.new) }
-    ensures fewer { OnOk result (rest.new.frames + rest.new.control + 1 ≡ rest.old.frames + rest.old.control) }
+    ensures ok { (whole : List Verdict → Played) (before : ℕ) (old : Network)
+        → GoesThrough link (way_of way) whole before (left fate.old) old world.old rest.old
+        → OnOk result (GoesThrough link (way_of way) whole before (left fate.new) old world.new
+        rest.new) }
+    ensures fewer { OnOk result (rest.new.frames + rest.new.control + 1
+        ≡ rest.old.frames + rest.old.control) }
     ensures low { OnOk result (rest.new.place + rest.new.control < 2 ^ 64) }
     ensures failed { OnErr result ((result ≡ Err WorldFault.Failed) ↔ (world.old.failed ≡ true)) }
     ensures memory { OnErr result (world.new.failed ≡ true) }
@@ -85,7 +90,9 @@ fn take_next(
 #[inline(always)]
 fn go_through(world: &mut World, fate: &mut dyn Fate, link: u8, way: Way) -> Result<(), WorldFault>
     requires { is_extender (tree_of world.old) link ≡ true }
-    ensures ok { OnOk result (HasAsked (goes_along (tree_of world.old) (bounds_of world.old) (direction (way_of way) link) (world_of world.old)) (left fate.old) (left fate.new) world.old world.new) }
+    ensures ok { OnOk result (HasAsked (goes_along (tree_of world.old) (bounds_of world.old)
+        (direction (way_of way) link) (world_of world.old)) (left fate.old) (left fate.new)
+        world.old world.new) }
     ensures failed { OnErr result ((result ≡ Err WorldFault.Failed) ↔ (world.old.failed ≡ true)) }
     ensures memory { OnErr result (world.new.failed ≡ true) }
     ensures falls { left fate.new ≤ left fate.old }
@@ -102,12 +109,13 @@ fn go_through(world: &mut World, fate: &mut dyn Fate, link: u8, way: Way) -> Res
     Ok(())
 }
 
-/// Goes through all directions of one way that have a word when their turn comes: up from the deepest extender, down from
-/// the bridge.
+/// Goes through all directions of one way that have a word when their turn comes: up from the
+/// deepest extender, down from the bridge.
 #[inline(always)]
 fn go_one_way(world: &mut World, fate: &mut dyn Fate, way: Way) -> Result<(), WorldFault>
     requires { ⊤ }
-    ensures ok { OnOk result (HasAsked (goes_one_way (tree_of world.old) (bounds_of world.old) (way_of way) (world_of world.old)) (left fate.old) (left fate.new) world.old world.new) }
+    ensures ok { OnOk result (HasAsked (goes_one_way (tree_of world.old) (bounds_of world.old)
+        (way_of way) (world_of world.old)) (left fate.old) (left fate.new) world.old world.new) }
     ensures failed { OnErr result ((result ≡ Err WorldFault.Failed) ↔ (world.old.failed ≡ true)) }
     ensures memory { OnErr result (world.new.failed ≡ true) }
     ensures falls { left fate.new ≤ left fate.old }
@@ -120,12 +128,14 @@ fn go_one_way(world: &mut World, fate: &mut dyn Fate, way: Way) -> Result<(), Wo
     Ok(())
 }
 
-/// One round: the words that stand on the links upwards are gone through once, from the deepest extender, then those downwards,
-/// from the bridge; data words are taken, and the fate is asked of each control word. Then one beat passes.
+/// One round: the words that stand on the links upwards are gone through once, from the deepest
+/// extender, then those downwards, from the bridge; data words are taken, and the fate is asked of
+/// each control word. Then one beat passes.
 #[inline(never)]
 pub fn round(world: &mut World, fate: &mut dyn Fate) -> Result<(), WorldFault>
     requires { ⊤ }
-    ensures ok { OnOk result (HasAsked (round (tree_of world.old) (bounds_of world.old) (world_of world.old)) (left fate.old) (left fate.new) world.old world.new) }
+    ensures ok { OnOk result (HasAsked (round (tree_of world.old) (bounds_of world.old)
+        (world_of world.old)) (left fate.old) (left fate.new) world.old world.new) }
     ensures failed { (result ≡ Err WorldFault.Failed) ↔ (world.old.failed ≡ true) }
     ensures memory { OnErr result (world.new.failed ≡ true) }
     ensures falls { left fate.new ≤ left fate.old }

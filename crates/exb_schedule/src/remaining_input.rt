@@ -51,7 +51,8 @@ pub(crate) fn arrive<'a>(arrival: &'a Arrival) -> Step<'a>
 /// Whether an arrival may come now, where memory hasn't run out.
 pub(crate) fn can_come(world: &World, commands: &[Timed], arrivals: &[Arrival], at: usize) -> bool
     requires { at < length arrivals.now }
-    ensures { result ≡ true → (a : _) → a ≡ slice_index_or arrivals.now at a → Can (tree_of world.now) (world_of world.now) (Arrive a) }
+    ensures { result ≡ true → (a : _) → a ≡ slice_index_or arrivals.now at a
+        → Can (tree_of world.now) (world_of world.now) (Arrive a) }
 {
     // a step may hold a command: a parameter of that type is asked for where a step is made
     let _ = commands;
@@ -60,8 +61,10 @@ pub(crate) fn can_come(world: &World, commands: &[Timed], arrivals: &[Arrival], 
 
 /// Lets the seconds pass, if any are left.
 pub(crate) fn pass(world: &mut World, rest: &mut RemainingInput) -> Result<(), WorldFault>
-    requires can { rest.old.seconds ≢ 0 → Can (tree_of world.old) (world_of world.old) (Tick rest.old.seconds) }
-    ensures ok { (cs : List _) (frames : List _) → OnOk result (GoesOn cs frames rest.old rest.new world.old world.new) }
+    requires can { rest.old.seconds ≢ 0 → Can (tree_of world.old) (world_of world.old)
+        (Tick rest.old.seconds) }
+    ensures ok { (cs : List _) (frames : List _)
+        → OnOk result (GoesOn cs frames rest.old rest.new world.old world.new) }
     ensures seconds { OnOk result (rest.new.seconds ≡ 0) }
     ensures taken { rest.new.taken ≡ rest.old.taken }
     ensures given { rest.new.given ≡ rest.old.given }
@@ -84,14 +87,17 @@ pub(crate) fn command(
     commands: &[Timed],
 ) -> Result<(), WorldFault>
     requires some { rest.old.taken < length commands.now }
-    requires can { (c : _) → c ≡ slice_index_or commands.now rest.old.taken c → Can (tree_of world.old) (world_of world.old) (Order c.command) }
+    requires can { (c : _) → c ≡ slice_index_or commands.now rest.old.taken c
+        → Can (tree_of world.old) (world_of world.old) (Order c.command) }
     requires few { left fate.old + letters_in (drop rest.old.taken commands.now) < 2 ^ 57 }
-    ensures ok { (frames : List _) → OnOk result (GoesOn commands.now frames rest.old rest.new world.old world.new) }
+    ensures ok { (frames : List _)
+        → OnOk result (GoesOn commands.now frames rest.old rest.new world.old world.new) }
     ensures seconds { rest.new.seconds ≡ rest.old.seconds }
     ensures taken { OnOk result (rest.new.taken ≡ rest.old.taken + 1) }
     ensures given { rest.new.given ≡ rest.old.given }
     ensures failed { result ≡ Err WorldFault.Failed → world.old.failed ≡ true }
-    ensures fate { left fate.new + letters_in (drop (rest.old.taken + 1) commands.now) ≤ left fate.old + letters_in (drop rest.old.taken commands.now) }
+    ensures fate { left fate.new + letters_in (drop (rest.old.taken + 1) commands.now)
+        ≤ left fate.old + letters_in (drop rest.old.taken commands.now) }
 {
     give_one(world, fate, &commands[rest.taken])?;
     rest.taken += 1;
@@ -107,11 +113,15 @@ pub(crate) fn come(
 ) -> Result<(), WorldFault>
     requires there { at < length arrivals.now }
     requires whole { length rest.old.given.items ≡ length arrivals.now }
-    requires can { slice_index_or rest.old.given.items at true ≡ false → (a : _) → a ≡ slice_index_or arrivals.now at a → Can (tree_of world.old) (world_of world.old) (Arrive a) }
-    ensures ok { (cs : List _) → OnOk result (GoesOn cs arrivals.now rest.old rest.new world.old world.new) }
+    requires can { slice_index_or rest.old.given.items at true ≡ false → (a : _)
+        → a ≡ slice_index_or arrivals.now at a → Can (tree_of world.old) (world_of world.old)
+        (Arrive a) }
+    ensures ok { (cs : List _)
+        → OnOk result (GoesOn cs arrivals.now rest.old rest.new world.old world.new) }
     ensures seconds { rest.new.seconds ≡ rest.old.seconds }
     ensures taken { rest.new.taken ≡ rest.old.taken }
-    ensures given { OnOk result ((i : ℕ) → slice_index_or rest.old.given.items i true ≡ true → slice_index_or rest.new.given.items i true ≡ true) }
+    ensures given { OnOk result ((i : ℕ) → slice_index_or rest.old.given.items i true ≡ true
+        → slice_index_or rest.new.given.items i true ≡ true) }
     ensures here { OnOk result (slice_index_or rest.new.given.items at true ≡ true) }
     ensures failed { result ≡ Err WorldFault.Failed → world.old.failed ≡ true }
 {

@@ -101,7 +101,8 @@ fn come_next(
     arrivals: &[Arrival],
 ) -> Result<(), WorldFault>
     requires whole { length rest.old.given.items ≡ length arrivals.now }
-    ensures ok { (cs : List _) → OnOk result (GoesOn cs arrivals.now rest.old rest.new world.old world.new) }
+    ensures ok { (cs : List _)
+        → OnOk result (GoesOn cs arrivals.now rest.old rest.new world.old world.new) }
     ensures taken { OnOk result (rest.new.taken ≡ rest.old.taken) }
     ensures failed { result ≡ Err WorldFault.Failed → world.old.failed ≡ true }
 {
@@ -127,11 +128,14 @@ fn make(
     arrivals: &[Arrival],
 ) -> Result<(), WorldFault>
     requires whole { length rest.old.given.items ≡ length arrivals.now }
-    requires ready { IsReady world.old rest.old.seconds (drop rest.old.taken commands.now) (left_of rest.old.given.items arrivals.now) }
+    requires ready { IsReady world.old rest.old.seconds (drop rest.old.taken commands.now)
+        (left_of rest.old.given.items arrivals.now) }
     requires few { left fate.old + letters_in (drop rest.old.taken commands.now) < 2 ^ 57 }
-    ensures ok { OnOk result (GoesOn commands.now arrivals.now rest.old rest.new world.old world.new) }
+    ensures ok { OnOk result (GoesOn commands.now arrivals.now rest.old rest.new world.old
+        world.new) }
     ensures failed { result ≡ Err WorldFault.Failed → world.old.failed ≡ true }
-    ensures fate { OnOk result (left fate.new + letters_in (drop rest.new.taken commands.now) ≤ left fate.old + letters_in (drop rest.old.taken commands.now)) }
+    ensures fate { OnOk result (left fate.new + letters_in (drop rest.new.taken commands.now)
+        ≤ left fate.old + letters_in (drop rest.old.taken commands.now)) }
     ensures low { left fate.new ≤ left fate.old + letters_in (drop rest.old.taken commands.now) }
 {
     match choice {
@@ -161,11 +165,14 @@ fn draw(
     arrivals: &[Arrival],
 ) -> Result<(), WorldFault>
     requires whole { length rest.old.given.items ≡ length arrivals.now }
-    requires ready { IsReady world.old rest.old.seconds (drop rest.old.taken commands.now) (left_of rest.old.given.items arrivals.now) }
+    requires ready { IsReady world.old rest.old.seconds (drop rest.old.taken commands.now)
+        (left_of rest.old.given.items arrivals.now) }
     requires few { left fate.old + letters_in (drop rest.old.taken commands.now) < 2 ^ 57 }
-    ensures ok { OnOk result (GoesOn commands.now arrivals.now rest.old rest.new world.old world.new) }
+    ensures ok { OnOk result (GoesOn commands.now arrivals.now rest.old rest.new world.old
+        world.new) }
     ensures failed { result ≡ Err WorldFault.Failed → world.old.failed ≡ true }
-    ensures fate { OnOk result (left fate.new + letters_in (drop rest.new.taken commands.now) ≤ left fate.old + letters_in (drop rest.old.taken commands.now)) }
+    ensures fate { OnOk result (left fate.new + letters_in (drop rest.new.taken commands.now)
+        ≤ left fate.old + letters_in (drop rest.old.taken commands.now)) }
     ensures low { left fate.new ≤ left fate.old + letters_in (drop rest.old.taken commands.now) }
 {
     let choice = choose(world, rest, commands.len(), queues.as_slice(), rng);
@@ -181,13 +188,17 @@ fn draw_all(
     commands: &[Timed],
     arrivals: &[Arrival],
 ) -> Result<(), WorldFault>
-    requires drawn { (all : ℕ) × HasDrawn all commands.now arrivals.now rest.old.seconds rest.old.taken rest.old.given.items world.old world.old }
+    requires drawn { (all : ℕ) × HasDrawn all commands.now arrivals.now rest.old.seconds
+        rest.old.taken rest.old.given.items world.old world.old }
     requires few { left fate.old + letters_in (drop rest.old.taken commands.now) < 2 ^ 57 }
-    ensures ok { OnOk result ((all : ℕ) → HasDrawn all commands.now arrivals.now rest.old.seconds rest.old.taken rest.old.given.items world.old world.old
-        → HasDrawn all commands.now arrivals.now rest.new.seconds rest.new.taken rest.new.given.items world.old world.new) }
+    ensures ok { OnOk result ((all : ℕ) → HasDrawn all commands.now arrivals.now rest.old.seconds
+        rest.old.taken rest.old.given.items world.old world.old
+        → HasDrawn all commands.now arrivals.now rest.new.seconds rest.new.taken
+        rest.new.given.items world.old world.new) }
     ensures same { OnOk result (world.new.failed ≡ world.old.failed) }
     ensures failed { result ≡ Err WorldFault.Failed → world.old.failed ≡ true }
-    ensures fate { OnOk result (left fate.new + letters_in (drop rest.new.taken commands.now) ≤ left fate.old + letters_in (drop rest.old.taken commands.now)) }
+    ensures fate { OnOk result (left fate.new + letters_in (drop rest.new.taken commands.now)
+        ≤ left fate.old + letters_in (drop rest.old.taken commands.now)) }
     ensures low { left fate.new ≤ left fate.old + letters_in (drop rest.old.taken commands.now) }
 {
     let mut queues = match queues_of(world.alloc(), arrivals) {
@@ -213,9 +224,11 @@ fn give_commands(
     commands: &[Timed],
     arrivals: &[Arrival],
 ) -> Result<(), WorldFault>
-    requires drawn { (all : ℕ) × (old : _) × HasDrawn all commands.now arrivals.now rest.old.seconds rest.old.taken rest.old.given.items old world.old }
+    requires drawn { (all : ℕ) × (old : _) × HasDrawn all commands.now arrivals.now rest.old.seconds
+        rest.old.taken rest.old.given.items old world.old }
     requires few { left fate.old + letters_in (drop rest.old.taken commands.now) < 2 ^ 57 }
-    ensures ok { OnOk result (GoesOn commands.now arrivals.now rest.old rest.new world.old world.new) }
+    ensures ok { OnOk result (GoesOn commands.now arrivals.now rest.old rest.new world.old
+        world.new) }
     ensures all { OnOk result (length commands.now ≤ rest.new.taken) }
     ensures seconds { OnOk result (rest.new.seconds ≡ rest.old.seconds) }
     ensures same { OnOk result (world.new.failed ≡ world.old.failed) }
@@ -237,9 +250,12 @@ fn give_arrivals(
     commands: &[Timed],
     arrivals: &[Arrival],
 ) -> Result<(), WorldFault>
-    requires drawn { (all : ℕ) × (old : _) × HasDrawn all commands.now arrivals.now rest.old.seconds rest.old.taken rest.old.given.items old world.old }
-    ensures ok { OnOk result (GoesOn commands.now arrivals.now rest.old rest.new world.old world.new) }
-    ensures all { OnOk result ((at : ℕ) → at < length arrivals.now → slice_index_or rest.new.given.items at true ≡ true) }
+    requires drawn { (all : ℕ) × (old : _) × HasDrawn all commands.now arrivals.now rest.old.seconds
+        rest.old.taken rest.old.given.items old world.old }
+    ensures ok { OnOk result (GoesOn commands.now arrivals.now rest.old rest.new world.old
+        world.new) }
+    ensures all { OnOk result ((at : ℕ) → at < length arrivals.now
+        → slice_index_or rest.new.given.items at true ≡ true) }
     ensures seconds { OnOk result (rest.new.seconds ≡ rest.old.seconds) }
     ensures taken { OnOk result (rest.new.taken ≡ rest.old.taken) }
     ensures failed { result ≡ Err WorldFault.Failed → world.old.failed ≡ true }
@@ -252,7 +268,8 @@ fn give_arrivals(
     Ok(())
 }
 
-/// Gives what is left of a segment: in an order that is drawn, and what is left after so many draws in order.
+/// Gives what is left of a segment: in an order that is drawn, and what is left after so many draws
+/// in order.
 fn give_rest(
     world: &mut World,
     fate: &mut dyn Fate,
@@ -262,7 +279,8 @@ fn give_rest(
     commands: &[Timed],
     arrivals: &[Arrival],
 ) -> Result<(), WorldFault>
-    requires drawn { HasDrawn seconds commands.now arrivals.now rest.old.seconds rest.old.taken rest.old.given.items world.old world.old }
+    requires drawn { HasDrawn seconds commands.now arrivals.now rest.old.seconds rest.old.taken
+        rest.old.given.items world.old world.old }
     requires few { left fate.old + letters_in (drop rest.old.taken commands.now) < 2 ^ 57 }
     ensures ok { OnOk result (IsDrawn seconds commands.now arrivals.now world.old world.new) }
     ensures failed { result ≡ Err WorldFault.Failed → world.old.failed ≡ true }
@@ -309,8 +327,10 @@ fn play_drawn(
     requires can { CanAll world.old (gives seconds commands.now arrivals.now) }
     requires few { left fate.old + letters_in commands.now < 2 ^ 57 }
     ensures settled { OnOk result (IsSettled (tree_of world.new) (world_of world.new)) }
-    ensures segment { OnOk result (IsDrawnOut seconds commands.now arrivals.now world.old world.new) }
-    ensures plays { OnOk result (PlaysOn Seeded seconds commands.now arrivals.now world.old world.new) }
+    ensures segment { OnOk result (IsDrawnOut seconds commands.now arrivals.now world.old
+        world.new) }
+    ensures plays { OnOk result (PlaysOn Seeded seconds commands.now arrivals.now world.old
+        world.new) }
     ensures same { OnOk result (IsSame world.old world.new) }
     ensures fate { left fate.new ≤ left fate.old + letters_in commands.now }
 {
@@ -318,9 +338,10 @@ fn play_drawn(
     end(world, fate)
 }
 
-/// Plays a segment of a seeded run: one draw after another says what comes next, of the segment, of the words on the links, or a beat;
-/// what is left after 64 draws for each command and each arrival and 64 more is given in order. Then all is settled and marked. A
-/// world in which memory runs out has failed.
+/// Plays a segment of a seeded run: one draw after another says what comes next, of the segment, of
+/// the words on the links, or a beat; what is left after 64 draws for each command and each arrival
+/// and 64 more is given in order. Then all is settled and marked. A world in which memory runs out
+/// has failed.
 #[inline(never)]
 pub fn seeded(
     world: &mut World,
@@ -333,8 +354,10 @@ pub fn seeded(
     requires can { CanAll world.old (gives seconds commands.now arrivals.now) }
     requires few { left fate.old + letters_in commands.now < 2 ^ 57 }
     ensures settled { OnOk result (IsSettled (tree_of world.new) (world_of world.new)) }
-    ensures segment { OnOk result (IsDrawnOut seconds commands.now arrivals.now world.old world.new) }
-    ensures plays { OnOk result (PlaysOn Seeded seconds commands.now arrivals.now world.old world.new) }
+    ensures segment { OnOk result (IsDrawnOut seconds commands.now arrivals.now world.old
+        world.new) }
+    ensures plays { OnOk result (PlaysOn Seeded seconds commands.now arrivals.now world.old
+        world.new) }
     ensures same { OnOk result (IsSame world.old world.new) }
     ensures failed { (result ≡ Err WorldFault.Failed) ↔ (world.old.failed ≡ true) }
     ensures memory { OnErr result (world.new.failed ≡ true) }

@@ -60,8 +60,9 @@ fn open_armed(world: &mut World, fate: &mut dyn Fate, plan: &[Verdict]) -> Resul
     }
 }
 
-/// The world of a setup after its opening, for which the fate is armed with this plan: each extender is heard and opened, and each of
-/// its ports goes up, or is refused that; settled and marked.
+/// The world of a setup after its opening, for which the fate is armed with this plan: each
+/// extender is heard and opened, and each of its ports goes up, or is refused that; settled and
+/// marked.
 pub fn open(
     alloc: Global,
     setup: &Setup,
@@ -72,7 +73,8 @@ pub fn open(
     requires valid { IsValid setup.now }
     requires few { left fate.old + length plan.now < 2 ^ 57 }
     ensures plays { IfOk result (λ world. (m : Mode) (i : Input) → i.setup ≡ setup.now
-        → HasPlayed m i [] world world.log.events world.log.passed (all_left world.log.left) world.log.lines) }
+        → HasPlayed m i [] world world.log.events world.log.passed (all_left world.log.left)
+        world.log.lines) }
     ensures settled { IfOk result (λ world. IsSettled (tree_of world) (world_of world)) }
     ensures tree { IfOk result (λ world. tree_of world ≡ shape_of setup.now) }
     ensures limits { IfOk result (λ world. bounds_of world ≡ limits_of setup.now) }
@@ -102,7 +104,8 @@ pub(crate) fn give_one(
     requires can { Can (tree_of world.old) (world_of world.old) (Order command.now.command) }
     requires few { left fate.old + length command.now.fate < 2 ^ 57 }
     ensures ok { OnOk result (IsStepped (Order command.now.command) world.old world.new) }
-    ensures may { OnOk result (MayTake (tree_of world.old) (world_of world.old) (Order command.now.command)) }
+    ensures may { OnOk result (MayTake (tree_of world.old) (world_of world.old)
+        (Order command.now.command)) }
     ensures failed { (result ≡ Err WorldFault.Failed) ↔ (world.old.failed ≡ true) }
     ensures fate { left fate.new ≤ left fate.old + length command.now.fate }
 {
@@ -130,8 +133,8 @@ fn give(world: &mut World, fate: &mut dyn Fate, commands: &[Timed]) -> Result<()
     Ok(())
 }
 
-/// Gives a segment in order: the clock goes on by its seconds, its commands are given and its frames arrive. Each command's plan arms
-/// the fate just before it.
+/// Gives a segment in order: the clock goes on by its seconds, its commands are given and its
+/// frames arrive. Each command's plan arms the fate just before it.
 #[inline(always)]
 fn give_all(
     world: &mut World,
@@ -142,7 +145,8 @@ fn give_all(
 ) -> Result<(), WorldFault>
     requires can { CanAll world.old (gives seconds commands.now arrivals.now) }
     requires few { left fate.old + letters_in commands.now < 2 ^ 57 }
-    ensures ok { OnOk result (HasRun (gives seconds commands.now arrivals.now) world.old world.new) }
+    ensures ok { OnOk result (HasRun (gives seconds commands.now arrivals.now) world.old
+        world.new) }
     ensures failed { OnErr result ((result ≡ Err WorldFault.Failed) ↔ (world.old.failed ≡ true)) }
     ensures fate { left fate.new ≤ left fate.old + letters_in commands.now }
 {
@@ -163,8 +167,10 @@ fn play_in_order(
     requires can { CanAll world.old (gives seconds commands.now arrivals.now) }
     requires few { left fate.old + letters_in commands.now < 2 ^ 57 }
     ensures settled { OnOk result (IsSettled (tree_of world.new) (world_of world.new)) }
-    ensures segment { OnOk result (IsPlayedOut (gives seconds commands.now arrivals.now) world.old world.new) }
-    ensures plays { OnOk result (PlaysOn Eager seconds commands.now arrivals.now world.old world.new) }
+    ensures segment { OnOk result (IsPlayedOut (gives seconds commands.now arrivals.now) world.old
+        world.new) }
+    ensures plays { OnOk result (PlaysOn Eager seconds commands.now arrivals.now world.old
+        world.new) }
     ensures same { OnOk result (IsSame world.old world.new) }
     ensures failed { (result ≡ Err WorldFault.Failed) ↔ (world.old.failed ≡ true) }
     ensures fate { left fate.new ≤ left fate.old + letters_in commands.now }
@@ -173,7 +179,8 @@ fn play_in_order(
     end(world, fate)
 }
 
-/// Plays a segment of the eager run: it is given in order, all is settled and marked. A world in which memory runs out has failed.
+/// Plays a segment of the eager run: it is given in order, all is settled and marked. A world in
+/// which memory runs out has failed.
 #[inline(always)]
 pub fn eager(
     world: &mut World,
@@ -185,8 +192,10 @@ pub fn eager(
     requires can { CanAll world.old (gives seconds commands.now arrivals.now) }
     requires few { left fate.old + letters_in commands.now < 2 ^ 57 }
     ensures settled { OnOk result (IsSettled (tree_of world.new) (world_of world.new)) }
-    ensures segment { OnOk result (IsPlayedOut (gives seconds commands.now arrivals.now) world.old world.new) }
-    ensures plays { OnOk result (PlaysOn Eager seconds commands.now arrivals.now world.old world.new) }
+    ensures segment { OnOk result (IsPlayedOut (gives seconds commands.now arrivals.now) world.old
+        world.new) }
+    ensures plays { OnOk result (PlaysOn Eager seconds commands.now arrivals.now world.old
+        world.new) }
     ensures same { OnOk result (IsSame world.old world.new) }
     ensures failed { (result ≡ Err WorldFault.Failed) ↔ (world.old.failed ≡ true) }
     ensures memory { OnErr result (world.new.failed ≡ true) }

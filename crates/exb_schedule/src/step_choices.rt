@@ -9,8 +9,9 @@ use exb_world::{Way, World};
 use rand_core::utils::NextWord;
 use rand_pcg::Lcg64Xsh32;
 
-/// What is drawn: that the seconds pass, that the next command is given, that the next arrival of a queue comes, that the first data
-/// word of a direction is taken, that the fate of a control word is asked, or a beat.
+/// What is drawn: that the seconds pass, that the next command is given, that the next arrival of a
+/// queue comes, that the first data word of a direction is taken, that the fate of a control word
+/// is asked, or a beat.
 #[derive(Clone, Copy)]
 pub enum StepChoice {
     Tick,
@@ -21,8 +22,9 @@ pub enum StepChoice {
     Beat,
 }
 
-/// What may be drawn, offered one after another in a fixed order: how many there were so far, and the one with the number that is
-/// wanted, from 0. So a draw keeps no list: they are gone through once to be counted, and once more for the one that is drawn.
+/// What may be drawn, offered one after another in a fixed order: how many there were so far, and
+/// the one with the number that is wanted, from 0. So a draw keeps no list: they are gone through
+/// once to be counted, and once more for the one that is drawn.
 #[derive(Drop)]
 struct StepChoices {
     count: u64,

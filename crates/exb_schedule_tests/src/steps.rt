@@ -1,5 +1,6 @@
-//! A world before its first step, what is on its links, and its single steps, each asked of it before it is made. They have no clauses, so that what
-//! stands above them is proved without any of a world's.
+//! A world before its first step, what is on its links, and its single steps, each asked of it
+//! before it is made. They have no clauses, so that what stands above them is proved without any of
+//! a world's.
 use exb_fate::{Fate, ScriptFate};
 use exb_link::Counts;
 use exb_model::arrival::Arrival;
@@ -121,7 +122,8 @@ fn mark(rt: &impl Abort, world: &mut World) {
     world.mark().expect(rt, "memory");
 }
 
-// How many rounds a settling may take: 64 for each of so many verdicts that may not be Pass, each planned exchange, and one more.
+// How many rounds a settling may take: 64 for each of so many verdicts that may not be Pass, each
+// planned exchange, and one more.
 fn bound_of(rt: &impl Abort, world: &World, left: u64) -> u64 {
     let planned = world.planned().expect(rt, "memory");
     let all = left.saturating_add(planned);

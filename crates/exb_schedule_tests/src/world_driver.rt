@@ -1,13 +1,16 @@
 //! A world that words move, steps with a semicolon between them, and a log of what is told:
 //!
 //! - `arrive P I BYTES`: record I of the port named P arrives
-//! - `carry N up`, `control N down K`, `keep N down K`, `lose N up K`: a word of a direction of extender N is taken, the
+//! - `carry N up`, `control N down K`, `keep N down K`, `lose N up K`: a word of a direction of
+//! extender N is taken, the
 //!   control word at position K is delivered, or delivered and kept, or lost
-//! - `beat`, `give` (the next command of the topology), `settle` (rounds until all is settled, and a mark)
+//! - `beat`, `give` (the next command of the topology), `settle` (rounds until all is settled, and
+//! a mark)
 //! - `arm COUNT`: the fate is armed with COUNT plain deliveries; `asked`: logs how many were given
 //! - `bare`, as the first word of the steps: a world without a trace
 //! - `tell`: logs the events and what has left; `skip`: forgets what was told
-//! - `planned`: logs the number of planned exchanges; `counts N`: logs the numbers of data frames and
+//! - `planned`: logs the number of planned exchanges; `counts N`: logs the numbers of data frames
+//! and
 //!   control frames on a link, up and down
 //! - `free N down K`: logs whether a control frame may be delivered
 use crate::steps::{
@@ -26,7 +29,8 @@ use std::alloc::Global;
 use std::process::Abort;
 use std::str::SplitWhitespace;
 
-/// The fate, how many commands were given, with how many verdicts the steps armed it, and what was told.
+/// The fate, how many commands were given, with how many verdicts the steps armed it, and what was
+/// told.
 #[derive(Drop)]
 struct Progress {
     alloc: Global,
@@ -258,7 +262,8 @@ fn log_of(
     progress.log
 }
 
-// What the steps over a topology tell. A world is let go by `drop`, since all that goes with it is proved where it ends with a block.
+// What the steps over a topology tell. A world is let go by `drop`, since all that goes with it is
+// proved where it ends with a block.
 fn log_over(rt: &impl Abort, alloc: Global, topology: &Topology, steps: &str) -> String {
     let (steps, trace) = match steps.strip_prefix("bare; ") {
         Some(steps) => (steps, false),
@@ -286,7 +291,8 @@ fn expect_case(rt: &impl Abort, alloc: Global, case: &str) {
     assert!(rt; log.as_str() == wanted, "{log}of {steps}");
 }
 
-/// Asserts that each case tells what it must: a topology, behind `>` a line of steps, and what is told. `%` stands between two.
+/// Asserts that each case tells what it must: a topology, behind `>` a line of steps, and what is
+/// told. `%` stands between two.
 pub(crate) fn judge(rt: &impl Abort, alloc: Global, cases: &str) {
     for case in cases.split('%') {
         expect_case(rt, alloc, case);

@@ -1,8 +1,9 @@
-//! Worlds: a topology, behind `>` steps, and in the lines below what is told. `%` stands between two. `crates/exb_cases/cases.py` plays each of them
-//! over its own tree too.
+//! Worlds: a topology, behind `>` steps, and in the lines below what is told. `%` stands between
+//! two. `crates/exb_cases/cases.py` plays each of them over its own tree too.
 use crate::world_driver::judge;
 
-/// What is planned, frames on their way while a command is carried out, words that are lost, come twice or wait, and what a fate is asked.
+/// What is planned, frames on their way while a command is carried out, words that are lost, come
+/// twice or wait, and what a fate is asked.
 const CASES: &str =
     "# one announcement, Open, and a channel and a group for each port; each exchange that is over leaves one less\n\
      bridge = { ports = 1 }\n\

@@ -1,4 +1,5 @@
--- Control frames as they stand on links: whose each one is, that it stands on the way of that extender, and what it reads as.
+-- Control frames as they stand on links: whose each one is, that it stands on the way of that extender, and what it
+-- reads as.
 use Rattle.std.specs.Prelude.{◌≡◌, ◌≢◌, ◌⊎◌, ℕ, true, List}
 use Rattle.exb_model.specs.Tree.{Shape, is_extender}
 use Rattle.exb_extender.specs.Forwarding.{is_bare_control}
@@ -10,8 +11,8 @@ use Rattle.exb_settling_laws.specs.Streams.{note_of}
 use Rattle.exb_settling_laws.specs.SettlingFacts.{IsAbove, IsAnnouncement}
 use Rattle.exb_settling_laws.specs.RemainingFacts.{IsDownNote, IsUpNote}
 
--- On the link of extender m, f is a control frame of m or of an extender below it: on that one's own link as it is, above it with the
--- channel of the port on which it hangs. And K holds of it.
+-- On the link of extender m, f is a control frame of m or of an extender below it: on that one's own link as it is,
+-- above it with the channel of the port on which it hangs. And K holds of it.
 pub record IsPlaced (t : Shape) (h : Held) (K : ℕ → List ℕ → Type 0) (m : ℕ) (f : List ℕ) : Type 0 where
   pub of : ℕ
   pub frame : List ℕ

@@ -1,5 +1,5 @@
--- Of the facts that the bound needs, what the sessions over the words (`WorldFits`) and the ways of control frames (`Routes`) leave
--- to be shown.
+-- Of the facts that the bound needs, what the sessions over the words (`WorldFits`) and the ways of control frames
+-- (`Routes`) leave to be shown.
 use Rattle.std.specs.Prelude.{◌≡◌, ◌≢◌, ℕ, ◌<◌, nat_lt, false, true, List, Option, Some, None, ⊤}
 use Rattle.exb_model.specs.Tree.{Shape, is_extender}
 use Rattle.exb_csp.specs.declared.message.Request.{Request}
@@ -51,17 +51,20 @@ IsUpNote (Some (Ack sequence)) = ⊤
 IsUpNote (Some Hello) = ⊤
 IsUpNote _ = ⊥
 
--- what goes down reads as a request or an acknowledgement; what comes up as an answer, an acknowledgement or an announcement
+-- what goes down reads as a request or an acknowledgement; what comes up as an answer, an acknowledgement or an
+-- announcement
 abbrev pub KindDown : ℕ → List ℕ → Type 0
 KindDown n f = IsDownNote (note_of f)
 
 abbrev pub KindUp : Shape → (ℕ → AskerState) → ℕ → List ℕ → Type 0
 KindUp t askers n f = IsUpNote (note_of f) × IsOfKind (askers n) f × IsAnnouncement t n f
 
--- of a word: it is bytes; a control word with the channel of an extender stands above that one; and it is of such a kind
+-- of a word: it is bytes; a control word with the channel of an extender stands above that one; and it is of such a
+-- kind
 pub record WordLeft (t : Shape) (h : Held) (K : ℕ → List ℕ → Type 0) (m : ℕ) (x : LinkFrame) : Type 0 where
   pub bytes : IsBytes x.bytes
-  pub placed : is_control x ≡ true → (n : ℕ) (c : List ℕ) → is_extender t n ≡ true → is_bare_control c ≡ true → IsTagged t h m x.bytes n c → (m ≢ n) × IsAbove t 64 m n
+  pub placed : is_control x ≡ true → (n : ℕ) (c : List ℕ) → is_extender t n ≡ true → is_bare_control c ≡ true
+      → IsTagged t h m x.bytes n c → (m ≢ n) × IsAbove t 64 m n
   pub reads : is_control x ≡ true → (n : ℕ) → addressee t h m x.bytes ≡ Some n → K n (plain x.bytes)
 
 -- ---- the world

@@ -1,4 +1,5 @@
--- What every step keeps of both ends of the sessions and of the words between them, and what holds of changes and their order.
+-- What every step keeps of both ends of the sessions and of the words between them, and what holds of changes and their
+-- order.
 use Rattle.std.specs.Prelude.{◌≡◌, ℕ, ◌+◌, ◌<◌, ◌^◌, true, false, Some, slice_index}
 use Rattle.exb_model.specs.Setup.{Limits}
 use Rattle.exb_model.specs.Tree.{Shape, is_extender}
@@ -18,7 +19,8 @@ pub record IsDevice (t : Shape) (n : ℕ) (s : ExtenderState) : Type 0 where
   pub number : s.number ≡ n
   pub ports : s.tables.ports ≡ slice_index t.ports n
 
--- The sessions stand over the words, both ends of each are as they should be, and control words stand on the way of their extenders.
+-- The sessions stand over the words, both ends of each are as they should be, and control words stand on the way of
+-- their extenders.
 pub record IsGoing (t : Shape) (l : Limits) (w : World) : Type 0 where
   pub sound : IsSound t l w
   pub near : (n : ℕ) → NearLeft (w.near n) (w.control.askers n)
@@ -32,10 +34,11 @@ HasRoom askers = (n : ℕ) → (askers n).serial + 1 < 2 ^ 64
 
 -- the first request that an extender is asked is Open
 abbrev pub OpensFirst : (ℕ → AskerState) → Type 0
-OpensFirst askers = (n : ℕ) (request : Request) → (askers n).waiting ≡ Some request → (askers n).serial ≡ 1 → is_open request ≡ true
+OpensFirst askers = (n : ℕ) (request : Request) → (askers n).waiting ≡ Some request → (askers n).serial ≡ 1
+    → is_open request ≡ true
 
--- Words are bytes and serials have room; an extender that wasn't heard was asked nothing, its first request is Open, and whoever is
--- waited for is reached.
+-- Words are bytes and serials have room; an extender that wasn't heard was asked nothing, its first request is Open,
+-- and whoever is waited for is reached.
 pub record IsOrderly (t : Shape) (w : World) : Type 0 where
   pub bytes : AreBytes w
   pub room : HasRoom w.control.askers

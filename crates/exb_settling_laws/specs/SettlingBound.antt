@@ -37,15 +37,16 @@ HasHello (Hello ∷ ms) = ⊤
 
 -- an announcement is on its way, or comes when the count is 1
 abbrev pub HelloLeft : ℕ → Pair → Type 0
-HelloLeft s p = (HasHello p.far.sent × (1 ≤ s)) ⊎ (((p.far.count ≡ 0) × (2 ≤ s)) ⊎ ((0 < p.far.count) × (18 ≤ s + p.far.count)))
+HelloLeft s p = (HasHello p.far.sent × (1 ≤ s)) ⊎ (((p.far.count ≡ 0) × (2 ≤ s))
+    ⊎ ((0 < p.far.count) × (18 ≤ s + p.far.count)))
 
 -- on each link nothing goes down, and up come control frames of its own extender alone
 pub record IsSwept (t : Shape) (w : World) : Type 0 where
   pub downs : (m : ℕ) → is_extender t m ≡ true → w.down m ≡ []
   pub ups : (m : ℕ) → is_extender t m ≡ true → Each (λ (x : LinkFrame). is_of t w.control.held m m x ≡ true) (w.up m)
 
--- What is waited for: the answer to the request that is outstanding, the announcement of the extender to be opened, or, with
--- nothing queued, that all sessions are at rest. At most s rounds are left until it comes.
+-- What is waited for: the answer to the request that is outstanding, the announcement of the extender to be opened, or,
+-- with nothing queued, that all sessions are at rest. At most s rounds are left until it comes.
 abbrev pub StageBy : Shape → ℕ → World → Option Work → List Job → Type 0
 StageBy t s w (Some k) js = AtMost s (pair_at t w k.first.extender)
 StageBy t s w None [] = ((n : ℕ) → is_extender t n ≡ true → IdleAtMost s (pair_at t w n)) × ((1 ≤ s) ⊎ IsSwept t w)
@@ -58,4 +59,5 @@ Stage t s w = StageBy t s w w.control.work w.control.queue
 -- ---- the law
 -- With verdicts of which b aren't Pass, a settle ends, within its rounds, in a settled world.
 abbrev pub SettleEnds : Shape → Limits → (World → Type 0) → Type 0
-SettleEnds t l I = (b : ℕ) (w : World) (vs : List Verdict) → I w → costs vs ≤ b → is_settled t (settle t l b w vs).done.world ≡ true
+SettleEnds t l I = (b : ℕ) (w : World) (vs : List Verdict) → I w → costs vs ≤ b
+    → is_settled t (settle t l b w vs).done.world ≡ true

@@ -79,7 +79,9 @@ MayComeUp x _ = ⊥
 
 -- an answer to the request that waits is of its kind
 pub record IsOfKind (a : AskerState) (f : List ℕ) : Type 0 where
-  pub kind : (p : Pdu) (m : Message) (request : Request) (response : Response) → pdu_in f ≡ Ok p → p.acknowledgement ≡ false → read_message (drop 18 f) ≡ Ok m → m.body ≡ body.Answer response → a.waiting ≡ Some request → m.serial ≡ a.serial →
+  pub kind : (p : Pdu) (m : Message) (request : Request) (response : Response) → pdu_in f ≡ Ok p
+      → p.acknowledgement ≡ false → read_message (drop 18 f) ≡ Ok m → m.body ≡ body.Answer response
+      → a.waiting ≡ Some request → m.serial ≡ a.serial →
       same_kind response.to (kind_of request) ≡ true
 
 -- what goes down to extender n, and what comes up from it
@@ -115,8 +117,8 @@ pub record WordFacts (t : Shape) (h : Held) (P : ℕ → List ℕ → Type 0) (m
   pub owned : is_control x ≡ true → IsOwned t h P m x
 
 -- ---- ways
--- The tables of extender a send a frame with this channel on at port p alone, a cascade port, and there without its E-TAG
--- exactly where it is the last one.
+-- The tables of extender a send a frame with this channel on at port p alone, a cascade port, and there without its
+-- E-TAG exactly where it is the last one.
 pub record Hops (a : ExtenderState) (p channel : ℕ) (last : Bool) : Type 0 where
   pub some : 0 < p
   pub port : p ≤ a.tables.ports
@@ -129,10 +131,11 @@ pub record Hops (a : ExtenderState) (p channel : ℕ) (last : Bool) : Type 0 whe
 abbrev pub HopsAbove : Shape → (ℕ → ExtenderState) → ℕ → Bool → ℕ → ℕ → Type 0
 HopsAbove t far channel last zero m = ⊤
 HopsAbove t far channel last (suc d) m =
-    (on t m < 64) ⊎ (Hops (far (device (on t m))) (port_number (on t m)) channel last × HopsAbove t far channel false d (device (on t m)))
+    (on t m < 64) ⊎ (Hops (far (device (on t m))) (port_number (on t m)) channel last
+    × HopsAbove t far channel false d (device (on t m)))
 
--- Control frames reach extender n and come from it: it hangs on the bridge, or the port on which it hangs has a channel by
--- which all extenders above it go.
+-- Control frames reach extender n and come from it: it hangs on the bridge, or the port on which it hangs has a channel
+-- by which all extenders above it go.
 pub record IsDeep (t : Shape) (h : Held) (far : ℕ → ExtenderState) (n : ℕ) : Type 0 where
   pub channel : ℕ
   pub high : channel < 4095
@@ -147,8 +150,8 @@ abbrev pub IsReached : Shape → World → ℕ → Type 0
 IsReached t w n = (on t n < 64) ⊎ IsDeep t w.control.held w.far n
 
 -- ---- the queue
--- Where no request is outstanding, the head of the queue is the opening of an extender that is there, that wasn't heard,
--- and that is reached; where the queue is empty all extenders are opened and reached.
+-- Where no request is outstanding, the head of the queue is the opening of an extender that is there, that wasn't
+-- heard, and that is reached; where the queue is empty all extenders are opened and reached.
 abbrev pub QueueFacts : Shape → World → Option Work → List Job → Type 0
 QueueFacts t w (Some k) js = (is_extender t k.first.extender ≡ true) × IsReached t w k.first.extender
 QueueFacts t w None [] = (n : ℕ) → is_extender t n ≡ true → (0 < (w.control.askers n).serial) × IsReached t w n
@@ -167,7 +170,8 @@ pub record Facts (t : Shape) (l : Limits) (w : World) : Type 0 where
   pub waits : OneWaits w.control
   pub near : (n : ℕ) → NearFacts (w.near n) (w.control.askers n)
   pub far : (n : ℕ) → is_extender t n ≡ true → FarFacts (w.far n)
-  pub related : (n : ℕ) → is_extender t n ≡ true → Related (w.control.askers n).waiting (w.control.askers n).serial (w.far n).session.last
+  pub related : (n : ℕ) → is_extender t n ≡ true → Related (w.control.askers n).waiting (w.control.askers n).serial
+      (w.far n).session.last
   pub unheard : (n : ℕ) → is_extender t n ≡ true → w.control.heard n ≡ false → (w.control.askers n).serial ≡ 0
   pub downs : (m : ℕ) → is_extender t m ≡ true → Each (WordFacts t w.control.held (GoesDown w.control) m) (w.down m)
   pub ups : (m : ℕ) → is_extender t m ≡ true → Each (WordFacts t w.control.held (ComesUp t w.control w.far) m) (w.up m)

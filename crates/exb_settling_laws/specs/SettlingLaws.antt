@@ -36,25 +36,31 @@ pub record KeepsOrder (t : Shape) (l : Limits) (w : World) : Type 0 where
 
 -- Then it keeps the facts, where it is going.
 abbrev pub OrderKeepsFacts : Type 0
-OrderKeepsFacts = (t : Shape) (l : Limits) (w : World) → IsSetting t l → IsGoing t l w → KeepsOrder t l w → KeepsFacts t l w
+OrderKeepsFacts = (t : Shape) (l : Limits) (w : World) → IsSetting t l → IsGoing t l w → KeepsOrder t l w
+    → KeepsFacts t l w
 
--- A sound world in which extenders are asked in their turn, whose words are bytes and whose serials have room, is orderly.
+-- A sound world in which extenders are asked in their turn, whose words are bytes and whose serials have room, is
+-- orderly.
 abbrev pub TurnsAreOrderly : Type 0
-TurnsAreOrderly = (t : Shape) (l : Limits) (w : World) → IsSetting t l → IsSound t l w → InTurn t w.control → AreBytes w → HasRoom w.control.askers → IsOrderly t w
+TurnsAreOrderly = (t : Shape) (l : Limits) (w : World) → IsSetting t l → IsSound t l w → InTurn t w.control → AreBytes w
+    → HasRoom w.control.askers → IsOrderly t w
 
 -- The world of each valid setup begins going.
 abbrev pub SetupsBeginGoing : Type 0
-SetupsBeginGoing = (s : Setup) → IsValid s → IsSetting (shape_of s) (limits_of s) × IsGoing (shape_of s) (limits_of s) (first_world (shape_of s) (limits_of s) (start_of s) s.ageing)
+SetupsBeginGoing = (s : Setup) → IsValid s → IsSetting (shape_of s) (limits_of s)
+    × IsGoing (shape_of s) (limits_of s) (first_world (shape_of s) (limits_of s) (start_of s) s.ageing)
 
 -- The world of each valid setup has the facts as it begins.
 abbrev pub SetupsHaveFacts : Type 0
-SetupsHaveFacts = (s : Setup) → IsValid s → Facts (shape_of s) (limits_of s) (first_world (shape_of s) (limits_of s) (start_of s) s.ageing)
+SetupsHaveFacts = (s : Setup) → IsValid s
+    → Facts (shape_of s) (limits_of s) (first_world (shape_of s) (limits_of s) (start_of s) s.ageing)
 
 -- ---- settling
 -- With verdicts of which at most b aren't Pass, settling ends within so many rounds.
 abbrev pub SettlingEnds : Type 0
 SettlingEnds =
-    (t : Shape) (l : Limits) (w : World) → IsTree t → KeepsFacts t l w → (b : ℕ) (verdicts : List Verdict) → costs verdicts ≤ b →
+    (t : Shape) (l : Limits) (w : World) → IsTree t → KeepsFacts t l w → (b : ℕ) (verdicts : List Verdict)
+    → costs verdicts ≤ b →
     is_settled t (settled_within t l (rounds b (planned_in t l w)) w verdicts).done.world ≡ true
 
 -- ---- rounds
@@ -65,17 +71,20 @@ pub record IsPassing (t : Shape) (l : Limits) (w : World) (verdicts : List Verdi
 
 -- A round spends a verdict that isn't Pass, or is one in which each word passes.
 abbrev pub RoundsSpend : Type 0
-RoundsSpend = (t : Shape) (l : Limits) (w : World) (verdicts : List Verdict) → (costs (round t l w verdicts).verdicts < costs verdicts) ⊎ IsPassing t l w verdicts
+RoundsSpend = (t : Shape) (l : Limits) (w : World) (verdicts : List Verdict)
+    → (costs (round t l w verdicts).verdicts < costs verdicts) ⊎ IsPassing t l w verdicts
 
 -- No round plans anything.
 abbrev pub RoundsPlanNothing : Type 0
 RoundsPlanNothing =
-    (t : Shape) (l : Limits) (w : World) (verdicts : List Verdict) → IsTree t → KeepsFacts t l w → planned_in t l (round t l w verdicts).done.world ≤ planned_in t l w
+    (t : Shape) (l : Limits) (w : World) (verdicts : List Verdict) → IsTree t → KeepsFacts t l w
+    → planned_in t l (round t l w verdicts).done.world ≤ planned_in t l w
 
--- the links in a round in which each word passes: what stands on the way up when it begins or comes up from below goes to the bridge, and
--- then what stands on the way down or goes down meanwhile goes to its extenders
+-- the links in a round in which each word passes: what stands on the way up when it begins or comes up from below goes
+-- to the bridge, and then what stands on the way down or goes down meanwhile goes to its extenders
 pub record AllArrive (t : Shape) (l : Limits) (w : World) : Type 0 where
-  pub ups : (m : ℕ) → is_extender t m ≡ true → (through_all t l (map (direction Up) (deepest_first t 64)) w []).done.world.up m ≡ []
+  pub ups : (m : ℕ) → is_extender t m ≡ true
+      → (through_all t l (map (direction Up) (deepest_first t 64)) w []).done.world.up m ≡ []
   pub downs : (m : ℕ) → is_extender t m ≡ true → (through_all t l (directions t) w []).done.world.down m ≡ []
 
 abbrev pub RoundsDeliver : Type 0
@@ -91,7 +100,8 @@ passing_rounds t l (suc n) w = passing_rounds t l n (round t l w []).done.world
 pub record GetsOn (t : Shape) (l : Limits) (w : World) : Type 0 where
   pub count : ℕ
   pub few : count ≤ 64
-  pub done : (planned_in t l (passing_rounds t l count w) < planned_in t l w) ⊎ (is_settled t (passing_rounds t l count w) ≡ true)
+  pub done : (planned_in t l (passing_rounds t l count w) < planned_in t l w)
+      ⊎ (is_settled t (passing_rounds t l count w) ≡ true)
 
 -- Within 64 rounds in which each word passes it is so.
 abbrev pub WindowsGetOn : Type 0

@@ -26,7 +26,11 @@ is_got None s = false
 is_got (Some g) s = g == s
 
 abbrev pub submitted : ℕ → End → End
-submitted serial e = record { next = after e.next; sending = Some (record { sequence = e.next; serial = serial; beats = 0 }); got = e.got }
+submitted serial e = record {
+  next = after e.next;
+  sending = Some (record { sequence = e.next; serial = serial; beats = 0 });
+  got = e.got;
+}
 
 abbrev pub kept_if : Bool → Sending → Option Sending
 kept_if true x = None

@@ -55,7 +55,11 @@ note_of f = frame_note (announcement_in f) f
 -- ---- the ends
 abbrev pub sending_of : Option Sends → Option Sending
 sending_of None = None
-sending_of (Some x) = Some (record { sequence = x.sequence; serial = serial_of (read_message x.payload); beats = x.beats })
+sending_of (Some x) = Some (record {
+  sequence = x.sequence;
+  serial = serial_of (read_message x.payload);
+  beats = x.beats;
+})
 
 abbrev pub end_of : Ecp → End
 end_of e = record { next = e.next; sending = sending_of e.sending; got = e.received }
@@ -65,8 +69,8 @@ abbrev pub holder_in : Held → ℕ → Option Tag → Option ℕ
 holder_in h k None = None
 holder_in h k (Some tag) = h.port k tag.ecid
 
--- the extender for which, or from which, a control frame is on the link of extender m: m itself, or the one that hangs on
--- the port of the channel in its E-TAG
+-- the extender for which, or from which, a control frame is on the link of extender m: m itself, or the one that hangs
+-- on the port of the channel in its E-TAG
 unfoldable pub addressee : Shape → Held → ℕ → List ℕ → Option ℕ
 addressee t h m f = if has_etag_type f then hung_at t (holder_in h (trunk t m) (read_etag f)) else Some m
 
@@ -94,12 +98,14 @@ words_of t h n m (x ∷ xs) = notes_if (is_of t h n m x) (note_of (plain x.bytes
 -- On the way up from extender m, at most d links: those nearest the bridge come first.
 unfoldable pub ups_of : Shape → Held → (ℕ → List LinkFrame) → ℕ → ℕ → ℕ → List Note
 ups_of t h up n zero m = []
-ups_of t h up n (suc d) m = (if nat_lt (on t m) 64 then [] else ups_of t h up n d (device (on t m))) ++ words_of t h n m (up m)
+ups_of t h up n (suc d) m = (if nat_lt (on t m) 64 then [] else ups_of t h up n d (device (on t m)))
+    ++ words_of t h n m (up m)
 
 -- On the way down to extender m: those nearest m come first.
 unfoldable pub downs_of : Shape → Held → (ℕ → List LinkFrame) → ℕ → ℕ → ℕ → List Note
 downs_of t h down n zero m = []
-downs_of t h down n (suc d) m = words_of t h n m (down m) ++ (if nat_lt (on t m) 64 then [] else downs_of t h down n d (device (on t m)))
+downs_of t h down n (suc d) m = words_of t h n m (down m)
+    ++ (if nat_lt (on t m) 64 then [] else downs_of t h down n d (device (on t m)))
 
 abbrev pub near_at : Shape → World → ℕ → Near
 near_at t w n =

@@ -4,13 +4,14 @@ ghost use Rattle.exb_settling_laws.specs.Rounds.{AgeingStays, RoundsAreWhole};
 
 use exb_frame::laws::tag_round_trip;
 
-/// The world of each valid setup has the facts that the other laws ask of each world that rounds reach.
+/// The world of each valid setup has the facts that the other laws ask of each world that rounds
+/// reach.
 pub fn setups_have_facts()
     ensures { SetupsHaveFacts }
 {}
 
-/// Whatever the verdicts are, of which at most b aren't Pass, settling ends settled within 64 rounds for each of them, for
-/// each exchange that is planned, and for one more.
+/// Whatever the verdicts are, of which at most b aren't Pass, settling ends settled within 64
+/// rounds for each of them, for each exchange that is planned, and for one more.
 pub fn settling_ends()
     ensures { SettlingEnds }
 {
@@ -27,8 +28,8 @@ pub fn rounds_plan_nothing()
     ensures { RoundsPlanNothing }
 {}
 
-/// In a round in which each word passes no word is left on the way up before words go down, and none on the way down
-/// before the beat.
+/// In a round in which each word passes no word is left on the way up before words go down, and
+/// none on the way down before the beat.
 pub fn rounds_deliver()
     ensures { RoundsDeliver }
 {
@@ -42,22 +43,22 @@ pub fn windows_get_on()
     tag_round_trip();
 }
 
-/// The world of each valid setup begins going: its sessions stand, both ends of each are as they should be, and control words
-/// stand on the way of their extenders.
+/// The world of each valid setup begins going: its sessions stand, both ends of each are as they
+/// should be, and control words stand on the way of their extenders.
 pub fn setups_begin_going()
     ensures { SetupsBeginGoing }
 {}
 
-/// Where a world stays orderly, whatever words are delivered, lost or repeated and whatever beats pass, it keeps the facts that
-/// the laws on settling ask.
+/// Where a world stays orderly, whatever words are delivered, lost or repeated and whatever beats
+/// pass, it keeps the facts that the laws on settling ask.
 pub fn order_keeps_facts()
     ensures { OrderKeepsFacts }
 {
     tag_round_trip();
 }
 
-/// A sound world in which extenders are asked in their turn is orderly: an extender that wasn't heard was asked nothing, its first
-/// request is Open, and whoever is waited for is reached.
+/// A sound world in which extenders are asked in their turn is orderly: an extender that wasn't
+/// heard was asked nothing, its first request is Open, and whoever is waited for is reached.
 pub fn turns_are_orderly()
     ensures { TurnsAreOrderly }
 {}
@@ -67,9 +68,10 @@ pub fn ageing_stays()
     ensures { AgeingStays }
 {}
 
-/// A round is made of moves and counts one beat, unless the number of beats is the last one. It goes through each direction: of the
-/// words that stood there control words alone are left, and behind them stands what was sent. Those and the words that were lost are
-/// at most as many as the verdicts other than Pass that it spent.
+/// A round is made of moves and counts one beat, unless the number of beats is the last one. It
+/// goes through each direction: of the words that stood there control words alone are left, and
+/// behind them stands what was sent. Those and the words that were lost are at most as many as the
+/// verdicts other than Pass that it spent.
 pub fn rounds_are_whole()
     ensures { RoundsAreWhole }
 {}

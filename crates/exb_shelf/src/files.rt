@@ -18,18 +18,18 @@ use std::{fs, io};
 
 /// The system's files.
 ///
-/// Each read opens its file anew and reads at its place, and each write opens its file anew and appends,
-/// so that thousands of files need no open handles, and a file that isn't at its name any more is found
-/// out. This is the trusted edge: no clause says what the system's files hold.
+/// Each read opens its file anew and reads at its place, and each write opens its file anew and
+/// appends, so that thousands of files need no open handles, and a file that isn't at its name any
+/// more is found out. This is the trusted edge: no clause says what the system's files hold.
 ///
 /// What was opened to be read is never made, whatever name leads to it. A file is emptied not by
-/// `create` but by the next call of another kind. So where one of several that are made in a row can't
-/// be made, those that are there still hold what they held.
+/// `create` but by the next call of another kind. So where one of several that are made in a row
+/// can't be made, those that are there still hold what they held.
 ///
-/// A file that is made is a new one, or one that is there under this name alone. Each time that it is
-/// opened again, to be emptied, written or synced, it is the one that was made, by its number and age.
-/// It stands below the folder of the run, and no more is written in all than the operator allows
-/// (`EXBR_ANYWHERE` and `EXBR_BYTES`): the rest is a fault of writing.
+/// A file that is made is a new one, or one that is there under this name alone. Each time that it
+/// is opened again, to be emptied, written or synced, it is the one that was made, by its number
+/// and age. It stands below the folder of the run, and no more is written in all than the operator
+/// allows (`EXBR_ANYWHERE` and `EXBR_BYTES`): the rest is a fault of writing.
 #[derive(Drop)]
 pub struct FileShelf {
     rt: HostRuntime,
@@ -67,8 +67,8 @@ impl FileShelf {
         }
     }
 
-    /// Brings what was written to the disk. It fails where a file that was made is not at its name any
-    /// more, or does not hold as much as was written.
+    /// Brings what was written to the disk. It fails where a file that was made is not at its name
+    /// any more, or does not hold as much as was written.
     pub fn sync(&mut self) -> Result<(), ShelfFault> {
         empty_made(
             &self.rt,
@@ -90,7 +90,8 @@ fn refused() -> io::Error {
     io::Error::from(ErrorKind::InvalidInput)
 }
 
-// Opens a file to be read. Folders, pipes and devices are refused before they could keep it waiting.
+// Opens a file to be read. Folders, pipes and devices are refused before they could keep it
+// waiting.
 fn open_to_read(rt: &HostRuntime, name: &str) -> io::Result<Metadata> {
     if !fs::metadata(rt, name)?.is_file() {
         return Err(refused());
@@ -99,8 +100,8 @@ fn open_to_read(rt: &HostRuntime, name: &str) -> io::Result<Metadata> {
     file.metadata()
 }
 
-// Opens a file that was made, where it holds as much as was written. What stands at its name by now may
-// be another file of the same size.
+// Opens a file that was made, where it holds as much as was written. What stands at its name by now
+// may be another file of the same size.
 fn open_to_append(rt: &HostRuntime, name: &str, output: &Output) -> io::Result<File> {
     let file = OpenOptions::new().append(true).open(rt, name)?;
     let there = file.metadata()?;
@@ -121,8 +122,8 @@ fn empty(rt: &HostRuntime, name: &str, output: &Output) -> io::Result<()> {
     }
 }
 
-// Empties the files that were made, from this id on. What can't be emptied fails when it is written,
-// since it holds more than was written or is another one.
+// Empties the files that were made, from this id on. What can't be emptied fails when it is
+// written, since it holds more than was written or is another one.
 fn empty_made(rt: &HostRuntime, entries: &[OpenFile], outputs: &[Output], full: &mut usize) {
     for (at, entry) in entries.iter().enumerate().skip(*full) {
         if !entry.reads {
@@ -225,8 +226,8 @@ fn sync_all(rt: &HostRuntime, entries: &[OpenFile], outputs: &[Output]) -> io::R
     Ok(())
 }
 
-// Opens a file to be read, and keeps which it is, in a function of its own: what the system tells of a
-// file or of a fault ends here, and not where a shelf's clauses are shown.
+// Opens a file to be read, and keeps which it is, in a function of its own: what the system tells
+// of a file or of a fault ends here, and not where a shelf's clauses are shown.
 fn opened(
     rt: &HostRuntime,
     known: &mut ProtectedFiles,
@@ -388,7 +389,8 @@ impl Shelf for FileShelf {
     }
 }
 
-// How much was printed, or None where the system failed. A terminal shows what would drive it by numbers.
+// How much was printed, or None where the system failed. A terminal shows what would drive it by
+// numbers.
 fn print_some(rt: &HostRuntime, bytes: &[u8]) -> Option<usize>
     ensures { IfSome result (λ n. n ≤ length bytes.now) }
 {
@@ -400,8 +402,8 @@ fn print_some(rt: &HostRuntime, bytes: &[u8]) -> Option<usize>
 }
 
 /// Standard output. Nothing is held back: each call writes at once. Where it is a terminal, control
-/// characters and those that turn the direction are shown by their numbers, and elsewhere all is written
-/// byte for byte.
+/// characters and those that turn the direction are shown by their numbers, and elsewhere all is
+/// written byte for byte.
 #[derive(Drop)]
 pub struct OutSink {
     rt: HostRuntime,

@@ -1,7 +1,8 @@
-//! Files and text as a program sees them: the traits [`Shelf`] and [`Sink`], through which all input
-//! and output goes, with what each call does to the files and to the text. Upwards it promises each
-//! answer with its cause, over memory, where the contents are told, and over the system, where they
-//! are not; and whole files and texts, read and written in pieces. It stands on `exb_model` and `std`.
+//! Files and text as a program sees them: the traits [`Shelf`] and [`Sink`], through which all
+//! input and output goes, with what each call does to the files and to the text. Upwards it
+//! promises each answer with its cause, over memory, where the contents are told, and over the
+//! system, where they are not; and whole files and texts, read and written in pieces. It stands on
+//! `exb_model` and `std`.
 #![tactic(auto)]
 
 mod files;

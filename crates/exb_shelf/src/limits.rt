@@ -15,7 +15,8 @@ pub(crate) struct Limits {
 }
 
 impl Limits {
-    /// Reads them. What is no such value counts as if it weren't there, so that a slip lifts nothing.
+    /// Reads them. What is no such value counts as if it weren't there, so that a slip lifts
+    /// nothing.
     pub(crate) fn of(rt: &HostRuntime) -> Limits {
         Limits {
             anywhere: may_go_anywhere(rt),

@@ -32,9 +32,9 @@ impl Output {
         }
     }
 
-    /// Whether a file that was opened by the output's name is the one that was made. A number that the
-    /// system gave anew, to a file that came later, is told by the time at which the file was made,
-    /// where the system keeps it.
+    /// Whether a file that was opened by the output's name is the one that was made. A number that
+    /// the system gave anew, to a file that came later, is told by the time at which the file was
+    /// made, where the system keeps it.
     pub(crate) fn is(&self, file: &Metadata) -> bool {
         let is_as_old = match (self.born, file.created()) {
             (Some(born), Ok(time)) => born == time,

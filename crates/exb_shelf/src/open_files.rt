@@ -21,11 +21,15 @@ pub(crate) fn give(
     reads: bool,
     name: &str,
 ) -> Result<u32, AllocError>
-    ensures id { IfOk result (λ id. id_at entries.new.items id ≡ record { given = true; reads = reads; name = name.now; place = 0 }) }
+    ensures id { IfOk result (λ id. id_at entries.new.items id
+        ≡ record { given = true; reads = reads; name = name.now; place = 0 }) }
     ensures fresh { IfOk result (λ id. (id_at entries.old.items id).given ≡ false) }
-    ensures rises { IfOk result (λ id. (j : ℕ) → (id_at entries.old.items j).given ≡ true → j < id) }
-    ensures others { IfOk result (λ id. (j : ℕ) → j ≢ id → id_at entries.new.items j ≡ id_at entries.old.items j) }
-    ensures kept { (j : ℕ) → (id_at entries.old.items j).given ≡ true → id_at entries.new.items j ≡ id_at entries.old.items j }
+    ensures rises { IfOk result (λ id. (j : ℕ) → (id_at entries.old.items j).given ≡ true
+        → j < id) }
+    ensures others { IfOk result (λ id. (j : ℕ) → j ≢ id → id_at entries.new.items j
+        ≡ id_at entries.old.items j) }
+    ensures kept { (j : ℕ) → (id_at entries.old.items j).given ≡ true → id_at entries.new.items j
+        ≡ id_at entries.old.items j }
     ensures front { take (length entries.old.items) entries.new.items ≡ entries.old.items }
     ensures err { OnErr result (entries.new.items ≡ entries.old.items) }
 {

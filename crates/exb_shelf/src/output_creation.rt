@@ -1,9 +1,9 @@
 //! How a file is made: a new one, or one of an earlier run, at its name and nowhere else.
 //!
-//! The system's library has no way to open a file without following a link, so what a name leads to is
-//! looked at before, and what was opened afterwards: by its number, by its name once more, and by the
-//! folder in which the system says that it stands. Whoever changes a name in between gets at most an
-//! empty file made; none that was there is emptied or written on.
+//! The system's library has no way to open a file without following a link, so what a name leads to
+//! is looked at before, and what was opened afterwards: by its number, by its name once more, and
+//! by the folder in which the system says that it stands. Whoever changes a name in between gets at
+//! most an empty file made; none that was there is emptied or written on.
 
 use crate::ShelfFault;
 use crate::protected_files::{Inode, ProtectedFiles};
@@ -91,8 +91,8 @@ fn real_folder(rt: &HostRuntime, folder: &str) -> Result<Option<PathBuf>, ShelfF
     }
 }
 
-// Whether an output may stand where its name says: on the way is no link of another user, and it stays
-// below the folder of the run unless the operator lets it go anywhere.
+// Whether an output may stand where its name says: on the way is no link of another user, and it
+// stays below the folder of the run unless the operator lets it go anywhere.
 fn may_stand(
     rt: &HostRuntime,
     name: &str,
@@ -117,8 +117,8 @@ fn is_below(name: &str) -> bool {
     Path::new(name).is_relative() && !name.split('/').any(|part| part == "..")
 }
 
-// Whether a part of a folder's name is a link, or can't be looked at. Links of the system's own user and
-// of the one for whom this runs may be trusted.
+// Whether a part of a folder's name is a link, or can't be looked at. Links of the system's own
+// user and of the one for whom this runs may be trusted.
 fn has_link(rt: &HostRuntime, folder: &str, trusts: bool) -> bool {
     for part in Path::new(folder).ancestors() {
         if part.as_str().is_empty() {
@@ -141,8 +141,8 @@ fn is_trusted(rt: &HostRuntime, link: &Metadata) -> bool {
         }
 }
 
-// Whether an open file stands in this folder, as the system tells it. Where that isn't told, as without
-// /proc, what was looked at before has to do.
+// Whether an open file stands in this folder, as the system tells it. Where that isn't told, as
+// without /proc, what was looked at before has to do.
 fn stands_in(
     rt: &HostRuntime,
     alloc: Global,

@@ -73,8 +73,8 @@ impl ProtectedFiles {
         }
     }
 
-    /// Whether what stands at a name may be made: it is a file of one name, none of these, and not the
-    /// one to which standard output goes.
+    /// Whether what stands at a name may be made: it is a file of one name, none of these, and not
+    /// the one to which standard output goes.
     pub(crate) fn allows(&self, rt: &HostRuntime, name: &str, file: &Metadata) -> bool {
         let node = Inode::of(file);
         file.is_file()

@@ -37,7 +37,8 @@ impl ScratchShelf {
 
     /// Puts a file there, in the place of one of the same name. It counts as no call.
     pub fn put(&mut self, name: &str, bytes: &[u8]) -> Result<(), NoMemory>
-        ensures ok { OnOk result (Puts (scratch_files self.old) (scratch_files self.new) name.now bytes.now) }
+        ensures ok { OnOk result (Puts (scratch_files self.old) (scratch_files self.new) name.now
+            bytes.now) }
         ensures err { OnErr result (SameFiles (scratch_files self.old) (scratch_files self.new)) }
         ensures ids { (j : ℕ) → scratch_ids self.new j ≡ scratch_ids self.old j }
         ensures faults { scratch_faults self.new ≡ scratch_faults self.old }
@@ -79,7 +80,8 @@ fn append(
     name: &str,
     bytes: &[u8],
 ) -> Result<(), NoMemory>
-    ensures ok { OnOk result (Puts (file_in files.old) (file_in files.new) name.now (bytes_of (file_in files.old name.now) ++ bytes.now)) }
+    ensures ok { OnOk result (Puts (file_in files.old) (file_in files.new) name.now
+        (bytes_of (file_in files.old name.now) ++ bytes.now)) }
     ensures err { OnErr result (SameFiles (file_in files.old) (file_in files.new)) }
 {
     match files.get_mut(name) {

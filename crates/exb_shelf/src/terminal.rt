@@ -2,9 +2,10 @@
 
 use std::io::Write;
 
-/// Writes a text so that it drives no terminal: a control character, or one that sets the direction or a
-/// line, is shown as `\u001b`, four digits behind it. Line ends and tabs stay; but in the line of a fault, which
-/// may hold a stranger's name, only the end of the line does. Answers whether all was written.
+/// Writes a text so that it drives no terminal: a control character, or one that sets the direction
+/// or a line, is shown as `\u001b`, four digits behind it. Line ends and tabs stay; but in the line
+/// of a fault, which may hold a stranger's name, only the end of the line does. Answers whether all
+/// was written.
 pub(crate) fn write_shown<W: Write>(to: &mut W, text: &[u8]) -> bool {
     let is_line = text.starts_with(b"exbr: ");
     let mut from = 0usize;

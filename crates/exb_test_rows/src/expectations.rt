@@ -1,5 +1,5 @@
-//! Verdicts by places: of bytes that are cut there or as long, and of bytes with a bit turned there. A table has them one behind
-//! another, with `|` between them.
+//! Verdicts by places: of bytes that are cut there or as long, and of bytes with a bit turned
+//! there. A table has them one behind another, with `|` between them.
 ghost use Rattle.std.specs.Prelude.{◌≡◌, length};
 
 /// The bits of a byte.
@@ -47,7 +47,8 @@ fn has(span: &str, place: usize, bit: u8) -> Result<bool, Malformed> {
     Ok(place_of(first)? <= place && place <= place_of(last)? && bits & bit != 0)
 }
 
-/// Of entries `FIRST-LAST.BITS VERDICT|` the first that has the place and the bit: all bits where none are named.
+/// Of entries `FIRST-LAST.BITS VERDICT|` the first that has the place and the bit: all bits where
+/// none are named.
 pub fn verdict_of_bit(text: &str, place: usize, bit: u8) -> Result<Option<&str>, Malformed> {
     if is_bare(text) {
         return Ok(None);

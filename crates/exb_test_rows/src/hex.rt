@@ -49,7 +49,8 @@ fn put_word(bytes: &mut Vec<u8>, word: &str) -> Result<(), HexFault> {
     Ok(())
 }
 
-/// The bytes of a text of hexadecimal digits in words of whole bytes; `3x00` is the byte 0 three times. Letters are upper case.
+/// The bytes of a text of hexadecimal digits in words of whole bytes; `3x00` is the byte 0 three
+/// times. Letters are upper case.
 pub fn bytes_of(alloc: Global, text: &str) -> Result<Vec<u8>, HexFault> {
     let mut bytes = Vec::new(alloc);
     for word in text.split_whitespace() {

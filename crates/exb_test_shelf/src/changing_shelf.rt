@@ -5,7 +5,8 @@ use exb_model::memory::NoMemory;
 use exb_shelf::{OpenFault, ScratchShelf, Shelf, ShelfFault};
 use std::alloc::Global;
 
-/// Files in memory, of which one is another one from the second time on that it is opened. It doesn't tell what its files hold.
+/// Files in memory, of which one is another one from the second time on that it is opened. It
+/// doesn't tell what its files hold.
 #[derive(Drop)]
 pub struct ChangingShelf {
     kept: ScratchShelf,

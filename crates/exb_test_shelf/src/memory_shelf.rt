@@ -26,7 +26,8 @@ fn is_to_fail(calls: &mut u64, fail: &[u64]) -> bool
     }
 }
 
-/// Text in memory. It counts its calls, from 1, and fails exactly at those whose numbers it was given.
+/// Text in memory. It counts its calls, from 1, and fails exactly at those whose numbers it was
+/// given.
 #[derive(Drop)]
 pub struct MemSink {
     fail: Vec<u64>,
@@ -69,13 +70,16 @@ impl Sink for MemSink {
     fn write(&mut self, bytes: &[u8]) -> Result<usize, ShelfFault>
         ensures bound { IfOk result (λ n. n ≤ length bytes.now) }
         ensures some { 0 < length bytes.now → IfOk result (λ n. 0 < n) }
-        ensures appended { IfOk result (λ n. text_of self.new ≡ text_of self.old ++ take n bytes.now) }
+        ensures appended { IfOk result (λ n. text_of self.new
+            ≡ text_of self.old ++ take n bytes.now) }
         ensures err { OnErr result (text_of self.new ≡ text_of self.old) }
         ensures counts { sink_faults_of self.new ≡ after_print result (sink_faults_of self.old) }
         ensures faults { sink_faults_of self.old ≤ sink_faults_of self.new }
-        ensures failed { IsErrOf result ShelfFault.Failed → Rose (sink_faults_of self.old) (sink_faults_of self.new) }
+        ensures failed { IsErrOf result ShelfFault.Failed
+            → Rose (sink_faults_of self.old) (sink_faults_of self.new) }
 
-        ensures fails { IsErrOf result ShelfFault.Failed ↔ Contains (sink_failing_of self.old) (sink_calls_of self.old + 1) }
+        ensures fails { IsErrOf result ShelfFault.Failed
+            ↔ Contains (sink_failing_of self.old) (sink_calls_of self.old + 1) }
         ensures calls { sink_calls_of self.new ≡ one_more (sink_calls_of self.old) }
         ensures fail { sink_failing_of self.new ≡ sink_failing_of self.old }
     {
@@ -90,8 +94,8 @@ impl Sink for MemSink {
     }
 }
 
-/// Files in memory. It counts the calls of [`Shelf`], from 1, and fails exactly at those whose numbers
-/// it was given.
+/// Files in memory. It counts the calls of [`Shelf`], from 1, and fails exactly at those whose
+/// numbers it was given.
 #[derive(Drop)]
 pub struct MemShelf {
     kept: ScratchShelf,
@@ -152,8 +156,10 @@ impl Shelf for MemShelf {
         ensures id { IfOk result (λ id. ids_of self.new id ≡ reading name.now 0) }
         ensures fresh { IfOk result (λ id. (ids_of self.old id).given ≡ false) }
         ensures rises { IfOk result (λ id. (j : ℕ) → (ids_of self.old j).given ≡ true → j < id) }
-        ensures others { IfOk result (λ id. (j : ℕ) → j ≢ id → ids_of self.new j ≡ ids_of self.old j) }
-        ensures kept { (j : ℕ) → (ids_of self.old j).given ≡ true → ids_of self.new j ≡ ids_of self.old j }
+        ensures others { IfOk result (λ id. (j : ℕ) → j ≢ id → ids_of self.new j
+            ≡ ids_of self.old j) }
+        ensures kept { (j : ℕ) → (ids_of self.old j).given ≡ true → ids_of self.new j
+            ≡ ids_of self.old j }
         ensures none_given { OnErr result ((j : ℕ) → ids_of self.new j ≡ ids_of self.old j) }
         ensures files { SameFiles (files_of self.old) (files_of self.new) }
         ensures there { OnOk result (IsSome (files_of self.old name.now)) }
@@ -161,10 +167,13 @@ impl Shelf for MemShelf {
         ensures not_there { IsErrOf result OpenFault.Missing → files_of self.old name.now ≡ None }
         ensures counts { faults_of self.new ≡ after_open result (faults_of self.old) }
         ensures faults { NoFewer (faults_of self.old) (faults_of self.new) }
-        ensures missing { IsErrOf result OpenFault.Missing → Rose (faults_of self.old).missing (faults_of self.new).missing }
-        ensures failed { IsErrOf result OpenFault.Failed → Rose (faults_of self.old).reads (faults_of self.new).reads }
+        ensures missing { IsErrOf result OpenFault.Missing
+            → Rose (faults_of self.old).missing (faults_of self.new).missing }
+        ensures failed { IsErrOf result OpenFault.Failed
+            → Rose (faults_of self.old).reads (faults_of self.new).reads }
 
-        ensures fails { IsErrOf result OpenFault.Failed ↔ Contains (failing_of self.old) (calls_of self.old + 1) }
+        ensures fails { IsErrOf result OpenFault.Failed
+            ↔ Contains (failing_of self.old) (calls_of self.old + 1) }
         ensures calls { calls_of self.new ≡ one_more (calls_of self.old) }
         ensures fail { failing_of self.new ≡ failing_of self.old }
     {
@@ -179,18 +188,22 @@ impl Shelf for MemShelf {
         requires { IsReading (ids_of self.old id) }
         ensures bound { IfOk result (λ n. n ≤ length into.old) }
         ensures bytes { IfOk result (λ n. take n into.new
-            ≡ take n (drop (ids_of self.old id).place (bytes_of (files_of self.old (ids_of self.old id).name)))) }
+            ≡ take n (drop (ids_of self.old id).place
+            (bytes_of (files_of self.old (ids_of self.old id).name)))) }
         ensures end { 0 < length into.old → IfOk result (λ n. (n ≡ 0)
-            ↔ (drop (ids_of self.old id).place (bytes_of (files_of self.old (ids_of self.old id).name)) ≡ [])) }
+            ↔ (drop (ids_of self.old id).place
+            (bytes_of (files_of self.old (ids_of self.old id).name)) ≡ [])) }
         ensures id { IfOk result (λ n. ids_of self.new id ≡ moved (ids_of self.old id) n) }
         ensures id_err { OnErr result (ids_of self.new id ≡ ids_of self.old id) }
         ensures others { (j : ℕ) → j ≢ id → ids_of self.new j ≡ ids_of self.old j }
         ensures files { SameFiles (files_of self.old) (files_of self.new) }
         ensures counts { faults_of self.new ≡ after_read result (faults_of self.old) }
         ensures faults { NoFewer (faults_of self.old) (faults_of self.new) }
-        ensures failed { IsErrOf result ShelfFault.Failed → Rose (faults_of self.old).reads (faults_of self.new).reads }
+        ensures failed { IsErrOf result ShelfFault.Failed
+            → Rose (faults_of self.old).reads (faults_of self.new).reads }
 
-        ensures fails { IsErrOf result ShelfFault.Failed ↔ Contains (failing_of self.old) (calls_of self.old + 1) }
+        ensures fails { IsErrOf result ShelfFault.Failed
+            ↔ Contains (failing_of self.old) (calls_of self.old + 1) }
         ensures calls { calls_of self.new ≡ one_more (calls_of self.old) }
         ensures fail { failing_of self.new ≡ failing_of self.old }
     {
@@ -205,16 +218,20 @@ impl Shelf for MemShelf {
         ensures id { IfOk result (λ id. ids_of self.new id ≡ writing name.now) }
         ensures fresh { IfOk result (λ id. (ids_of self.old id).given ≡ false) }
         ensures rises { IfOk result (λ id. (j : ℕ) → (ids_of self.old j).given ≡ true → j < id) }
-        ensures others { IfOk result (λ id. (j : ℕ) → j ≢ id → ids_of self.new j ≡ ids_of self.old j) }
-        ensures kept { (j : ℕ) → (ids_of self.old j).given ≡ true → ids_of self.new j ≡ ids_of self.old j }
+        ensures others { IfOk result (λ id. (j : ℕ) → j ≢ id → ids_of self.new j
+            ≡ ids_of self.old j) }
+        ensures kept { (j : ℕ) → (ids_of self.old j).given ≡ true → ids_of self.new j
+            ≡ ids_of self.old j }
         ensures none_given { OnErr result ((j : ℕ) → ids_of self.new j ≡ ids_of self.old j) }
         ensures empty { OnOk result (Puts (files_of self.old) (files_of self.new) name.now []) }
         ensures err { OnErr result (SameFiles (files_of self.old) (files_of self.new)) }
         ensures counts { faults_of self.new ≡ after_write result (faults_of self.old) }
         ensures faults { NoFewer (faults_of self.old) (faults_of self.new) }
-        ensures failed { IsErrOf result ShelfFault.Failed → Rose (faults_of self.old).writes (faults_of self.new).writes }
+        ensures failed { IsErrOf result ShelfFault.Failed
+            → Rose (faults_of self.old).writes (faults_of self.new).writes }
 
-        ensures fails { IsErrOf result ShelfFault.Failed ↔ Contains (failing_of self.old) (calls_of self.old + 1) }
+        ensures fails { IsErrOf result ShelfFault.Failed
+            ↔ Contains (failing_of self.old) (calls_of self.old + 1) }
         ensures calls { calls_of self.new ≡ one_more (calls_of self.old) }
         ensures fail { failing_of self.new ≡ failing_of self.old }
     {
@@ -229,15 +246,18 @@ impl Shelf for MemShelf {
         requires { IsWriting (ids_of self.old id) }
         ensures bound { IfOk result (λ n. n ≤ length bytes.now) }
         ensures some { 0 < length bytes.now → IfOk result (λ n. 0 < n) }
-        ensures appended { IfOk result (λ n. Puts (files_of self.old) (files_of self.new) (ids_of self.old id).name
+        ensures appended { IfOk result (λ n. Puts (files_of self.old) (files_of self.new)
+            (ids_of self.old id).name
             (bytes_of (files_of self.old (ids_of self.old id).name) ++ take n bytes.now)) }
         ensures err { OnErr result (SameFiles (files_of self.old) (files_of self.new)) }
         ensures kept { (j : ℕ) → ids_of self.new j ≡ ids_of self.old j }
         ensures counts { faults_of self.new ≡ after_write result (faults_of self.old) }
         ensures faults { NoFewer (faults_of self.old) (faults_of self.new) }
-        ensures failed { IsErrOf result ShelfFault.Failed → Rose (faults_of self.old).writes (faults_of self.new).writes }
+        ensures failed { IsErrOf result ShelfFault.Failed
+            → Rose (faults_of self.old).writes (faults_of self.new).writes }
 
-        ensures fails { IsErrOf result ShelfFault.Failed ↔ Contains (failing_of self.old) (calls_of self.old + 1) }
+        ensures fails { IsErrOf result ShelfFault.Failed
+            ↔ Contains (failing_of self.old) (calls_of self.old + 1) }
         ensures calls { calls_of self.new ≡ one_more (calls_of self.old) }
         ensures fail { failing_of self.new ≡ failing_of self.old }
     {

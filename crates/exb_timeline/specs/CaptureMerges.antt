@@ -27,8 +27,8 @@ fault_at p (replay.Changed at) = Changed p at
 abbrev pub next_in : CaptureSource → Option ℕ
 next_in s = s.next
 
--- The capture was opened and looked at: the moment of its next record is kept, where it has one, and its numbers are no more than its
--- bytes.
+-- The capture was opened and looked at: the moment of its next record is kept, where it has one, and its numbers are no
+-- more than its bytes.
 pub record IsOpened (ids : ℕ → Id) (s : CaptureSource) : Type 0 where
   pub at : IsAt (ids s.replay.file.id) s.replay.file.got
   pub kept : IsKept s.replay
@@ -82,14 +82,16 @@ number_of (s ∷ rest) p = if s.port == p then s.index else number_of rest p
 -- the captures once a record of this port has come at this moment
 abbrev pub gone_on : ℕ → ℕ → List Standing → List Standing
 gone_on p m [] = []
-gone_on p m (s ∷ rest) = if s.port == p then record { port = s.port; index = suc s.index; least = m } ∷ rest else s ∷ gone_on p m rest
+gone_on p m (s ∷ rest) = if s.port == p then record { port = s.port; index = suc s.index; least = m } ∷ rest else s
+    ∷ gone_on p m rest
 
 -- a port has a capture
 abbrev pub HasPort : ℕ → List Standing → Type 0
 HasPort p [] = ⊥
 HasPort p (s ∷ rest) = (s.port ≡ p) ⊎ HasPort p rest
 
--- a byte lies within what is read of the capture of a port: it is at most one behind the bytes that were told of that capture
+-- a byte lies within what is read of the capture of a port: it is at most one behind the bytes that were told of that
+-- capture
 abbrev pub IsWithin : ℕ → ℕ → List CaptureSource → Type 0
 IsWithin p at [] = ⊥
 IsWithin p at (s ∷ rest) = ((s.port ≡ p) × (at ≤ s.replay.told.bytes + 1)) ⊎ IsWithin p at rest
@@ -106,7 +108,8 @@ pub record HasCome (old : List Standing) (c : Arrival) (new : List Standing) : T
 
 -- no first record that was told is before this second
 abbrev pub AreToldSince : ℕ → CaptureMerge → Type 0
-AreToldSince second r = AllByRecursion (λ (s : CaptureSource). IfSome s.replay.told.first (λ first. second ≤ second_of first)) r.sources.items
+AreToldSince second r = AllByRecursion (λ (s : CaptureSource).
+    IfSome s.replay.told.first (λ first. second ≤ second_of first)) r.sources.items
 
 -- no capture has a next record before this moment
 abbrev pub NoneIsBefore : ℕ → CaptureMerge → Type 0
@@ -138,7 +141,8 @@ AreReplays files ids [] (x ∷ xs) = ⊥
 AreReplays files ids (s ∷ ss) [] = ⊥
 AreReplays files ids (s ∷ ss) (x ∷ xs) = IsReplayOf files ids s x × AreReplays files ids ss xs
 
--- what came is the first of what was still to come of these streams, and what is left of them is what is left; or nothing was
+-- what came is the first of what was still to come of these streams, and what is left of them is what is left; or
+-- nothing was
 abbrev pub ComesFirst : List Stream → Option Arrival → (List Stream → Type 0) → Type 0
 ComesFirst streams None Rest = to_come streams ≡ []
 ComesFirst streams (Some c) Rest = (rest : List Stream) × (to_come streams ≡ Captured c ∷ to_come rest) × Rest rest

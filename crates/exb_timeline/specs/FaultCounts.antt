@@ -6,8 +6,8 @@ use Rattle.exb_timeline.specs.declared.net_timeline.BridgeFault.{BridgeFault}
 use Rattle.exb_timeline.specs.declared.capture_merge.CaptureFault.{CaptureFault}
 use Rattle.exb_timeline.specs.declared.capture_merge.CaptureFault.TheVariants.{Memory, Read, Changed}
 
--- The counts before and after a fault: a read that failed is counted, once. A capture that has changed may be a file that is missing, which is
--- counted.
+-- The counts before and after a fault: a read that failed is counted, once. A capture that has changed may be a file
+-- that is missing, which is counted.
 abbrev pub CountsFault : CaptureFault → Faults → Faults → Type 0
 CountsFault Memory old new = new ≡ old
 CountsFault Read old new = new ≡ reads_more old

@@ -1,4 +1,5 @@
--- What the laws say: of the commands and captures of an input, of those of all bridges of a net, and of an agenda while others read and write.
+-- What the laws say: of the commands and captures of an input, of those of all bridges of a net, and of an agenda while
+-- others read and write.
 use Rattle.std.specs.Prelude.{◌≡◌, ◌<◌, ◌≤◌, ◌==◌, ◌++◌, ◌∷◌, ℕ, Bool, true, false, List, [], map, filter, filter_map, flat_map}
 use Rattle.std.specs.List.{AllByRecursion}
 use Rattle.std.specs.Option.{option_map}
@@ -16,7 +17,8 @@ use Rattle.exb_timeline.specs.NetMergeOrder.{AreAllReplays, AreBegunOf, AreOfNet
 use Rattle.exb_timeline.specs.CaptureMerges.{AreReplays}
 use Rattle.exb_timeline.specs.Streams.{Stream, arrivals_of, next_moment, stream_at, to_come}
 
--- the captures of the ports that pass a test give all that comes, where there is no command and no other port has a record
+-- the captures of the ports that pass a test give all that comes, where there is no command and no other port has a
+-- record
 abbrev pub MergeOfChosen : Type 0
 MergeOfChosen =
     (i : Input) (chosen : ℕ → Bool) → i.commands ≡ []
@@ -38,7 +40,8 @@ StartIsLeast =
 
 -- the records of a port come in the order of its capture, and none comes of what is no port
 pub record MergeKeepsOrder : Type 0 where
-  pub ports : (i : Input) (p : ℕ) → p < 4160 → filter (λ a. a.port == p) (filter_map arrival_in (merge i)) ≡ arrivals_at i p
+  pub ports : (i : Input) (p : ℕ) → p < 4160 → filter (λ a. a.port == p) (filter_map arrival_in (merge i))
+      ≡ arrivals_at i p
   pub others : (i : Input) (p : ℕ) → 4160 ≤ p → filter (λ a. a.port == p) (filter_map arrival_in (merge i)) ≡ []
 
 -- what is still to come of all bridges of a net, before anything is taken, is all that comes to it, in its order
@@ -49,15 +52,20 @@ DuesOfAll =
 
 -- the start of a net is the least second of any first record of any bridge, or 0
 abbrev pub NetStartIsLeast : Type 0
-NetStartIsLeast = (n : Net) (streams : List (List Stream)) → AreOfNet n streams → start_of_all n ≡ least_or 0 (flat_map first_seconds streams)
+NetStartIsLeast = (n : Net) (streams : List (List Stream)) → AreOfNet n streams
+    → start_of_all n ≡ least_or 0 (flat_map first_seconds streams)
 
 -- an agenda stays as it is while its ids stand for what they stood for, and so does what is still to come of it
 pub record AgendasStay : Type 0 where
-  pub reads : (ids : ℕ → Id) (a : NetTimeline) → IsAgenda ids a → AllByRecursion (λ k. ((ids k).given ≡ true) × ((ids k).reads ≡ true)) (all_ids (programmes_in a))
-  pub stays : (given ids : ℕ → Id) (a : NetTimeline) → AllByRecursion (λ k. ids k ≡ given k) (all_ids (programmes_in a)) → IsAgenda given a → IsAgenda ids a
+  pub reads : (ids : ℕ → Id) (a : NetTimeline) → IsAgenda ids a
+      → AllByRecursion (λ k. ((ids k).given ≡ true) × ((ids k).reads ≡ true)) (all_ids (programmes_in a))
+  pub stays : (given ids : ℕ → Id) (a : NetTimeline) → AllByRecursion (λ k. ids k ≡ given k) (all_ids (programmes_in a))
+      → IsAgenda given a → IsAgenda ids a
   pub told : (file files : Files) (given ids : ℕ → Id) (programmes : List Timeline) (streams : List (List Stream))
-      → AllByRecursion (λ k. (ids k ≡ given k) × (bytes_of (files (given k).name) ≡ bytes_of (file (given k).name))) (all_ids programmes)
+      → AllByRecursion (λ k. (ids k ≡ given k) × (bytes_of (files (given k).name) ≡ bytes_of (file (given k).name)))
+      (all_ids programmes)
       → AreAllReplays file given programmes streams → AreAllReplays files ids programmes streams
-  pub more : (files : Files) (ids : ℕ → Id) (programmes : List Timeline) (streams : List (List Stream)) (p : Timeline) (xs : List Stream)
+  pub more : (files : Files) (ids : ℕ → Id) (programmes : List Timeline) (streams : List (List Stream)) (p : Timeline)
+      (xs : List Stream)
       → AreAllReplays files ids programmes streams → AreReplays files ids p.captures.sources.items xs
       → AreAllReplays files ids (programmes ++ p ∷ []) (streams ++ xs ∷ [])

@@ -54,8 +54,8 @@ abbrev pub begins_in : ℕ → List Coming → Bool
 begins_in second xs = is_of (first_moment xs) second
 
 -- ---- turns among several bridges
--- When a programme has its turn, in halves of a nanosecond: a record half a one behind its moment, so that the commands of all bridges come
--- before the records of their moment.
+-- When a programme has its turn, in halves of a nanosecond: a record half a one behind its moment, so that the commands
+-- of all bridges come before the records of their moment.
 abbrev pub turn_by : Option ℕ → Option ℕ → Option ℕ
 turn_by None None = None
 turn_by (Some k) None = Some (2 * k)

@@ -1,4 +1,5 @@
--- What is still to be played of a net: the commands and captures of several bridges, in the order in which the net is given them.
+-- What is still to be played of a net: the commands and captures of several bridges, in the order in which the net is
+-- given them.
 use Rattle.std.specs.Prelude.{⊤, ◌≡◌, ◌≢◌, ◌<◌, ◌≤◌, ℕ, suc, Bool, false, List, [], ◌∷◌, ◌++◌, length, map, filter, filter_map, flat_map, sum_by, Option, Some, None, IfSome, slice_get}
 use Rattle.std.specs.List.{AllByRecursion}
 use Rattle.std.specs.Option.{option_map}
@@ -28,7 +29,8 @@ abbrev pub records_from : ℕ → List ToPlay → List Due
 records_from b [] = []
 records_from b (t ∷ ts) = due_at b t.records ++ records_from (suc b) ts
 
--- What is still to come, in the order in which a net is given it: by moment, and at the same moment the commands of all bridges first.
+-- What is still to come, in the order in which a net is given it: by moment, and at the same moment the commands of all
+-- bridges first.
 unfoldable pub dues_left : List ToPlay → List Due
 dues_left ts = dues_by_moment (orders_from 0 ts ++ records_from 0 ts)
 
@@ -88,7 +90,8 @@ left_of_all ps = sum_by left_of ps
 -- ---- whose turn it is
 -- when a programme has its turn, if it has one, whatever the files hold
 abbrev pub IsTurn : Option ℕ → Timeline → Type 0
-IsTurn turn p = (captured : Option ℕ) × IsEarliest captured p.captures × (turn ≡ turn_by (first_moment (commands_left (played_with [] p))) captured)
+IsTurn turn p = (captured : Option ℕ) × IsEarliest captured p.captures
+    × (turn ≡ turn_by (first_moment (commands_left (played_with [] p))) captured)
 
 abbrev pub turn_in : TimelineEntry → Option ℕ
 turn_in s = s.turn
@@ -106,7 +109,8 @@ pub record IsAgenda (ids : ℕ → Id) (a : NetTimeline) : Type 0 where
   pub few : length a.seats.items ≤ 256
 
 -- ---- what comes
--- Whatever the files hold: this came of one bridge, nothing that is left of any comes before it, and the other bridges have what they had.
+-- Whatever the files hold: this came of one bridge, nothing that is left of any comes before it, and the other bridges
+-- have what they had.
 pub record ComesTo (old : List Timeline) (d : NetNext) (new : List Timeline) : Type 0 where
   pub was : Timeline
   pub is : Timeline
@@ -130,13 +134,17 @@ abbrev pub AreAllReplays : Files → (ℕ → Id) → List Timeline → List (Li
 AreAllReplays files ids [] [] = ⊤
 AreAllReplays files ids [] (xs ∷ xss) = ⊥
 AreAllReplays files ids (p ∷ ps) [] = ⊥
-AreAllReplays files ids (p ∷ ps) (xs ∷ xss) = AreReplays files ids p.captures.sources.items xs × AreAllReplays files ids ps xss
+AreAllReplays files ids (p ∷ ps) (xs ∷ xss) = AreReplays files ids p.captures.sources.items xs
+    × AreAllReplays files ids ps xss
 
--- What came is the first of what was still to come of these streams, and what is left of them is what is left; or nothing was.
-abbrev pub IsFirstOf : List Timeline → List (List Stream) → Option NetNext → List Timeline → (List (List Stream) → Type 0) → Type 0
+-- What came is the first of what was still to come of these streams, and what is left of them is what is left; or
+-- nothing was.
+abbrev pub IsFirstOf : List Timeline → List (List Stream) → Option NetNext → List Timeline
+    → (List (List Stream) → Type 0) → Type 0
 IsFirstOf old streams None new Rest = dues_left (all_to_play streams old) ≡ []
 IsFirstOf old streams (Some d) new Rest =
-    (rest : List (List Stream)) × (dues_left (all_to_play streams old) ≡ due_of d ∷ dues_left (all_to_play rest new)) × Rest rest
+    (rest : List (List Stream)) × (dues_left (all_to_play streams old) ≡ due_of d ∷ dues_left (all_to_play rest new))
+    × Rest rest
 
 -- a programme of bridge b, of which this holds
 abbrev pub IsOfBridge : List Timeline → ℕ → (Timeline → Type 0) → Type 0

@@ -12,14 +12,20 @@ use Rattle.exb_timeline.specs.Streams.{Stream, to_come}
 
 -- what is still to be played where this is still to come of the captures
 abbrev pub played_with : List Stream → Timeline → ToPlay
-played_with streams p = record { start = p.start; commands = p.commands.now; taken = p.taken; records = to_come streams }
+played_with streams p = record {
+  start = p.start;
+  commands = p.commands.now;
+  taken = p.taken;
+  records = to_come streams;
+}
 
 -- what comes, without where it lies in memory
 abbrev pub what : Next → Coming
 what (next.Command number moment) = Ordered moment number
 what (next.Record c) = Captured c
 
--- Its captures were opened, its commands come in the order of their seconds, and nothing that was told of them is before its start.
+-- Its captures were opened, its commands come in the order of their seconds, and nothing that was told of them is
+-- before its start.
 pub record IsProgramme (ids : ℕ → Id) (p : Timeline) : Type 0 where
   pub opened : AreOpened ids p.captures
   pub start : p.start < 2 ^ 32
@@ -39,7 +45,8 @@ sooner command captured = if comes_first command captured then command else capt
 
 -- the moment of what comes next, if anything does, whatever the files hold
 abbrev pub IsSoonest : Option ℕ → Timeline → Type 0
-IsSoonest moment p = (captured : Option ℕ) × IsEarliest captured p.captures × (moment ≡ sooner (first_moment (commands_left (played_with [] p))) captured)
+IsSoonest moment p = (captured : Option ℕ) × IsEarliest captured p.captures
+    × (moment ≡ sooner (first_moment (commands_left (played_with [] p))) captured)
 
 -- its moment, if anything came
 abbrev pub moment_in : Option Next → Option ℕ
@@ -53,7 +60,8 @@ left_of p = (length p.commands.now - p.taken) + left_in p.captures
 -- the command of its number, or the next record of a port
 abbrev pub IsOf : Timeline → Next → Timeline → Type 0
 IsOf old (next.Command number moment) new =
-    (number ≡ old.taken + 1) × (old.taken < length old.commands.now) × (new.taken ≡ old.taken + 1) × (standings new.captures ≡ standings old.captures)
+    (number ≡ old.taken + 1) × (old.taken < length old.commands.now) × (new.taken ≡ old.taken + 1)
+    × (standings new.captures ≡ standings old.captures)
 IsOf old (next.Record c) new = HasCome (standings old.captures) c (standings new.captures) × (new.taken ≡ old.taken)
 
 -- how many bytes of a capture it takes at least
@@ -74,8 +82,10 @@ pub record IsComing (old : Timeline) (d : Next) (new : Timeline) : Type 0 where
   pub size : size_of d + left_in new.captures ≤ left_in old.captures
   pub left : left_of new < left_of old
 
--- Where the files are told and are those that were checked: it is the first of what was still to come of them, and the rest is left.
+-- Where the files are told and are those that were checked: it is the first of what was still to come of them, and the
+-- rest is left.
 abbrev pub IsTakenOf : Files → Files → (ℕ → Id) → (ℕ → Id) → Timeline → Next → Timeline → Type 0
 IsTakenOf file files given ids old d new =
     (streams : List Stream) → AreReplays file given old.captures.sources.items streams
-    → (rest : List Stream) × (still_to_come (played_with streams old) ≡ what d ∷ still_to_come (played_with rest new)) × AreReplays files ids new.captures.sources.items rest
+    → (rest : List Stream) × (still_to_come (played_with streams old) ≡ what d ∷ still_to_come (played_with rest new))
+    × AreReplays files ids new.captures.sources.items rest

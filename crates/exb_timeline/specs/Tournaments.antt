@@ -7,7 +7,8 @@ use Rattle.exb_timeline.specs.declared.tournament.Tournament.{Tournament}
 abbrev pub moment_at : List (Option ℕ) → ℕ → Option ℕ
 moment_at moments place = get_or moments place None
 
--- The first turn of some moments by place is that of this one: none is earlier, and those at the same moment stand behind it.
+-- The first turn of some moments by place is that of this one: none is earlier, and those at the same moment stand
+-- behind it.
 pub record IsFirst (moments : List (Option ℕ)) (moment place : ℕ) : Type 0 where
   pub within : place < length moments
   pub own : moment_at moments place ≡ Some moment
@@ -71,7 +72,8 @@ pub record HasRacer (moments places racers : List ℕ) (place : ℕ) : Type 0 wh
   pub low : at racers place < length moments
   pub own : at places (at racers place) ≡ place
 
--- Racers with these moments run for the places that have a turn, in the order of places: a place that was added without one needs none.
+-- Racers with these moments run for the places that have a turn, in the order of places: a place that was added without
+-- one needs none.
 pub record AreRacing (turns : List (Option ℕ)) (moments places racers : List ℕ) : Type 0 where
   pub count : length racers ≡ length turns
   pub each : length places ≡ length moments

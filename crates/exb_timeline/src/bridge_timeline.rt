@@ -1,4 +1,5 @@
-//! Commands, and the records of captures that are read again, in the order in which they are played.
+//! Commands, and the records of captures that are read again, in the order in which they are
+//! played.
 ghost use Rattle.std.specs.Prelude.{◌≡◌, ◌+◌, ◌-◌, ◌*◌, ◌^◌, ◌<◌, ◌≤◌, ℕ, [], length, take, drop, AllPairs, IfSome};
 ghost use Rattle.exb_model.specs.Input.{moment_of};
 ghost use Rattle.exb_shelf.specs.Shelf.{Id};
@@ -47,8 +48,9 @@ fn moment_after(start: u64, at: u32) -> u64
     (start + at as u64) * SECOND
 }
 
-/// The turn among several bridges of what has these moments, in halves of a nanosecond: that of a record is half a one
-/// behind its moment, so that the commands of all bridges come before the records of their moment.
+/// The turn among several bridges of what has these moments, in halves of a nanosecond: that of a
+/// record is half a one behind its moment, so that the commands of all bridges come before the
+/// records of their moment.
 #[inline(always)]
 fn turn_by(command: Option<u64>, captured: Option<u64>) -> Option<u64>
     requires command { IfSome command (λ m. m < 2 ^ 63) }
@@ -107,8 +109,8 @@ impl Drop for Timeline<'_> {
 }
 
 impl<'a> Timeline<'a> {
-    /// The commands of a topology, in the order of its file, from a start, and captures at their first
-    /// records, none of which was told before it.
+    /// The commands of a topology, in the order of its file, from a start, and captures at their
+    /// first records, none of which was told before it.
     pub fn new(captures: CaptureMerge, commands: &'a [Timed], start: u64) -> Timeline<'a>
         requires start { start < 2 ^ 32 }
         requires since { AreToldSince start captures }
@@ -171,7 +173,8 @@ impl<'a> Timeline<'a> {
     fn take_command(&mut self) -> Next
         requires programme { (ids : ℕ → Id) × IsProgramme ids self.old }
         requires left { self.old.taken < length self.old.commands.now }
-        requires first { IfSome (first_moment (commands_left (played_with [] self.old))) (λ m. NoneIsBefore m self.old.captures) }
+        requires first { IfSome (first_moment (commands_left (played_with [] self.old)))
+            (λ m. NoneIsBefore m self.old.captures) }
         ensures { TakesCommand self.old result self.new }
     {
         let commands = self.commands;
@@ -199,7 +202,8 @@ impl<'a> Timeline<'a> {
         &self.commands[from..self.taken]
     }
 
-    /// Takes what comes next; None exactly where nothing is left. A record's bytes come in `buffer`, which is written anew.
+    /// Takes what comes next; None exactly where nothing is left. A record's bytes come in
+    /// `buffer`, which is written anew.
     #[inline(always)]
     pub fn next<S: Shelf>(
         &mut self,
@@ -207,7 +211,8 @@ impl<'a> Timeline<'a> {
         buffer: Vec<u8>,
     ) -> Result<Option<Next>, CaptureFault>
         requires programme { IsProgramme (S.ids shelf.old) self.old }
-        ensures { TakesNext S.tells (S.file shelf.old) (S.file shelf.new) (S.ids shelf.old) (S.ids shelf.new) (S.faults shelf.old) (S.faults shelf.new) self.old self.new result }
+        ensures { TakesNext S.tells (S.file shelf.old) (S.file shelf.new) (S.ids shelf.old)
+            (S.ids shelf.new) (S.faults shelf.old) (S.faults shelf.new) self.old self.new result }
     {
         if comes_first(self.command_moment(), self.captures.moment()) {
             return Ok(Some(self.take_command()));
@@ -226,7 +231,8 @@ impl<'a> Timeline<'a> {
         second: u64,
     ) -> Result<Option<Next>, CaptureFault>
         requires programme { IsProgramme (S.ids shelf.old) self.old }
-        ensures { TakesWithin second S.tells (S.file shelf.old) (S.file shelf.new) (S.ids shelf.old) (S.ids shelf.new) (S.faults shelf.old) (S.faults shelf.new) self.old self.new result }
+        ensures { TakesWithin second S.tells (S.file shelf.old) (S.file shelf.new) (S.ids shelf.old)
+            (S.ids shelf.new) (S.faults shelf.old) (S.faults shelf.new) self.old self.new result }
     {
         if is_of(self.next_moment(), second) {
             self.next(shelf, buffer)

@@ -74,8 +74,8 @@ impl CaptureMerge {
         }
     }
 
-    /// Opens the capture of a port again, of which this was told, puts it behind those so far, and looks as
-    /// far as its first record.
+    /// Opens the capture of a port again, of which this was told, puts it behind those so far, and
+    /// looks as far as its first record.
     ///
     /// Where the files are told and the file is the one that was checked, it is never Changed.
     pub fn add<S: Shelf>(
@@ -89,7 +89,9 @@ impl CaptureMerge {
         requires opened { AreOpened (S.ids shelf.old) self.old }
         requires port { HasPort port (standings self.old) → ⊥ }
         requires room { told.bytes + 2 < 2 ^ 63 }
-        ensures { AddsCapture S.tells (S.file shelf.old) (S.file shelf.new) (S.ids shelf.old) (S.ids shelf.new) (S.faults shelf.old) (S.faults shelf.new) port name.now told self.old self.new result }
+        ensures { AddsCapture S.tells (S.file shelf.old) (S.file shelf.new) (S.ids shelf.old)
+            (S.ids shelf.new) (S.faults shelf.old) (S.faults shelf.new) port name.now told self.old
+            self.new result }
     {
         let mut replay = match Replay::open(alloc, shelf, name, told) {
             Ok(replay) => replay,
@@ -126,11 +128,11 @@ impl CaptureMerge {
         }
     }
 
-    /// Takes what comes next, and looks as far as the next record of its capture; None exactly where nothing
-    /// is left. The record's bytes come in `buffer`, which is written anew.
+    /// Takes what comes next, and looks as far as the next record of its capture; None exactly
+    /// where nothing is left. The record's bytes come in `buffer`, which is written anew.
     ///
-    /// Where the files are told and are those that were checked, what comes is the first of what is still to
-    /// come of their records, and it is never Changed.
+    /// Where the files are told and are those that were checked, what comes is the first of what is
+    /// still to come of their records, and it is never Changed.
     #[inline(always)]
     pub fn next<S: Shelf>(
         &mut self,
@@ -138,7 +140,8 @@ impl CaptureMerge {
         buffer: Vec<u8>,
     ) -> Result<Option<Arrival>, CaptureFault>
         requires opened { AreOpened (S.ids shelf.old) self.old }
-        ensures { TakesRecord S.tells (S.file shelf.old) (S.file shelf.new) (S.ids shelf.old) (S.ids shelf.new) (S.faults shelf.old) (S.faults shelf.new) self.old self.new result }
+        ensures { TakesRecord S.tells (S.file shelf.old) (S.file shelf.new) (S.ids shelf.old)
+            (S.ids shelf.new) (S.faults shelf.old) (S.faults shelf.new) self.old self.new result }
     {
         let Some((moment, place)) = self.turns.first() else {
             return Ok(None);

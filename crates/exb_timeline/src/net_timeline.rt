@@ -63,20 +63,30 @@ impl TimelineEntry<'_> {
     ) -> Result<Option<Next>, CaptureFault>
         requires seated { IsSeated (S.ids shelf.old) self.old }
         ensures seated { OnOk result (IsSeated (S.ids shelf.new) self.new) }
-        ensures coming { IfOk result (λ next. IfSome next (λ d. IsComing self.old.programme d self.new.programme)) }
-        ensures turn { IfOk result (λ next. IfSome next (λ d. IfSome self.old.turn (λ t. 2 * moment_of (what d) ≤ t))) }
+        ensures coming { IfOk result (λ next.
+            IfSome next (λ d. IsComing self.old.programme d self.new.programme)) }
+        ensures turn { IfOk result (λ next.
+            IfSome next (λ d. IfSome self.old.turn (λ t. 2 * moment_of (what d) ≤ t))) }
         ensures end { IfOk result (λ next. IfNone next (self.old.turn ≡ None)) }
-        ensures order { S.tells → IfOk result (λ next. IfSome next (λ d. IsTakenOf (S.file shelf.old) (S.file shelf.new) (S.ids shelf.old) (S.ids shelf.new) self.old.programme d self.new.programme)) }
-        ensures never { S.tells → (p at : ℕ) → IsErrOf result (CaptureFault.Changed p at) → (streams : List Stream)
-            → AreReplays (S.file shelf.old) (S.ids shelf.old) self.old.programme.captures.sources.items streams → ⊥ }
+        ensures order { S.tells
+            → IfOk result (λ next. IfSome next (λ d. IsTakenOf (S.file shelf.old) (S.file shelf.new)
+            (S.ids shelf.old) (S.ids shelf.new) self.old.programme d self.new.programme)) }
+        ensures never { S.tells → (p at : ℕ) → IsErrOf result (CaptureFault.Changed p at)
+            → (streams : List Stream)
+            → AreReplays (S.file shelf.old) (S.ids shelf.old)
+            self.old.programme.captures.sources.items streams → ⊥ }
 
-        ensures reads { ReadsOn (ids_in self.old.programme.captures) (S.ids shelf.old) (S.ids shelf.new) }
+        ensures reads { ReadsOn (ids_in self.old.programme.captures) (S.ids shelf.old)
+            (S.ids shelf.new) }
         ensures files { SameFiles (S.file shelf.old) (S.file shelf.new) }
-        ensures port { (p at : ℕ) → IsErrOf result (CaptureFault.Changed p at) → HasPort p (standings self.old.programme.captures) }
-        ensures place { (p at : ℕ) → IsErrOf result (CaptureFault.Changed p at) → IsWithin p at self.old.programme.captures.sources.items }
+        ensures port { (p at : ℕ) → IsErrOf result (CaptureFault.Changed p at)
+            → HasPort p (standings self.old.programme.captures) }
+        ensures place { (p at : ℕ) → IsErrOf result (CaptureFault.Changed p at)
+            → IsWithin p at self.old.programme.captures.sources.items }
         ensures counts { CountsAgain result (S.faults shelf.old) (S.faults shelf.new) }
         ensures faults { NoFewer (S.faults shelf.old) (S.faults shelf.new) }
-        ensures failed { IsErrOf result CaptureFault.Read → Rose (S.faults shelf.old).reads (S.faults shelf.new).reads }
+        ensures failed { IsErrOf result CaptureFault.Read
+            → Rose (S.faults shelf.old).reads (S.faults shelf.new).reads }
     {
         let next = self.programme.next(shelf, buffer)?;
         self.turn = self.programme.turn();
@@ -96,26 +106,30 @@ impl<'a> NetTimeline<'a> {
         }
     }
 
-    /// Puts the programme of the next bridge behind those so far. Its captures were opened after theirs.
+    /// Puts the programme of the next bridge behind those so far. Its captures were opened after
+    /// theirs.
     pub fn add(&mut self, programme: Timeline<'a>) -> Result<(), NoMemory>
         requires programme { (ids : ℕ → Id) × IsProgramme ids programme }
         requires few { length (programmes_in self.old) < 256 }
         requires room { (ids : ℕ → Id) × IsAgenda ids self.old }
-        ensures agenda { OnOk result ((given ids : ℕ → Id) → AllByRecursion (λ k. (given k).given ≡ true) (all_ids (programmes_in self.old))
-            → AllByRecursion (λ k. (given k).given ≡ false) (ids_in programme.entry.captures) → IsAgenda ids self.old → IsProgramme ids programme.entry → IsAgenda ids self.new) }
-        ensures programmes { OnOk result (programmes_in self.new ≡ programmes_in self.old ++ programme.entry ∷ []) }
+        ensures agenda { OnOk result ((given ids : ℕ → Id)
+            → AllByRecursion (λ k. (given k).given ≡ true) (all_ids (programmes_in self.old))
+            → AllByRecursion (λ k. (given k).given ≡ false) (ids_in programme.entry.captures)
+            → IsAgenda ids self.old → IsProgramme ids programme.entry → IsAgenda ids self.new) }
+        ensures programmes { OnOk result (programmes_in self.new
+            ≡ programmes_in self.old ++ programme.entry ∷ []) }
     {
         let turn = programme.turn();
         self.seats.push(TimelineEntry { programme, turn })?;
         self.turns.add(turn)
     }
 
-    /// Takes what comes next of all bridges; None exactly where nothing is left. A record's bytes come in `buffer`, which is written
-    /// anew.
+    /// Takes what comes next of all bridges; None exactly where nothing is left. A record's bytes
+    /// come in `buffer`, which is written anew.
     ///
-    /// Where the files are told and are those that were checked, what comes is the first of what is still to come of all bridges: by
-    /// moment, and at the same moment the commands of all bridges first, and then in the order of bridges. A capture is then never
-    /// Changed.
+    /// Where the files are told and are those that were checked, what comes is the first of what is
+    /// still to come of all bridges: by moment, and at the same moment the commands of all bridges
+    /// first, and then in the order of bridges. A capture is then never Changed.
     #[inline(always)]
     pub fn next<S: Shelf>(
         &mut self,
@@ -126,25 +140,37 @@ impl<'a> NetTimeline<'a> {
         ensures agenda { OnOk result (IsAgenda (S.ids shelf.new) self.new) }
 
         // Whatever the files hold.
-        ensures coming { IfOk result (λ next. IfSome next (λ d. ComesTo (programmes_in self.old) d (programmes_in self.new))) }
+        ensures coming { IfOk result (λ next.
+            IfSome next (λ d. ComesTo (programmes_in self.old) d (programmes_in self.new))) }
         ensures same { IfOk result (λ next. IfNone next (self.new ≡ self.old)) }
 
         // Where the files are told.
-        ensures order { S.tells → IfOk result (λ next. (streams : List (List Stream)) → AreAllReplays (S.file shelf.old) (S.ids shelf.old) (programmes_in self.old) streams
-            → IsFirstOf (programmes_in self.old) streams next (programmes_in self.new) (λ rest. AreAllReplays (S.file shelf.new) (S.ids shelf.new) (programmes_in self.new) rest)) }
-        ensures never { S.tells → (b p at : ℕ) → IsErrOf result (record { bridge = b; fault = CaptureFault.Changed p at }) → (streams : List (List Stream))
-            → AreAllReplays (S.file shelf.old) (S.ids shelf.old) (programmes_in self.old) streams → ⊥ }
+        ensures order { S.tells → IfOk result (λ next. (streams : List (List Stream))
+            → AreAllReplays (S.file shelf.old) (S.ids shelf.old) (programmes_in self.old) streams
+            → IsFirstOf (programmes_in self.old) streams next (programmes_in self.new)
+            (λ rest. AreAllReplays (S.file shelf.new) (S.ids shelf.new) (programmes_in self.new)
+            rest)) }
+        ensures never { S.tells → (b p at : ℕ)
+            → IsErrOf result (record { bridge = b; fault = CaptureFault.Changed p at })
+            → (streams : List (List Stream))
+            → AreAllReplays (S.file shelf.old) (S.ids shelf.old) (programmes_in self.old) streams
+            → ⊥ }
 
-        ensures ids { OnOk result (all_ids (programmes_in self.new) ≡ all_ids (programmes_in self.old)) }
-        ensures reads { ReadsOn (all_ids (programmes_in self.old)) (S.ids shelf.old) (S.ids shelf.new) }
+        ensures ids { OnOk result (all_ids (programmes_in self.new)
+            ≡ all_ids (programmes_in self.old)) }
+        ensures reads { ReadsOn (all_ids (programmes_in self.old)) (S.ids shelf.old)
+            (S.ids shelf.new) }
         ensures files { SameFiles (S.file shelf.old) (S.file shelf.new) }
-        ensures port { (b p at : ℕ) → IsErrOf result (record { bridge = b; fault = CaptureFault.Changed p at })
+        ensures port { (b p at : ℕ)
+            → IsErrOf result (record { bridge = b; fault = CaptureFault.Changed p at })
             → IsOfBridge (programmes_in self.old) b (λ m. HasPort p (standings m.captures)) }
-        ensures place { (b p at : ℕ) → IsErrOf result (record { bridge = b; fault = CaptureFault.Changed p at })
+        ensures place { (b p at : ℕ)
+            → IsErrOf result (record { bridge = b; fault = CaptureFault.Changed p at })
             → IsOfBridge (programmes_in self.old) b (λ m. IsWithin p at m.captures.sources.items) }
         ensures counts { CountsNext result (S.faults shelf.old) (S.faults shelf.new) }
         ensures faults { NoFewer (S.faults shelf.old) (S.faults shelf.new) }
-        ensures failed { (b : ℕ) → IsErrOf result (record { bridge = b; fault = CaptureFault.Read }) → Rose (S.faults shelf.old).reads (S.faults shelf.new).reads }
+        ensures failed { (b : ℕ) → IsErrOf result (record { bridge = b; fault = CaptureFault.Read })
+            → Rose (S.faults shelf.old).reads (S.faults shelf.new).reads }
     {
         let Some((_, place)) = self.turns.first() else {
             return Ok(None);

@@ -14,8 +14,9 @@ const MOMENT: u128 = 0x1_0000_0000_0000_0000;
 
 /// The turns of what stands in a list: the moment that comes next of each place, if one does.
 ///
-/// They are a tournament of racers, one of each place that was added with a turn: what never has one costs no round. Of its
-/// nodes each but a leaf, at n, has two below it, at 2n and 2n + 1, and the root is at 1; each racer has a leaf.
+/// They are a tournament of racers, one of each place that was added with a turn: what never has
+/// one costs no round. Of its nodes each but a leaf, at n, has two below it, at 2n and 2n + 1, and
+/// the root is at 1; each racer has a leaf.
 pub struct Tournament {
     /// The moment of each racer, or `NEVER`.
     moments: Vec<u64>,
@@ -77,7 +78,8 @@ fn add_racer(
 ) -> Result<(), NoMemory>
     ensures moments { OnOk result (moments.new.items ≡ moments.old.items ++ moment ∷ []) }
     ensures leaves { OnOk result (leaves.new.items ≡ leaves.old.items ++ racer ∷ []) }
-    ensures firsts { OnOk result (firsts.new.items ≡ (firsts.old.items ++ racer ∷ []) ++ racer ∷ []) }
+    ensures firsts { OnOk result (firsts.new.items ≡ (firsts.old.items ++ racer ∷ [])
+        ++ racer ∷ []) }
 {
     moments.push(moment)?;
     leaves.push(racer)?;
@@ -103,7 +105,8 @@ impl Tournament {
     pub fn add(&mut self, moment: Option<u64>) -> Result<(), NoMemory>
         requires turns { (moments : List (Option ℕ)) × AreTurns moments self.old }
         requires small { IfSome moment (λ m. m < 18446744073709551615) }
-        ensures { OnOk result ((moments : List (Option ℕ)) → AreTurns moments self.old → AreTurns (moments ++ moment ∷ []) self.new) }
+        ensures { OnOk result ((moments : List (Option ℕ)) → AreTurns moments self.old
+            → AreTurns (moments ++ moment ∷ []) self.new) }
     {
         let place = self.racers.len();
         let racer = self.moments.len();
@@ -131,8 +134,10 @@ impl Tournament {
     #[inline(always)]
     pub fn first(&self) -> Option<(u64, usize)>
         requires turns { (moments : List (Option ℕ)) × AreTurns moments self.now }
-        ensures some { IfSome result (λ t. (moments : List (Option ℕ)) → AreTurns moments self.now → IsFirst moments t.0 t.1) }
-        ensures none { IfNone result ((moments : List (Option ℕ)) → AreTurns moments self.now → AllByRecursion (λ m. m ≡ None) moments) }
+        ensures some { IfSome result (λ t. (moments : List (Option ℕ)) → AreTurns moments self.now
+            → IsFirst moments t.0 t.1) }
+        ensures none { IfNone result ((moments : List (Option ℕ)) → AreTurns moments self.now
+            → AllByRecursion (λ m. m ≡ None) moments) }
     {
         let racer = *self.firsts.get(1)?;
         let moment = self.moments[racer];
@@ -145,9 +150,11 @@ impl Tournament {
     /// Gives a place that has a turn its next one, or takes it away.
     #[inline(always)]
     pub fn put(&mut self, place: usize, moment: Option<u64>)
-        requires turn { (moments : List (Option ℕ)) × AreTurns moments self.old × HasTurn moments place }
+        requires turn { (moments : List (Option ℕ)) × AreTurns moments self.old
+            × HasTurn moments place }
         requires small { IfSome moment (λ m. m < 18446744073709551615) }
-        ensures { (moments : List (Option ℕ)) → AreTurns moments self.old → AreTurns (set moments place moment) self.new }
+        ensures { (moments : List (Option ℕ)) → AreTurns moments self.old
+            → AreTurns (set moments place moment) self.new }
     {
         let racer = self.racers[place];
         self.moments[racer] = moment.unwrap_or(NEVER);

@@ -147,7 +147,8 @@ elements name (Some (array ds)) = if are_tables ds then Ok ds else Err (at fault
 elements name (Some _) = Err (at fault.Kind name)
 
 -- what each item is, one after the other from index i, with a state that an item may change
-unfoldable pub each : {S X : Type 0} → (S → ℕ → Data → Result X Refusal) → (S → X → S) → S → ℕ → Items → Result (List X) Refusal
+unfoldable pub each : {S X : Type 0} → (S → ℕ → Data → Result X Refusal) → (S → X → S) → S → ℕ → Items
+    → Result (List X) Refusal
 each read next s i no_items = Ok []
 each read next s i (item d ds) = read s i d >>= (λ x. each read next (next s x) (i + 1) ds >>= (λ xs. Ok (x ∷ xs)))
 

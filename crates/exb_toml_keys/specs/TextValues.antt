@@ -76,7 +76,8 @@ unfoldable pub extended_word : List ℕ → Option PortPattern
 extended_word text = do
   p ← cut 46 text
   n ← small p.0
-  if is_star p.1 then Some (word.Whole n) else (span p.1 >>= λ s. Some (word.Ports (port_number n s.0) (port_number n s.1)))
+  if is_star p.1 then Some (word.Whole n) else (span p.1 >>= λ s.
+      Some (word.Ports (port_number n s.0) (port_number n s.1)))
 
 unfoldable pub word_of : List ℕ → Option PortPattern
 word_of [] = None
@@ -106,13 +107,15 @@ octet_at text i = do
 -- the pairs are joined by this byte
 abbrev pub is_joined : ℕ → List ℕ → Bool
 is_joined c text =
-    (slice_index text 2 == c && slice_index text 5 == c) && ((slice_index text 8 == c && slice_index text 11 == c) && slice_index text 14 == c)
+    (slice_index text 2 == c && slice_index text 5 == c) && ((slice_index text 8 == c && slice_index text 11 == c)
+    && slice_index text 14 == c)
 
 -- six pairs of hexadecimal digits, joined by - throughout or by : throughout
 unfoldable pub address_of : List ℕ → Option Mac
 address_of text =
     if length text == 17 && (is_joined 45 text || is_joined 58 text)
-    then (octet_at text 0 >>= λ a. octet_at text 3 >>= λ b. octet_at text 6 >>= λ c. octet_at text 9 >>= λ d. octet_at text 12 >>= λ e. octet_at text 15 >>= λ f.
+    then (octet_at text 0 >>= λ a. octet_at text 3 >>= λ b. octet_at text 6 >>= λ c. octet_at text 9 >>= λ d.
+    octet_at text 12 >>= λ e. octet_at text 15 >>= λ f.
     Some (record { 0 = a ∷ b ∷ c ∷ d ∷ e ∷ f ∷ [] }))
     else None
 

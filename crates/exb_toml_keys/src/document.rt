@@ -9,9 +9,9 @@ use crate::faults::TopoFault;
 use std::alloc::Global;
 use toml::Table;
 
-/// The document of a file of at most `most` bytes: Large for a longer one, and NotToml where it isn't UTF-8
-/// or the crate `toml` refuses it for another cause than memory. The members of each table in it come in byte
-/// order of their keys.
+/// The document of a file of at most `most` bytes: Large for a longer one, and NotToml where it
+/// isn't UTF-8 or the crate `toml` refuses it for another cause than memory. The members of each
+/// table in it come in byte order of their keys.
 #[tactic(auto, unfolding(crate::specs::Documents::document))]
 pub fn document(alloc: Global, file: &[u8], most: usize) -> Result<Table, TopoFault>
     ensures exact { GivesSeen table_view result (document most file.now) }

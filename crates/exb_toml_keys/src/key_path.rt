@@ -8,7 +8,8 @@ use exb_model::memory::NoMemory;
 use exb_model::text::Text;
 use std::alloc::{AllocError, Global};
 
-/// Where keys stand: at the top of the file, in a table, or in an element of a list of tables, from 0.
+/// Where keys stand: at the top of the file, in a table, or in an element of a list of tables, from
+/// 0.
 #[derive(Clone, Copy)]
 pub enum KeyPath {
     Top,

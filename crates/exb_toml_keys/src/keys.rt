@@ -28,8 +28,8 @@ pub fn member<'a>(table: &'a Table, key: &str) -> Option<&'a Value>
     table.get(key)
 }
 
-/// The whole number at a key, from the first to the second of a range; where the key is absent, the default
-/// or Missing.
+/// The whole number at a key, from the first to the second of a range; where the key is absent, the
+/// default or Missing.
 pub fn number_key(
     alloc: Global,
     place: KeyPath,
@@ -39,7 +39,8 @@ pub fn number_key(
     default: Option<u32>,
 ) -> Result<u32, TopoFault>
     requires { ForSome default (λ n. (range.0 ≤ n) × (n ≤ range.1)) }
-    ensures value { Gives result (key_at (number range.0 range.1) default (place_text place) key.now (table_view table.now)) }
+    ensures value { Gives result (key_at (number range.0 range.1) default (place_text place) key.now
+        (table_view table.now)) }
     ensures most { IfOk result (λ n. n ≤ range.1) }
     ensures least { IfOk result (λ n. range.0 ≤ n) }
 {
@@ -64,7 +65,8 @@ pub fn vid_key(
     key: &str,
     default: Option<Vid>,
 ) -> Result<Vid, TopoFault>
-    ensures { Gives result (key_at (number 1 4094) default (place_text place) key.now (table_view table.now)) }
+    ensures { Gives result (key_at (number 1 4094) default (place_text place) key.now
+        (table_view table.now)) }
 {
     match member(table, key) {
         Some(value) => match values::number(value, 1, 4094) {
@@ -78,7 +80,8 @@ pub fn vid_key(
     }
 }
 
-/// The last VLAN of a range at a key, from its first to 4094, and the first where the key is absent.
+/// The last VLAN of a range at a key, from its first to 4094, and the first where the key is
+/// absent.
 pub fn last_key(
     alloc: Global,
     place: KeyPath,
@@ -86,7 +89,8 @@ pub fn last_key(
     key: &str,
     first: Vid,
 ) -> Result<Vid, TopoFault>
-    ensures value { Gives result (key_at (number first 4094) (Some first) (place_text place) key.now (table_view table.now)) }
+    ensures value { Gives result (key_at (number first 4094) (Some first) (place_text place) key.now
+        (table_view table.now)) }
     ensures order { IfOk result (λ last. first ≤ last) }
 {
     match member(table, key) {
@@ -128,7 +132,8 @@ pub fn text_key(
     key: &str,
     default: &str,
 ) -> Result<Text, TopoFault>
-    ensures { Gives result (key_at text (Some default.now) (place_text place) key.now (table_view table.now)) }
+    ensures { Gives result (key_at text (Some default.now) (place_text place) key.now
+        (table_view table.now)) }
 {
     match member(table, key) {
         Some(value) => match values::text(value) {
@@ -183,7 +188,8 @@ pub fn accept_key(
     key: &str,
     default: Option<Accept>,
 ) -> Result<Accept, TopoFault>
-    ensures { Gives result (key_at accept default (place_text place) key.now (table_view table.now)) }
+    ensures { Gives result (key_at accept default (place_text place) key.now
+        (table_view table.now)) }
 {
     match member(table, key) {
         Some(value) => match values::accept(value) {
@@ -213,7 +219,8 @@ pub fn kind_key(alloc: Global, place: KeyPath, table: &Table, key: &str) -> Resu
 /// An ageing time in seconds at a key, 0 or 10 to 1,000,000, and 300 where the key is absent.
 pub fn ageing_key(alloc: Global, place: KeyPath, table: &Table, key: &str) -> Result<u32, TopoFault>
     ensures range { IfOk result IsAgeing }
-    ensures value { Gives result (key_at ageing (Some 300) (place_text place) key.now (table_view table.now)) }
+    ensures value { Gives result (key_at ageing (Some 300) (place_text place) key.now
+        (table_view table.now)) }
 {
     match member(table, key) {
         Some(value) => match values::ageing(value) {
@@ -233,7 +240,8 @@ pub fn seconds_key(
     key: &str,
     before: u32,
 ) -> Result<u32, TopoFault>
-    ensures { Gives result (key_at (seconds before) None (place_text place) key.now (table_view table.now)) }
+    ensures { Gives result (key_at (seconds before) None (place_text place) key.now
+        (table_view table.now)) }
 {
     match member(table, key) {
         Some(value) => match values::number(value, before, u32::MAX) {
@@ -244,8 +252,8 @@ pub fn seconds_key(
     }
 }
 
-/// The fate at a key, empty where it is absent. This many letters of fates stand before it in the file, and
-/// with its own they may be 60,000.
+/// The fate at a key, empty where it is absent. This many letters of fates stand before it in the
+/// file, and with its own they may be 60,000.
 #[tactic(auto, unfolding(crate::specs::Keys::fate))]
 pub fn fate_key(
     alloc: Global,
@@ -255,7 +263,8 @@ pub fn fate_key(
     letters: usize,
 ) -> Result<List<Verdict>, TopoFault>
     requires { letters ≤ 60000 }
-    ensures value { Gives result (key_at (fate letters) (Some []) (place_text place) key.now (table_view table.now)) }
+    ensures value { Gives result (key_at (fate letters) (Some []) (place_text place) key.now
+        (table_view table.now)) }
     ensures room { IfOk result (λ fate. letters + length fate ≤ 60000) }
 {
     match member(table, key) {
@@ -276,7 +285,8 @@ fn words_in(
     key: &str,
     items: &[Value],
 ) -> Result<List<PortPattern>, TopoFault>
-    ensures { Gives result (placed (place_text place ++ key.now) (named (words_of (items_view items.now)))) }
+    ensures { Gives result (placed (place_text place ++ key.now)
+        (named (words_of (items_view items.now)))) }
 {
     let mut all = List::new(alloc);
     for item in items {
@@ -288,7 +298,8 @@ fn words_in(
     Ok(all)
 }
 
-/// The list of words for ports at a key; where the key is absent, empty or, where it is required, Missing.
+/// The list of words for ports at a key; where the key is absent, empty or, where it is required,
+/// Missing.
 #[tactic(auto, unfolding(crate::specs::Keys::words))]
 pub fn words_key(
     alloc: Global,
@@ -297,7 +308,8 @@ pub fn words_key(
     key: &str,
     required: bool,
 ) -> Result<List<PortPattern>, TopoFault>
-    ensures { Gives result (key_at words (if required then None else Some []) (place_text place) key.now (table_view table.now)) }
+    ensures { Gives result (key_at words (if required then None else Some []) (place_text place)
+        key.now (table_view table.now)) }
 {
     match member(table, key) {
         Some(Value::Array(items)) => {

@@ -32,10 +32,12 @@ fn are_tables(items: &[Value]) -> bool
     true
 }
 
-/// The elements of a list of tables, none where it is absent; Kind at its name where it is no such list.
+/// The elements of a list of tables, none where it is absent; Kind at its name where it is no such
+/// list.
 #[tactic(auto, unfolding(crate::specs::Keys::elements))]
 pub fn elements<'a>(alloc: Global, name: &str, table: &'a Table) -> Result<&'a [Value], TopoFault>
-    ensures { GivesSeen (λ s. items_view s.now) result (elements name.now (get_member name.now (table_view table.now))) }
+    ensures { GivesSeen (λ s. items_view s.now) result
+        (elements name.now (get_member name.now (table_view table.now))) }
 {
     match member(table, name) {
         None => Ok(&[]),

@@ -18,7 +18,8 @@ pub enum PortPattern {
     All,
     /// `xN.*`: all external ports of extender N, 1 to 64.
     Whole { extender: u8 },
-    /// `bA-B` or `xN.A-B`: the ports from first to last, which have one device. A port alone is both.
+    /// `bA-B` or `xN.A-B`: the ports from first to last, which have one device. A port alone is
+    /// both.
     Ports { first: PortId, last: PortId },
 }
 

@@ -4,7 +4,8 @@ use Rattle.exb_toml_keys.specs.declared.faults.KeyFault.{KeyFault}
 use Rattle.exb_toml_keys.specs.Faults.{Refusal, at, ◌>>=◌}
 
 -- the first refusal of a test of an element, its index and those before it; from index i of all on
-unfoldable pub each_ok : {X : Type 0} → (List X → ℕ → X → Result (Unit {0}) Refusal) → List X → ℕ → List X → Result (Unit {0}) Refusal
+unfoldable pub each_ok : {X : Type 0} → (List X → ℕ → X → Result (Unit {0}) Refusal) → List X → ℕ → List X
+    → Result (Unit {0}) Refusal
 each_ok test all i [] = Ok tt
 each_ok test all i (x ∷ xs) = test (take i all) i x >>= λ _. each_ok test all (i + 1) xs
 

@@ -10,8 +10,8 @@ use Rattle.exb_topology.specs.Topologies.{topology_view, topology_of}
 abbrev pub IsApart : Shape → List ℕ → List ℕ → Type 0
 IsApart tree prefix name = All (λ o. name ≢ file_name prefix o) (all_outputs tree)
 
--- Captures and commands name external ports, no capture has the name of an output, there are at most 65,536 commands, whose seconds
--- never fall, and all letters of fates together are at most 60,000.
+-- Captures and commands name external ports, no capture has the name of an output, there are at most 65,536 commands,
+-- whose seconds never fall, and all letters of fates together are at most 60,000.
 pub record IsSound (t : Topology) : Type 0 where
   pub captures : All (λ capture. is_external (shape_of t.setup) capture.port ≡ true) t.captures
   pub apart : All (λ capture. IsApart (shape_of t.setup) t.prefix capture.name) t.captures

@@ -14,4 +14,5 @@ order x y = ordering_then (nat_cmp x.0 y.0) (slice_cmp nat_cmp x.1 y.1)
 
 -- the set has a VLAN with an address exactly where one of the entries is for them
 abbrev pub Knows : BTreeSet (ℕ × List ℕ) → List StaticElement → Type 0
-Knows given before = (v : ℕ) (m : List ℕ) → contains order given (v, m) ≡ list_any (λ f. f.vid == v && bytes_eq f.address.0 m) before
+Knows given before = (v : ℕ) (m : List ℕ) → contains order given (v, m)
+    ≡ list_any (λ f. f.vid == v && bytes_eq f.address.0 m) before

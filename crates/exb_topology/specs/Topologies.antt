@@ -23,11 +23,13 @@ use Rattle.exb_topology.specs.CommandViews.{Seen, set_vlan, put_member, take_mem
 
 -- ---- what the start sets: the ports in file order, then the VLANs, then the static entries
 abbrev pub port_start : PortElement → List Seen
-port_start p = set_pvid p.name p.pvid ∷ set_accept p.name p.accept ∷ set_filter p.name p.filter ∷ set_isolated p.name p.isolated ∷ []
+port_start p = set_pvid p.name p.pvid ∷ set_accept p.name p.accept ∷ set_filter p.name p.filter
+    ∷ set_isolated p.name p.isolated ∷ []
 
 -- each VLAN from the first to the last
 abbrev pub vlan_start : Shape → VlanElement → List Seen
-vlan_start t v = map (λ n. set_vlan n (listed t v.tagged) (listed t v.untagged)) (range_with_len v.vid (v.last + 1 - v.vid))
+vlan_start t v = map (λ n. set_vlan n (listed t v.tagged) (listed t v.untagged))
+    (range_with_len v.vid (v.last + 1 - v.vid))
 
 -- without a key `vlan`, VLAN 1 holds every external port untagged
 abbrev pub vlans_start : Shape → Option (List VlanElement) → List Seen

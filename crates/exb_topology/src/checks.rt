@@ -168,8 +168,10 @@ type Destinations = BTreeSet<(u16, [u8; 6])>;
 
 /// Notes what an entry is for, and answers whether that was given before.
 fn note(given: &mut Destinations, entry: &StaticElement) -> Result<bool, NoMemory>
-    ensures again { IfOk result (λ again. (before : List StaticElement) → Knows given.old before → again ≡ list_any (same_entry entry.now) before) }
-    ensures noted { OnOk result ((before : List StaticElement) → Knows given.old before → Knows given.new (before ++ entry.now ∷ [])) }
+    ensures again { IfOk result (λ again. (before : List StaticElement) → Knows given.old before
+        → again ≡ list_any (same_entry entry.now) before) }
+    ensures noted { OnOk result ((before : List StaticElement) → Knows given.old before
+        → Knows given.new (before ++ entry.now ∷ [])) }
 {
     let is_new = given.insert((entry.vid.number(), entry.address.0))?;
     Ok(!is_new)
@@ -182,8 +184,10 @@ fn check_static(
     index: usize,
     entry: &StaticElement,
 ) -> Result<(), TopoFault>
-    ensures value { (before : List StaticElement) → Knows given.old before → Gives result (static_ok tree.now before index entry.now) }
-    ensures noted { (before : List StaticElement) → Knows given.old before → OnOk result (Knows given.new (before ++ entry.now ∷ [])) }
+    ensures value { (before : List StaticElement) → Knows given.old before
+        → Gives result (static_ok tree.now before index entry.now) }
+    ensures noted { (before : List StaticElement) → Knows given.old before
+        → OnOk result (Knows given.new (before ++ entry.now ∷ [])) }
 {
     let place = KeyPath::Element {
         table: "static",
@@ -308,9 +312,11 @@ fn is_end(end: &[u8], ends: &[Text]) -> bool
     false
 }
 
-/// Whether a file has the name of an output file: the prefix, and then one of the ends that output files have.
+/// Whether a file has the name of an output file: the prefix, and then one of the ends that output
+/// files have.
 pub fn is_output(name: &str, prefix: &str, ends: &[Text]) -> bool
-    ensures { (t : Shape) → ends.now ≡ output_names [] t → result ≡ list_any (λ o. bytes_eq name.now o) (output_names prefix.now t) }
+    ensures { (t : Shape) → ends.now ≡ output_names [] t
+        → result ≡ list_any (λ o. bytes_eq name.now o) (output_names prefix.now t) }
 {
     match name.as_bytes().strip_prefix(prefix.as_bytes()) {
         Some(end) => is_end(end, ends),
@@ -319,7 +325,8 @@ pub fn is_output(name: &str, prefix: &str, ends: &[Text]) -> bool
 }
 
 fn check_file(alloc: Global, prefix: &str, ends: &[Text], capture: &Named) -> Result<(), TopoFault>
-    ensures { (t : Shape) → ends.now ≡ output_names [] t → Gives result (file_ok (output_names prefix.now t) [] 0 capture.now) }
+    ensures { (t : Shape) → ends.now ≡ output_names [] t
+        → Gives result (file_ok (output_names prefix.now t) [] 0 capture.now) }
 {
     let again = is_output(capture.name.as_str(), prefix, ends);
     refuse_capture(alloc, again, capture.port, KeyFault::Repeat)
@@ -331,7 +338,8 @@ fn check_each_file(
     ends: &[Text],
     captures: &[Named],
 ) -> Result<(), TopoFault>
-    ensures { (t : Shape) → ends.now ≡ output_names [] t → Gives result (each_ok (file_ok (output_names prefix.now t)) captures.now 0 captures.now) }
+    ensures { (t : Shape) → ends.now ≡ output_names [] t
+        → Gives result (each_ok (file_ok (output_names prefix.now t)) captures.now 0 captures.now) }
 {
     for capture in captures {
         check_file(alloc, prefix, ends, capture)?;
@@ -339,15 +347,16 @@ fn check_each_file(
     Ok(())
 }
 
-/// Refuses captures that have the name of an output file. Names are compared by their ends, since thousands
-/// of names with a long prefix would take much memory.
+/// Refuses captures that have the name of an output file. Names are compared by their ends, since
+/// thousands of names with a long prefix would take much memory.
 pub(crate) fn check_files(
     alloc: Global,
     tree: &Tree,
     prefix: &str,
     captures: &[Named],
 ) -> Result<(), TopoFault>
-    ensures { Gives result (each_ok (file_ok (output_names prefix.now tree.now)) captures.now 0 captures.now) }
+    ensures { Gives result (each_ok (file_ok (output_names prefix.now tree.now)) captures.now 0
+        captures.now) }
 {
     let ends = output_names(alloc, "", tree)?;
     check_each_file(alloc, prefix, ends.as_slice(), captures)

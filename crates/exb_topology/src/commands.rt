@@ -1,4 +1,5 @@
-//! The commands of a topology, with its words resolved: those of the start, and those that come later.
+//! The commands of a topology, with its words resolved: those of the start, and those that come
+//! later.
 ghost use Rattle.std.specs.Prelude.{◌≡◌, ◌++◌, ◌∷◌, [], IfOk, OnOk, map, flat_map};
 ghost use Rattle.exb_topology.specs.Checks.{listed};
 ghost use Rattle.exb_topology.specs.CommandViews.{seen, timed_view, set_vlan, put_static, set_pvid, set_accept, set_filter, set_isolated};
@@ -59,7 +60,8 @@ fn add_rules(port: PortElement, start: &mut List<Command>) -> Result<(), NoMemor
 
 /// Puts the rules of these ports at the end.
 pub(crate) fn add_ports(ports: &[PortElement], start: &mut List<Command>) -> Result<(), NoMemory>
-    ensures { OnOk result (map seen start.new ≡ map seen start.old ++ flat_map port_start ports.now) }
+    ensures { OnOk result (map seen start.new ≡ map seen start.old ++ flat_map port_start
+        ports.now) }
 {
     for port in ports {
         add_rules(*port, start)?;
@@ -69,7 +71,8 @@ pub(crate) fn add_ports(ports: &[PortElement], start: &mut List<Command>) -> Res
 
 /// Puts the VLANs of a range at the end.
 fn add_vlan(tree: &Tree, vlan: &VlanElement, start: &mut List<Command>) -> Result<(), NoMemory>
-    ensures { OnOk result (map seen start.new ≡ map seen start.old ++ vlan_start tree.now vlan.now) }
+    ensures { OnOk result (map seen start.new ≡ map seen start.old ++ vlan_start tree.now
+        vlan.now) }
 {
     let tagged = listed(tree, vlan.tagged.as_slice());
     let untagged = listed(tree, vlan.untagged.as_slice());
@@ -89,7 +92,8 @@ fn add_each_vlan(
     vlans: &[VlanElement],
     start: &mut List<Command>,
 ) -> Result<(), NoMemory>
-    ensures { OnOk result (map seen start.new ≡ map seen start.old ++ flat_map (vlan_start tree.now) vlans.now) }
+    ensures { OnOk result (map seen start.new ≡ map seen start.old ++ flat_map (vlan_start tree.now)
+        vlans.now) }
 {
     for vlan in vlans {
         add_vlan(tree, vlan, start)?;
@@ -103,7 +107,8 @@ pub(crate) fn add_vlans(
     vlans: &Option<List<VlanElement>>,
     start: &mut List<Command>,
 ) -> Result<(), NoMemory>
-    ensures { OnOk result (map seen start.new ≡ map seen start.old ++ vlans_start tree.now vlans.now) }
+    ensures { OnOk result (map seen start.new ≡ map seen start.old ++ vlans_start tree.now
+        vlans.now) }
 {
     match vlans {
         Some(vlans) => add_each_vlan(tree, vlans.as_slice(), start),
@@ -121,7 +126,8 @@ pub(crate) fn add_statics(
     statics: &[StaticElement],
     start: &mut List<Command>,
 ) -> Result<(), NoMemory>
-    ensures { OnOk result (map seen start.new ≡ map seen start.old ++ map (static_start tree.now) statics.now) }
+    ensures { OnOk result (map seen start.new ≡ map seen start.old ++ map (static_start tree.now)
+        statics.now) }
 {
     for entry in statics {
         start.push(Command::Static {
@@ -140,7 +146,8 @@ fn set_vlan(
     tagged: &List<PortPattern>,
     untagged: &List<PortPattern>,
 ) -> Command
-    ensures { seen result ≡ set_vlan vid (listed tree.now tagged.now) (listed tree.now untagged.now) }
+    ensures { seen result ≡ set_vlan vid (listed tree.now tagged.now)
+        (listed tree.now untagged.now) }
 {
     Command::Vlan {
         vid,
@@ -197,7 +204,8 @@ fn command_of(tree: &Tree, action: &Action) -> Command
     }
 }
 
-/// What is set before anything happens: the ports in file order, then the VLANs, then the static entries.
+/// What is set before anything happens: the ports in file order, then the VLANs, then the static
+/// entries.
 pub(crate) fn start_of(
     alloc: Global,
     tree: &Tree,
@@ -205,7 +213,8 @@ pub(crate) fn start_of(
     vlans: &Option<List<VlanElement>>,
     statics: &[StaticElement],
 ) -> Result<List<Command>, NoMemory>
-    ensures { IfOk result (λ start. map seen start ≡ flat_map port_start tables.now ++ vlans_start tree.now vlans.now ++ map (static_start tree.now) statics.now) }
+    ensures { IfOk result (λ start. map seen start ≡ flat_map port_start tables.now
+        ++ vlans_start tree.now vlans.now ++ map (static_start tree.now) statics.now) }
 {
     let mut start = List::new(alloc);
     add_ports(tables, &mut start)?;

@@ -1,7 +1,8 @@
-//! Reading a topology file: the bridge, its tree of extenders, what the start sets, commands and captures,
-//! or the first fault of the file with the key where it stands. Upwards it promises that `read` answers
-//! exactly what the definition `topology_of` says, and that what it answers is sound: a valid setup, and
-//! commands and captures that name external ports alone. It stands on `exb_topology_tables`, which reads the tables.
+//! Reading a topology file: the bridge, its tree of extenders, what the start sets, commands and
+//! captures, or the first fault of the file with the key where it stands. Upwards it promises that
+//! `read` answers exactly what the definition `topology_of` says, and that what it answers is
+//! sound: a valid setup, and commands and captures that name external ports alone. It stands on
+//! `exb_topology_tables`, which reads the tables.
 #![tactic(auto)]
 
 mod checks;

@@ -12,8 +12,8 @@ use exb_model::text::Text;
 use exb_model::tree::Tree;
 use std::alloc::Global;
 
-/// The names of all files that runs of a topology write: the captures of the external ports in port order, and after
-/// them the others.
+/// The names of all files that runs of a topology write: the captures of the external ports in port
+/// order, and after them the others.
 pub fn output_names(alloc: Global, prefix: &str, tree: &Tree) -> Result<List<Text>, NoMemory>
     ensures { IfOk result (λ names. names ≡ output_names prefix.now tree.now) }
 {
@@ -30,7 +30,8 @@ fn add_capture(
     port: PortId,
     names: &mut List<Text>,
 ) -> Result<(), NoMemory>
-    ensures { OnOk result (names.new ≡ names.old ++ (if is_external tree.now port then capture_name prefix.now port ∷ [] else [])) }
+    ensures { OnOk result (names.new ≡ names.old
+        ++ (if is_external tree.now port then capture_name prefix.now port ∷ [] else [])) }
 {
     if !tree.is_external(port) {
         return Ok(());
@@ -40,7 +41,8 @@ fn add_capture(
 
 /// The names of the captures that runs write.
 fn capture_names(alloc: Global, prefix: &str, tree: &Tree) -> Result<List<Text>, NoMemory>
-    ensures { IfOk result (λ names. names ≡ map (capture_name prefix.now) (external_ports tree.now)) }
+    ensures { IfOk result (λ names. names ≡ map (capture_name prefix.now)
+        (external_ports tree.now)) }
 {
     let mut names = List::new(alloc);
     for number in 0..4160u16 {

@@ -12,7 +12,8 @@ use exb_toml_keys::text_values::PortPattern;
 /// Puts the ports of a device that are in a set into another one.
 fn add_device(from: &PortSet, device: usize, set: &mut PortSet)
     requires { device < 65 }
-    ensures { (q : ℕ) → port_in set.new q ≡ (port_in set.old q || (q / 64 == device && port_in from.now q)) }
+    ensures { (q : ℕ) → port_in set.new q
+        ≡ (port_in set.old q || (q / 64 == device && port_in from.now q)) }
 {
     set.words[device] |= from.words[device];
 }
@@ -28,7 +29,8 @@ fn add_all(from: &PortSet, set: &mut PortSet)
 
 /// Puts the ports of a set from a first to a last one into another set.
 fn add_range(from: &PortSet, first: PortId, last: PortId, set: &mut PortSet)
-    ensures { (q : ℕ) → port_in set.new q ≡ (port_in set.old q || ((nat_le first q && nat_le q last) && port_in from.now q)) }
+    ensures { (q : ℕ) → port_in set.new q
+        ≡ (port_in set.old q || ((nat_le first q && nat_le q last) && port_in from.now q)) }
 {
     for number in first.number()..last.number() + 1 {
         let port = PortId::new(number).unwrap();

@@ -65,7 +65,8 @@ fn bare(alloc: Global, tables: &TopologyTables) -> Result<Setup, NoMemory>
 #[tactic(auto, unfolding(crate::specs::Checks::ports_ok))]
 fn check_ports(alloc: Global, tree: &Tree, tables: &TopologyTables) -> Result<(), TopoFault>
     ensures value { Gives result (ports_ok tree.now tables.now) }
-    ensures named { OnOk result (each_ok (port_table_ok tree.now) tables.now.ports 0 tables.now.ports ≡ Ok tt) }
+    ensures named { OnOk result (each_ok (port_table_ok tree.now) tables.now.ports 0
+        tables.now.ports ≡ Ok tt) }
 {
     checks::check_ports(alloc, tree, tables.ports.as_slice())?;
     checks::check_vlans(alloc, tree, &tables.vlans)?;
@@ -83,7 +84,8 @@ fn all_commands(
     tables: &TopologyTables,
 ) -> Result<(List<Command>, List<Timed>), NoMemory>
     ensures start { IfOk result (λ made. map seen made.0 ≡ start_seen tree.now tables.now) }
-    ensures later { IfOk result (λ made. map timed_view made.1 ≡ map (command_seen tree.now) tables.now.commands) }
+    ensures later { IfOk result (λ made. map timed_view made.1
+        ≡ map (command_seen tree.now) tables.now.commands) }
 {
     let ports = tables.ports.as_slice();
     let start = commands::start_of(alloc, tree, ports, &tables.vlans, tables.statics.as_slice())?;
@@ -91,8 +93,8 @@ fn all_commands(
     Ok((start, later))
 }
 
-/// The topology of a setup with these commands at its start, and of those that come later. It can't fail, so that what is left of the
-/// tables goes at one end alone.
+/// The topology of a setup with these commands at its start, and of those that come later. It can't
+/// fail, so that what is left of the tables goes at one end alone.
 fn put_together(
     setup: Setup,
     start: List<Command>,
@@ -150,7 +152,8 @@ fn finished(
     }
 }
 
-/// The second and the third pass over the tables of a file, by the setup of these. Answers the tree.
+/// The second and the third pass over the tables of a file, by the setup of these. Answers the
+/// tree.
 #[tactic(auto, unfolding(crate::specs::Topologies::resolved))]
 fn passed(alloc: Global, setup: &Setup, tables: &TopologyTables) -> Result<Tree, TopoFault>
     requires ranges { AreInRange tables.now }
@@ -158,7 +161,8 @@ fn passed(alloc: Global, setup: &Setup, tables: &TopologyTables) -> Result<Tree,
     ensures exact { GivesSeen (λ tree. topology_seen tree tables.now) result (resolved tables.now) }
     ensures tree { IfOk result (λ tree. tree ≡ shape_of setup.now) }
     ensures valid { OnOk result (IsValid setup.now) }
-    ensures named { IfOk result (λ tree. each_ok (port_table_ok tree) tables.now.ports 0 tables.now.ports ≡ Ok tt) }
+    ensures named { IfOk result (λ tree. each_ok (port_table_ok tree) tables.now.ports 0
+        tables.now.ports ≡ Ok tt) }
 {
     check_tree(alloc, setup)?;
     let tree = Tree::new(alloc, setup)?;
@@ -171,8 +175,8 @@ fn passed(alloc: Global, setup: &Setup, tables: &TopologyTables) -> Result<Tree,
     }
 }
 
-/// The second and the third pass over the tables of a file. What is owned goes by calls, since an early end is far longer to
-/// prove where it lets it go.
+/// The second and the third pass over the tables of a file. What is owned goes by calls, since an
+/// early end is far longer to prove where it lets it go.
 fn resolved(alloc: Global, tables: TopologyTables) -> Result<Topology, TopoFault>
     requires { AreInRange tables }
     ensures exact { GivesSeen topology_view result (resolved tables) }
@@ -199,9 +203,10 @@ fn resolved(alloc: Global, tables: TopologyTables) -> Result<Topology, TopoFault
     }
 }
 
-/// The topology of a file, or its first fault. A file of more than 16,777,216 bytes is Large, and one that
-/// isn't TOML is NotToml. Then three passes follow: the shape of the tables, the tree of the extenders, and
-/// the ports that words name with what is given twice. Memory is the one answer that the file doesn't decide.
+/// The topology of a file, or its first fault. A file of more than 16,777,216 bytes is Large, and
+/// one that isn't TOML is NotToml. Then three passes follow: the shape of the tables, the tree of
+/// the extenders, and the ports that words name with what is given twice. Memory is the one answer
+/// that the file doesn't decide.
 #[tactic(auto, unfolding(crate::specs::Topologies::topology_of))]
 pub fn read(alloc: Global, file: &[u8]) -> Result<Topology, TopoFault>
     ensures exact { GivesSeen topology_view result (topology_of file.now) }

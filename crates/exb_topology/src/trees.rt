@@ -132,7 +132,8 @@ fn rooted(
 ) -> Result<(), TopoFault>
     requires fits { (n : ℕ) → slice_index on.now n < 4160 }
     requires range { InRange extender }
-    ensures { (t : Shape) → t.on ≡ on.now → (before : List ExtenderSetup) → Gives result (rooted t before index extender) }
+    ensures { (t : Shape) → t.on ≡ on.now → (before : List ExtenderSetup)
+        → Gives result (rooted t before index extender) }
 {
     let place = At::Element {
         table: "extender",
@@ -145,7 +146,8 @@ fn rooted(
 /// Whether the bridge is reached from each extender.
 fn check_rooted(alloc: Global, setup: &Setup) -> Result<(), TopoFault>
     requires { All InRange setup.now.extenders }
-    ensures { Gives result (each_ok (rooted (shape_of setup.now)) setup.now.extenders 0 setup.now.extenders) }
+    ensures { Gives result (each_ok (rooted (shape_of setup.now)) setup.now.extenders 0
+        setup.now.extenders) }
 {
     let on = hanging(setup);
     let extenders = setup.extenders.as_slice();
@@ -155,8 +157,8 @@ fn check_rooted(alloc: Global, setup: &Setup) -> Result<(), TopoFault>
     Ok(())
 }
 
-/// Whether the extenders of a setup with an empty start are a tree below the bridge, and each number space
-/// has a channel for each of its cascade ports.
+/// Whether the extenders of a setup with an empty start are a tree below the bridge, and each
+/// number space has a channel for each of its cascade ports.
 #[tactic(auto, unfolding(crate::specs::Trees::tree_ok))]
 pub(crate) fn check_tree(alloc: Global, setup: &Setup) -> Result<(), TopoFault>
     requires ranges { HasRanges setup.now }

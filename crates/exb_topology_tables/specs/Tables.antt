@@ -23,7 +23,16 @@ file_tables t = do
   ss ← statics t
   cs ← commands (length fate) t
   files ← captures_key (get_member (codes "captures") t)
-  Ok (record { bridge = bridge; fate = fate; extenders = es; ports = ps; vlans = vs; statics = ss; commands = cs; captures = files })
+  Ok (record {
+    bridge = bridge;
+    fate = fate;
+    extenders = es;
+    ports = ps;
+    vlans = vs;
+    statics = ss;
+    commands = cs;
+    captures = files;
+  })
 
 -- the tables of a file of at most 16,777,216 bytes
 unfoldable pub tables_of : List ℕ → Result TopologyTables Refusal

@@ -107,7 +107,8 @@ pub enum Action {
     },
 }
 
-/// An element of the list `command`: `at` in seconds, and what becomes of the control frames that follow.
+/// An element of the list `command`: `at` in seconds, and what becomes of the control frames that
+/// follow.
 #[derive(Drop)]
 pub struct CommandElement {
     pub at: u32,
@@ -326,7 +327,8 @@ fn command_rows(
     before_all: usize,
 ) -> Result<List<CommandElement>, TopoFault>
     requires { before_all ≤ 60000 }
-    ensures { Gives result (each command_item after_command (0, before_all) 0 (items_view items.now)) }
+    ensures { Gives result (each command_item after_command (0, before_all) 0
+        (items_view items.now)) }
 {
     let mut rows = List::new(alloc);
     let mut before: u32 = 0;

@@ -54,7 +54,8 @@ fn is_of_five(key: &str, a: &str, b: &str, c: &str, d: &str, e: &str) -> bool
     is_of_two(key, a, b) || is_of_three(key, c, d, e)
 }
 
-// Whether it is the name of a table. A `match` of many texts is dear to prove, and two calls aren't.
+// Whether it is the name of a table. A `match` of many texts is dear to prove, and two calls
+// aren't.
 #[tactic(auto, unfolding(crate::specs::Schemas::has_key))]
 fn is_table(key: &str) -> bool
     ensures { result ≡ has_key Schema.Root key.now }

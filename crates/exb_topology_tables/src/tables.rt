@@ -55,8 +55,8 @@ fn of_bridge(alloc: Global, bridge: BridgeTable) -> TopologyTables
     }
 }
 
-/// Reads the tables of a document that follow the bridge's. The caller owns them, since an early end is far longer to prove where it
-/// lets go of what was read.
+/// Reads the tables of a document that follow the bridge's. The caller owns them, since an early
+/// end is far longer to prove where it lets go of what was read.
 #[tactic(auto, unfolding(crate::specs::Tables::file_tables))]
 fn read_others(alloc: Global, root: &Table, tables: &mut TopologyTables) -> Result<(), TopoFault>
     requires known { only (has_key Schema.Root) [] (table_view root.now) ≡ Ok tt }
@@ -93,9 +93,9 @@ fn file_tables(alloc: Global, root: &Table) -> Result<TopologyTables, TopoFault>
     }
 }
 
-/// The tables of a topology file, or its first fault of shape: Large above 16,777,216 bytes, NotToml, or the
-/// fault at a key. Unknown top-level keys come first, in byte order, then the tables in the order of the
-/// file's reference, each whole before the next.
+/// The tables of a topology file, or its first fault of shape: Large above 16,777,216 bytes,
+/// NotToml, or the fault at a key. Unknown top-level keys come first, in byte order, then the
+/// tables in the order of the file's reference, each whole before the next.
 #[tactic(auto, unfolding(crate::specs::Tables::tables_of))]
 pub fn tables_of(alloc: Global, file: &[u8]) -> Result<TopologyTables, TopoFault>
     ensures exact { Gives result (tables_of file.now) }

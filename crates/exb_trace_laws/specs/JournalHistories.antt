@@ -11,10 +11,12 @@ use Rattle.exb_trace_spec.specs.RoundTrips.{IsOfNumbers}
 
 -- The text of a history that an input allows, and that input, give the history.
 abbrev pub InputsReadBack : Type 0
-InputsReadBack = (m : Mode) (i : Input) (h : History) → Legal m i h → Each IsOfNumbers h → history_in (arrivals_at i) (journal_text h) ≡ Some h
+InputsReadBack = (m : Mode) (i : Input) (h : History) → Legal m i h → Each IsOfNumbers h
+    → history_in (arrivals_at i) (journal_text h) ≡ Some h
 
 abbrev pub InputsHaveOneHistory : Type 0
-InputsHaveOneHistory = (m : Mode) (i : Input) (g h : History) → Legal m i g → Legal m i h → Each IsOfNumbers g → Each IsOfNumbers h → journal_text g ≡ journal_text h → g ≡ h
+InputsHaveOneHistory = (m : Mode) (i : Input) (g h : History) → Legal m i g → Legal m i h → Each IsOfNumbers g
+    → Each IsOfNumbers h → journal_text g ≡ journal_text h → g ≡ h
 
 -- The Relays of a history that an input allows have moments that a capture can hold, where the input's records have.
 abbrev pub LegalRelaysFit : Type 0

@@ -18,8 +18,8 @@ use Rattle.exb_world_spec.specs.Worlds.{left_at}
 use Rattle.exb_world_laws.specs.SegmentRuns.{IsTimely}
 use Rattle.exb_world_laws.specs.Runs.SegmentRuns.{PlaysIn}
 
--- A history of the opening and of these segments, each ended by Settled. Its rules are those of a legal history, which plays all segments
--- of its input.
+-- A history of the opening and of these segments, each ended by Settled. Its rules are those of a legal history, which
+-- plays all segments of its input.
 pub record LegalUpTo (i : Input) (so_far : List Segment) (h : History) : Type 0 where
   pub plays : List (List Event)
   pub segments_in_order : h ≡ (opening (tree_of i) (bounds_of i) (basis_of i) then settled_each plays)
@@ -35,19 +35,22 @@ pub record IsHistorySoFar (m : Mode) (i : Input) (h : History) : Type 0 where
   pub segments_are : segments m i ≡ so_far ++ rest
   pub legal : LegalUpTo i so_far h
 
--- a legal trace of it: of the frames that have arrived, the first ones of each capture, and of what the one flat bridge has sent
+-- a legal trace of it: of the frames that have arrived, the first ones of each capture, and of what the one flat bridge
+-- has sent
 pub record IsTraceSoFar (i : Input) (h : History) (lines : List TraceLine) : Type 0 where
   pub came : ℕ → List (List ℕ)
   pub firsts : (p : ℕ) → is_external (tree_of i) p ≡ true → (n : ℕ) × (came p ≡ take n (frames_in i p))
   pub legal : LegalTrace (tree_of i) (journal_of h) came (frames_out i h) lines
 
--- Of what was told and has left: the history is one so far, each external port has what the one flat bridge sends there over it, and the
--- lines are a trace of it.
+-- Of what was told and has left: the history is one so far, each external port has what the one flat bridge sends there
+-- over it, and the lines are a trace of it.
 pub record HasToldSoFar (m : Mode) (i : Input) (done : Stepped) : Type 0 where
   pub journal : IsHistorySoFar m i ([] then done.events)
-  pub captures : (q : ℕ) → is_external (tree_of i) q ≡ true → left_at q done.left ≡ flat (basis_of i) ([] then done.events) q
+  pub captures : (q : ℕ) → is_external (tree_of i) q ≡ true → left_at q done.left
+      ≡ flat (basis_of i) ([] then done.events) q
   pub trace : IsTraceSoFar i ([] then done.events) (all_told done.lines)
 
 -- So it is wherever a run that plays an input has played some segments, in either mode.
 abbrev pub RunsTellSoFar : Type 0
-RunsTellSoFar = (m : Mode) (i : Input) (so_far rest : List Segment) (done : Stepped) → IsTimely i → segments m i ≡ so_far ++ rest → PlaysIn m i so_far done → HasToldSoFar m i done
+RunsTellSoFar = (m : Mode) (i : Input) (so_far rest : List Segment) (done : Stepped) → IsTimely i
+    → segments m i ≡ so_far ++ rest → PlaysIn m i so_far done → HasToldSoFar m i done

@@ -28,7 +28,8 @@ bytes_of ws = map (λ (x : LinkFrame). x.bytes) ws
 -- each control word, with the data frames that came in and those that stand before it
 abbrev pub EachControl : (List (List ℕ) → List ℕ → Type 0) → List (List ℕ) → List LinkFrame → Type 0
 EachControl P before [] = Unit {0}
-EachControl P before (x ∷ xs) = (is_control x ≡ true → P before x.bytes) × EachControl P (before ++ data_of (x.bytes ∷ [])) xs
+EachControl P before (x ∷ xs) = (is_control x ≡ true → P before x.bytes)
+    × EachControl P (before ++ data_of (x.bytes ∷ [])) xs
 
 -- The data words on a link are those that are out and not in, in order. Each control word on it is one that is out, and
 -- the data words out before it are in or stand before it.
@@ -37,10 +38,12 @@ pub record IsOnLink (sent taken : List (List ℕ)) (ws : List LinkFrame) : Type 
   pub controls : EachControl (WasSent sent) (data_of taken) ws
 
 -- Traced: over the arrivals so far in order, the history, and what has left
-pub record Traced (t : Shape) (w : World) (arrivals : List Arrival) (h : History) (left : List Left) (lines : List TraceLine) : Type 0 where
+pub record Traced (t : Shape) (w : World) (arrivals : List Arrival) (h : History) (left : List Left)
+    (lines : List TraceLine) : Type 0 where
   pub legal : LegalSoFar t (journal_of h) (captures_of arrivals) (outputs_of left) lines
   pub states : (n : ℕ) → is_extender t n ≡ true → w.far n ≡ (after_trace t n lines).state
-  pub links : (n : ℕ) (way : Way) → is_extender t n ≡ true → IsOnLink (outs (start_of t n way) lines) (ins (end_of t n way) lines) (words_on n way w)
+  pub links : (n : ℕ) (way : Way) → is_extender t n ≡ true
+      → IsOnLink (outs (start_of t n way) lines) (ins (end_of t n way) lines) (words_on n way w)
 
 -- what a step gives to the captures
 abbrev pub given_by : Step → List Arrival

@@ -15,9 +15,9 @@ pub fn begins_traced()
     ensures { BeginsTraced }
 {}
 
-/// Each step keeps the trace legal so far, with the lines of the step behind it: what the journal says, what each
-/// extender does, the words of each link in order, the frames of captures and output files, and what the bridge says
-/// and sends of each frame that comes to it.
+/// Each step keeps the trace legal so far, with the lines of the step behind it: what the journal
+/// says, what each extender does, the words of each link in order, the frames of captures and
+/// output files, and what the bridge says and sends of each frame that comes to it.
 pub fn steps_stay_traced()
     ensures { StepsStayTraced }
 {
@@ -32,9 +32,9 @@ pub fn begins_serving()
     ensures { BeginsServing }
 {}
 
-/// Each step keeps that: whatever requests an extender executes, none of its external ports becomes a cascade port; each
-/// port awaits the index of its next record; and each data word on its way up has the stamp of a record, which is its
-/// frame without the E-TAG.
+/// Each step keeps that: whatever requests an extender executes, none of its external ports becomes
+/// a cascade port; each port awaits the index of its next record; and each data word on its way up
+/// has the stamp of a record, which is its frame without the E-TAG.
 pub fn steps_stay_serving()
     ensures { StepsStayServing }
 {
@@ -64,8 +64,8 @@ pub fn runs_stay_traced()
     steps_stay_serving();
 }
 
-/// A run from the beginning to a settled world has a legal trace: of its journal, of the frames that arrived at each
-/// external port, and of those that left there.
+/// A run from the beginning to a settled world has a legal trace: of its journal, of the frames
+/// that arrived at each external port, and of those that left there.
 pub fn runs_are_legal()
     ensures { RunsAreLegal }
 {
@@ -77,8 +77,9 @@ pub fn runs_are_legal()
     steps_stay_serving();
 }
 
-/// Over all steps that may be made of a valid setup the trace is legal so far, and whole where the world is settled: each of its worlds
-/// is ready to tell, since PVIDs stay VLANs and links stay clean.
+/// Over all steps that may be made of a valid setup the trace is legal so far, and whole where the
+/// world is settled: each of its worlds is ready to tell, since PVIDs stay VLANs and links stay
+/// clean.
 pub fn setups_tell_legally()
     ensures { SetupsTellLegally }
 {
@@ -94,8 +95,9 @@ pub fn setups_tell_legally()
     settled_is_legal();
 }
 
-/// From each world that a run of a valid setup reaches, and with whatever history, files and trace it stands and is tied to: any steps
-/// keep it tied to the trace with their lines behind it. A world says of itself that it is reached.
+/// From each world that a run of a valid setup reaches, and with whatever history, files and trace
+/// it stands and is tied to: any steps keep it tied to the trace with their lines behind it. A
+/// world says of itself that it is reached.
 pub fn standing_stays_traced()
     ensures { StandingStaysTraced }
 {
@@ -108,8 +110,9 @@ pub fn standing_stays_traced()
     runs_stay_traced();
 }
 
-/// The trace of a run that plays an input, in the eager mode or in a seeded one, is legal whole: of the history that it told, of the
-/// captures of the input, and of what one VLAN bridge sends at each external port over that history.
+/// The trace of a run that plays an input, in the eager mode or in a seeded one, is legal whole: of
+/// the history that it told, of the captures of the input, and of what one VLAN bridge sends at
+/// each external port over that history.
 pub fn runs_tell_legally()
     ensures { RunsTellLegally }
 {
@@ -122,9 +125,10 @@ pub fn runs_tell_legally()
     setups_tell_legally();
 }
 
-/// Wherever a run that plays an input, in the eager mode or in a seeded one, has played some segments: the history that it told is legal
-/// so far, each external port has what one VLAN bridge sends there over that history, and the trace is legal of it, of the frames that
-/// have arrived and of those that were sent.
+/// Wherever a run that plays an input, in the eager mode or in a seeded one, has played some
+/// segments: the history that it told is legal so far, each external port has what one VLAN bridge
+/// sends there over that history, and the trace is legal of it, of the frames that have arrived and
+/// of those that were sent.
 pub fn runs_tell_so_far()
     ensures { RunsTellSoFar }
 {
@@ -136,7 +140,8 @@ pub fn runs_tell_so_far()
     setups_tell_legally();
 }
 
-/// The text of a journal that an input allows, and that input, give the history: each Relay is of an arrival of the input.
+/// The text of a journal that an input allows, and that input, give the history: each Relay is of
+/// an arrival of the input.
 pub fn inputs_read_back()
     ensures { InputsReadBack }
 {}
@@ -146,7 +151,8 @@ pub fn inputs_have_one_history()
     ensures { InputsHaveOneHistory }
 {}
 
-/// The moments of a history that an input allows can be written into a capture, where those of the input's records can.
+/// The moments of a history that an input allows can be written into a capture, where those of the
+/// input's records can.
 pub fn legal_relays_fit()
     ensures { LegalRelaysFit }
 {}

@@ -21,17 +21,21 @@ pub record AreFrames (captures : ℕ → List (List ℕ)) : Type 0 where
   pub few : (p : ℕ) → length (captures p) < 2 ^ 64
 
 abbrev pub Rule1IsDecided : Type 0
-Rule1IsDecided = (t : Shape) (journal : List (List ℕ)) (lines : List TraceLine) → Decides (verdict_1 (through (step_1 t) (start_1 journal) lines)) (HasPlaces t journal lines)
+Rule1IsDecided = (t : Shape) (journal : List (List ℕ)) (lines : List TraceLine)
+    → Decides (verdict_1 (through (step_1 t) (start_1 journal) lines)) (HasPlaces t journal lines)
 
 abbrev pub Rule2IsDecided : Type 0
-Rule2IsDecided = (t : Shape) (lines : List TraceLine) → IsSized t → Decides (verdict_2 t (through step_2 (start_2 t) lines)) (FollowMachines t lines)
+Rule2IsDecided = (t : Shape) (lines : List TraceLine) → IsSized t
+    → Decides (verdict_2 t (through step_2 (start_2 t) lines)) (FollowMachines t lines)
 
 -- A control word is in time exactly where it was sent, where the data words in are a front of those out.
 abbrev pub TimeIsDecided : Type 0
-TimeIsDecided = (sent came : List (List ℕ)) (f : List ℕ) → IsFront came (data_of sent) → Decides (is_in_time sent (length came) f) (WasSent sent came f)
+TimeIsDecided = (sent came : List (List ℕ)) (f : List ℕ) → IsFront came (data_of sent)
+    → Decides (is_in_time sent (length came) f) (WasSent sent came f)
 
 abbrev pub Rule3IsDecided : Type 0
-Rule3IsDecided = (t : Shape) (lines : List TraceLine) → IsSized t → Decides (verdict_3 t (through (step_3 t) start_3 lines)) (KeepsLinks t lines)
+Rule3IsDecided = (t : Shape) (lines : List TraceLine) → IsSized t
+    → Decides (verdict_3 t (through (step_3 t) start_3 lines)) (KeepsLinks t lines)
 
 abbrev pub Rule4IsDecided : Type 0
 Rule4IsDecided =

@@ -60,7 +60,8 @@ cause_by reason needed limit =
     else None
 
 abbrev pub cause_in : List ℕ → List ℕ → List ℕ → Option Cause
-cause_in reason needed limit = option_and_then (λ n. option_and_then (cause_by reason n) (number_in limit)) (number_in needed)
+cause_in reason needed limit = option_and_then (λ n. option_and_then (cause_by reason n) (number_in limit))
+    (number_in needed)
 
 -- of an arrival, by its port and index
 abbrev pub arrival_by : List ℕ → ℕ → ℕ → Option Entry
@@ -87,8 +88,10 @@ refused_in kind what x =
 abbrev pub entry_by : List (List ℕ) → Option Entry
 entry_by (kind ∷ []) = if bytes_eq kind (codes "settled") then Some Settled else None
 entry_by (kind ∷ what ∷ []) = simple_in kind what
-entry_by (kind ∷ port ∷ index ∷ []) = option_and_then (λ p. option_and_then (arrival_by kind p) (number_in index)) (port_in port)
-entry_by (kind ∷ what ∷ reason ∷ needed ∷ limit ∷ []) = option_and_then (refused_in kind what) (cause_in reason needed limit)
+entry_by (kind ∷ port ∷ index ∷ []) = option_and_then (λ p. option_and_then (arrival_by kind p) (number_in index))
+    (port_in port)
+entry_by (kind ∷ what ∷ reason ∷ needed ∷ limit ∷ []) = option_and_then (refused_in kind what)
+    (cause_in reason needed limit)
 entry_by _ = None
 
 unfoldable pub entry_in : List ℕ → Option Entry
@@ -113,7 +116,8 @@ abbrev pub event_in : (ℕ → List Arrival) → List ℕ → Option Event
 event_in arrivals line = option_and_then (event_by arrivals) (entry_in line)
 
 unfoldable pub history_in : (ℕ → List Arrival) → List ℕ → Option History
-history_in arrivals text = option_and_then (λ lines. option_map (λ events. [] then events) (all_read (event_in arrivals) lines)) (lines_in text)
+history_in arrivals text = option_and_then (λ lines. option_map (λ events. [] then events)
+    (all_read (event_in arrivals) lines)) (lines_in text)
 
 -- the lines of a history's journal, the oldest first
 abbrev pub journal_of : History → List (List ℕ)
@@ -138,7 +142,8 @@ IsWritable Settled = Unit {0}
 
 -- a Relay has its arrival's moment and bytes
 abbrev pub IsFound : (ℕ → List Arrival) → Event → Type 0
-IsFound arrivals (event.Relay p n moment f) = numbered (arrivals p) n ≡ Some (record { port = p; index = n; moment = moment; bytes = f })
+IsFound arrivals (event.Relay p n moment f) = numbered (arrivals p) n
+    ≡ Some (record { port = p; index = n; moment = moment; bytes = f })
 IsFound arrivals _ = Unit {0}
 
 pub record IsRecorded (arrivals : ℕ → List Arrival) (e : Event) : Type 0 where

@@ -9,7 +9,8 @@ use Rattle.exb_trace_spec.specs.Rule4Captures.{IsCaptured}
 use Rattle.exb_trace_spec.specs.Rule5Relays.{AreSteps}
 
 -- a run that may still go on: words may be on the links
-pub record LegalSoFar (t : Shape) (journal : List (List ℕ)) (captures outputs : ℕ → List (List ℕ)) (lines : List TraceLine) : Type 0 where
+pub record LegalSoFar (t : Shape) (journal : List (List ℕ)) (captures outputs : ℕ → List (List ℕ))
+    (lines : List TraceLine) : Type 0 where
   pub rule_1 : HasPlaces t journal lines
   pub rule_2 : FollowMachines t lines
   pub rule_3 : LinksInOrder t lines
@@ -17,6 +18,7 @@ pub record LegalSoFar (t : Shape) (journal : List (List ℕ)) (captures outputs 
   pub rule_5 : AreSteps t captures lines
 
 -- a run that has ended
-pub record LegalTrace (t : Shape) (journal : List (List ℕ)) (captures outputs : ℕ → List (List ℕ)) (lines : List TraceLine) : Type 0 where
+pub record LegalTrace (t : Shape) (journal : List (List ℕ)) (captures outputs : ℕ → List (List ℕ))
+    (lines : List TraceLine) : Type 0 where
   pub so_far : LegalSoFar t journal captures outputs lines
   pub empty : LinksAreEmpty t lines

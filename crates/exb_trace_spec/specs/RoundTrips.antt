@@ -33,11 +33,13 @@ EntriesAreWritten = (text : List ℕ) (e : Entry) → entry_in text ≡ Some e �
 
 -- The text of a journal and the arrivals of each port give the history.
 abbrev pub JournalsReadBack : Type 0
-JournalsReadBack = (arrivals : ℕ → List Arrival) (h : History) → Each (IsRecorded arrivals) h → history_in arrivals (journal_text h) ≡ Some h
+JournalsReadBack = (arrivals : ℕ → List Arrival) (h : History) → Each (IsRecorded arrivals) h
+    → history_in arrivals (journal_text h) ≡ Some h
 
 -- So it is one history.
 abbrev pub JournalsDiffer : Type 0
-JournalsDiffer = (arrivals : ℕ → List Arrival) (g h : History) → Each (IsRecorded arrivals) g → Each (IsRecorded arrivals) h → journal_text g ≡ journal_text h → g ≡ h
+JournalsDiffer = (arrivals : ℕ → List Arrival) (g h : History) → Each (IsRecorded arrivals) g
+    → Each (IsRecorded arrivals) h → journal_text g ≡ journal_text h → g ≡ h
 
 -- ---- an event of which a line tells
 -- its ports are ports, and its numbers have 64 bits

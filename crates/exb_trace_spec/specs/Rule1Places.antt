@@ -14,7 +14,8 @@ journal_in lines = flat_map journal_at lines
 
 -- the bridge and a port of it, or an extender of the topology and upstream or a port of it
 abbrev pub is_place : Shape → ℕ → ℕ → Bool
-is_place t n k = if n == 0 then nat_lt 0 k && nat_le k (slice_index t.ports 0) else is_extender t n && nat_le k (slice_index t.ports n)
+is_place t n k = if n == 0 then nat_lt 0 k && nat_le k (slice_index t.ports 0) else is_extender t n
+    && nat_le k (slice_index t.ports n)
 
 abbrev pub NamesPlace : Shape → TraceLine → Type 0
 NamesPlace t (In n k f) = is_place t n k ≡ true

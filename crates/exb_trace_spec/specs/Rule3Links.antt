@@ -62,7 +62,8 @@ DataInOrder from to lines = IsFront (data_of (ins to lines)) (data_of (outs from
 
 -- a control word in was sent, and no data word that was sent before it is still to come
 abbrev pub ControlWasSent : Place → Place → List TraceLine → TraceLine → Type 0
-ControlWasSent from to lines l = (f : List ℕ) → in_at to l ≡ f ∷ [] → is_control_frame f ≡ true → WasSent (outs from lines) (data_of (ins to lines)) f
+ControlWasSent from to lines l = (f : List ℕ) → in_at to l ≡ f ∷ [] → is_control_frame f ≡ true
+    → WasSent (outs from lines) (data_of (ins to lines)) f
 
 pub record GoesInOrder (from to : Place) (lines : List TraceLine) : Type 0 where
   pub data_in_order : AtEachPlace (DataInOrder from to) lines

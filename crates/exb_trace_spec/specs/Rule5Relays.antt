@@ -61,15 +61,16 @@ pub record HoldsFrame (t : Shape) (k : ℕ) (f frame : List ℕ) : Type 0 where
   pub local : is_external t (k - 1) ≡ true → f ≡ frame
   pub cascade : is_external t (k - 1) ≡ false → (stripped f ≡ frame) × (is_some (read_etag f) ≡ true)
 
--- The step has exactly one line that says what became of it, and that names the record whose frame this is. At a local port it
--- is a record of that port.
-pub record IsEntered (t : Shape) (captures : ℕ → List (List ℕ)) (k : ℕ) (f : List ℕ) (said : List (List ℕ)) : Type 0 where
-  pub line : List ℕ
-  pub once : said ≡ line ∷ []
-  pub frame : List ℕ
-  pub names : NamesRecord captures line frame
-  pub here : is_external t (k - 1) ≡ true → names.port ≡ k - 1
-  pub holds : HoldsFrame t k f frame
+-- The step has exactly one line that says what became of it, and that names the record whose frame this is. At a local
+-- port it is a record of that port.
+pub record IsEntered (t : Shape) (captures : ℕ → List (List ℕ)) (k : ℕ) (f : List ℕ) (said : List (List ℕ)) : Type 0
+  where
+    pub line : List ℕ
+    pub once : said ≡ line ∷ []
+    pub frame : List ℕ
+    pub names : NamesRecord captures line frame
+    pub here : is_external t (k - 1) ≡ true → names.port ≡ k - 1
+    pub holds : HoldsFrame t k f frame
 
 abbrev pub Enters : Shape → (ℕ → List (List ℕ)) → TraceLine → List (List ℕ) → Type 0
 Enters t captures (In n k f) said = IsEntered t captures k f said

@@ -9,8 +9,8 @@ use Rattle.exb_trace_spec.specs.Rule4Captures.{IsCaptured}
 use Rattle.exb_trace_spec.specs.Rule5Relays.{AreSteps}
 use Rattle.exb_trace_spec.specs.LegalTrace.{LegalTrace}
 
--- What a run wrote and was given, as the rules see it: its tree, the journal's lines, the frames of the capture and of the
--- output file of each port, and the trace's lines.
+-- What a run wrote and was given, as the rules see it: its tree, the journal's lines, the frames of the capture and of
+-- the output file of each port, and the trace's lines.
 pub record Files : Type 0 where
   pub tree : Shape
   pub journal : List (List ℕ)

@@ -112,7 +112,8 @@ verdict_2 t s = all_extenders t (λ n. is_done (s n))
 -- how many data frames stand before the first such frame
 abbrev pub data_before : List ℕ → List (List ℕ) → Option ℕ
 data_before f [] = None
-data_before f (x ∷ xs) = if bytes_eq x f then Some 0 else option_map (λ n. length (data_of (x ∷ [])) + n) (data_before f xs)
+data_before f (x ∷ xs) = if bytes_eq x f then Some 0 else option_map (λ n. length (data_of (x ∷ [])) + n)
+    (data_before f xs)
 
 abbrev pub some_within : ℕ → Option ℕ → Bool
 some_within most None = false
@@ -130,15 +131,16 @@ pub record Control : Type 0 where
 -- the control words among these, where so many data words went out before them
 abbrev pub controls_from : ℕ → List (List ℕ) → List Control
 controls_from n [] = []
-controls_from n (x ∷ xs) = if is_control_frame x then record { frame = x; before = n } ∷ controls_from n xs else controls_from (n + 1) xs
+controls_from n (x ∷ xs) = if is_control_frame x then record { frame = x; before = n }
+    ∷ controls_from n xs else controls_from (n + 1) xs
 
 -- the data words before the first such control word
 abbrev pub before_first : List ℕ → List Control → Option ℕ
 before_first f [] = None
 before_first f (c ∷ cs) = if bytes_eq c.frame f then Some c.before else before_first f cs
 
--- A direction of a link: the control words that went out, how many data words went out and how many came in, and those that
--- are still to come; none once a word came in that should not.
+-- A direction of a link: the control words that went out, how many data words went out and how many came in, and those
+-- that are still to come; none once a word came in that should not.
 pub record Link : Type 0 where
   pub controls : List Control
   pub gone : ℕ
@@ -152,12 +154,20 @@ abbrev pub put_more : List (List ℕ) → Option (List (List ℕ)) → Option (L
 put_more fs waiting = option_map (λ ws. ws ++ data_of fs) waiting
 
 abbrev pub goes_out : List (List ℕ) → Link → Link
-goes_out fs x = record { controls = x.controls ++ controls_from x.gone fs; gone = x.gone + length (data_of fs); came = x.came; waiting = put_more fs x.waiting }
+goes_out fs x = record {
+  controls = x.controls ++ controls_from x.gone fs;
+  gone = x.gone + length (data_of fs);
+  came = x.came;
+  waiting = put_more fs x.waiting;
+}
 
 abbrev pub comes_in : List (List ℕ) → Link → Link
 comes_in [] x = x
 comes_in (f ∷ fs) x =
-    if is_control_frame f then record x { waiting = if some_within x.came (before_first f x.controls) then x.waiting else None }
+    if is_control_frame f then record x {
+      waiting = if some_within x.came (before_first f x.controls) then x.waiting
+          else None;
+    }
     else record x { came = x.came + 1; waiting = option_and_then (without_front (f ∷ [])) x.waiting }
 
 -- words go from one place to the other; a line has at most one of either
@@ -170,7 +180,10 @@ pub record Links : Type 0 where
   pub down : Link
 
 abbrev pub links_line : Shape → ℕ → Links → TraceLine → Links
-links_line t n x l = record { up = link_line (upstream_of n) (place_of (on t n)) x.up l; down = link_line (place_of (on t n)) (upstream_of n) x.down l }
+links_line t n x l = record {
+  up = link_line (upstream_of n) (place_of (on t n)) x.up l;
+  down = link_line (place_of (on t n)) (upstream_of n) x.down l;
+}
 
 abbrev pub start_3 : ℕ → Links
 start_3 n = record { up = new_link; down = new_link }
@@ -188,7 +201,10 @@ pub record Left : Type 0 where
   pub leaving : Option (List (List ℕ))
 
 abbrev pub left_line : ℕ → Left → TraceLine → Left
-left_line p x l = record { arriving = match_line (in_at (place_of p)) x.arriving l; leaving = match_line (out_at (place_of p)) x.leaving l }
+left_line p x l = record {
+  arriving = match_line (in_at (place_of p)) x.arriving l;
+  leaving = match_line (out_at (place_of p)) x.leaving l;
+}
 
 abbrev pub start_4 : (ℕ → List (List ℕ)) → (ℕ → List (List ℕ)) → ℕ → Left
 start_4 captures outputs p = record { arriving = Some (captures p); leaving = Some (outputs p) }
@@ -202,7 +218,8 @@ verdict_4 t s = all_external t (λ p. is_used_up (s p).arriving && is_used_up (s
 -- ---- rule 5
 -- the line holds the frame
 abbrev pub holds_frame : Shape → ℕ → List ℕ → List ℕ → Bool
-holds_frame t k f frame = if is_external t (k - 1) then bytes_eq f frame else bytes_eq (stripped f) frame && is_some (read_etag f)
+holds_frame t k f frame = if is_external t (k - 1) then bytes_eq f frame else bytes_eq (stripped f) frame
+    && is_some (read_etag f)
 
 abbrev pub holds_some : Shape → ℕ → List ℕ → Option (List ℕ) → Bool
 holds_some t k f None = false
@@ -224,7 +241,8 @@ names_here t k (Some (Ignored p n)) = is_here t k p
 names_here t k _ = true
 
 abbrev pub is_entered : Shape → (ℕ → List (List ℕ)) → ℕ → List ℕ → List (List ℕ) → Bool
-is_entered t captures k f (line ∷ []) = holds_some t k f (record_of captures (entry_in line)) && names_here t k (entry_in line)
+is_entered t captures k f (line ∷ []) = holds_some t k f (record_of captures (entry_in line))
+    && names_here t k (entry_in line)
 is_entered t captures k f _ = false
 
 abbrev pub enters : Shape → (ℕ → List (List ℕ)) → TraceLine → List (List ℕ) → Bool
@@ -284,7 +302,13 @@ pub record Checker : Type 0 where
   pub steps : Steps
 
 abbrev pub begin : Files → Checker
-begin x = record { told = start_1 x.journal; watches = start_2 x.tree; links = start_3; left = start_4 x.captures x.outputs; steps = start_5 }
+begin x = record {
+  told = start_1 x.journal;
+  watches = start_2 x.tree;
+  links = start_3;
+  left = start_4 x.captures x.outputs;
+  steps = start_5;
+}
 
 abbrev pub check_line : Files → Checker → TraceLine → Checker
 check_line x s l =
@@ -303,7 +327,8 @@ unless good rule next = if good then next else Some rule
 abbrev pub lowest : Files → Checker → Option ℕ
 lowest x s =
     unless (verdict_1 s.told) 1
-    (unless (verdict_2 x.tree s.watches) 2 (unless (verdict_3 x.tree s.links) 3 (unless (verdict_4 x.tree s.left) 4 (unless (verdict_5 x.tree x.captures s.steps) 5 None))))
+    (unless (verdict_2 x.tree s.watches) 2 (unless (verdict_3 x.tree s.links) 3
+    (unless (verdict_4 x.tree s.left) 4 (unless (verdict_5 x.tree x.captures s.steps) 5 None))))
 
 -- what a checker answers after all lines: none where the trace is legal
 unfoldable pub judged : Files → Option ℕ

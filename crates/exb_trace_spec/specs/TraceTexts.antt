@@ -44,7 +44,8 @@ passing_by way n k bytes =
 abbrev pub passing_in : List (List ℕ) → Option TraceLine
 passing_in (way ∷ []) = if bytes_eq way (codes "beat") then Some Beat else None
 passing_in (way ∷ device ∷ side ∷ bytes ∷ []) =
-    option_and_then (λ n. option_and_then (λ k. option_and_then (passing_by way n k) (bytes_in bytes)) (side_in n side)) (device_in device)
+    option_and_then (λ n. option_and_then (λ k. option_and_then (passing_by way n k) (bytes_in bytes)) (side_in n side))
+    (device_in device)
 passing_in _ = None
 
 -- A line of the journal is one that can be read.

@@ -1,4 +1,5 @@
--- Each line of a legal trace can be written and read back, where its frames are bytes and its journal has numbers of 64 bits.
+-- Each line of a legal trace can be written and read back, where its frames are bytes and its journal has numbers of 64
+-- bits.
 use Rattle.std.specs.Prelude.{◌≤◌, ℕ, List, slice_index}
 use Rattle.exb_model.specs.Frames.{IsBytes}
 use Rattle.exb_model.specs.History.{History}
@@ -22,4 +23,5 @@ abbrev pub IsSmall : Shape → Type 0
 IsSmall t = (n : ℕ) → slice_index t.ports n ≤ 64
 
 abbrev pub LegalLinesAreSpelled : Type 0
-LegalLinesAreSpelled = (t : Shape) (h : History) (lines : List TraceLine) → IsSized t → IsSmall t → HasPlaces t (journal_of h) lines → Each HasBytes lines → Each IsOfNumbers h → Each IsSpelled lines
+LegalLinesAreSpelled = (t : Shape) (h : History) (lines : List TraceLine) → IsSized t → IsSmall t
+    → HasPlaces t (journal_of h) lines → Each HasBytes lines → Each IsOfNumbers h → Each IsSpelled lines

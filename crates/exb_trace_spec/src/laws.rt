@@ -3,15 +3,16 @@ ghost use Rattle.exb_trace_spec.specs.WrongTraces.{RefusesWrong};
 ghost use Rattle.exb_trace_spec.specs.WritableLines.{LegalLinesAreSpelled};
 ghost use Rattle.exb_trace_spec.specs.RoundTrips.{LinesReadBack, LinesDiffer, LinesAreWritten, TracesReadBack, EntriesReadBack, EntriesAreWritten, JournalsReadBack, JournalsDiffer, JournalsAreLines};
 
-/// Traces that are wrong by one rule aren't legal: an extender sends what its machine doesn't, a control word overtakes
-/// a data word, a data word comes from nowhere, a record is relayed with no frame that came, the bridge sends data with
-/// nothing relayed, or nothing is said of a frame that came.
+/// Traces that are wrong by one rule aren't legal: an extender sends what its machine doesn't, a
+/// control word overtakes a data word, a data word comes from nowhere, a record is relayed with no
+/// frame that came, the bridge sends data with nothing relayed, or nothing is said of a frame that
+/// came.
 pub fn wrong_traces_are_refused()
     ensures { RefusesWrong }
 {}
 
-/// The text of each line that can be written, with a device and a side of it, bytes, or a line of the journal, is read back as that
-/// line.
+/// The text of each line that can be written, with a device and a side of it, bytes, or a line of
+/// the journal, is read back as that line.
 pub fn lines_read_back()
     ensures { LinesReadBack }
 {}
@@ -41,8 +42,8 @@ pub fn entries_are_written()
     ensures { EntriesAreWritten }
 {}
 
-/// The text of a whole journal, and the arrivals of each port, give the history: of a Relay the line names the port and the index, and
-/// the arrival has the moment and the bytes.
+/// The text of a whole journal, and the arrivals of each port, give the history: of a Relay the
+/// line names the port and the index, and the arrival has the moment and the bytes.
 pub fn journals_read_back()
     ensures { JournalsReadBack }
 {}
@@ -57,8 +58,9 @@ pub fn journals_are_lines()
     ensures { JournalsAreLines }
 {}
 
-/// Each line of a legal trace can be written, so that its text is read back as that line: its places are there by rule 1, its frames are
-/// bytes, and the lines of its journal are those of events with numbers of 64 bits.
+/// Each line of a legal trace can be written, so that its text is read back as that line: its
+/// places are there by rule 1, its frames are bytes, and the lines of its journal are those of
+/// events with numbers of 64 bits.
 pub fn legal_lines_are_spelled()
     ensures { LegalLinesAreSpelled }
 {}

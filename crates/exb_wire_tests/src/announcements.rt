@@ -1,4 +1,5 @@
-//! Announcements: what the bytes of a frame say, or their first fault. Each TLV stands as its header and its value.
+//! Announcements: what the bytes of a frame say, or their first fault. Each TLV stands as its
+//! header and its value.
 use crate::formats::{WireFormat, judge};
 use crate::row_words::expect_bytes;
 use exb_lldp::{Announce, write};

@@ -102,7 +102,8 @@ fn stop(ecp: &mut Ecp) -> (bool, usize) {
     (ecp.idle(), ecp.payload().len())
 }
 
-// Does a step, and asserts how it is told: `submit`, `beat N`, `acked N`, `stop`, `many N`, `received N`.
+// Does a step, and asserts how it is told: `submit`, `beat N`, `acked N`, `stop`, `many N`,
+// `received N`.
 fn step(rt: &impl Abort, alloc: Global, ecp: &mut Ecp, step: &str, wanted: &str) {
     let (word, behind) = step.split_once(' ').unwrap_or((step, "0"));
     let number = number(rt, behind);

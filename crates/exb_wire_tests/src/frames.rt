@@ -120,8 +120,9 @@ fn leave(rt: &impl Abort, alloc: Global, frame: &[u8], kind: Kind, dei: bool, wa
     expect_bytes(rt, alloc, out.as_slice(), wanted);
 }
 
-/// The kind of the port, DEI, a frame, and the bytes with which it leaves: none where it leaves nowhere. A tag is taken out, or another is put in its
-/// place. The longest frame grows by its tag. A bad tag and a reserved destination leave nowhere.
+/// The kind of the port, DEI, a frame, and the bytes with which it leaves: none where it leaves
+/// nowhere. A tag is taken out, or another is put in its place. The longest frame grows by its tag.
+/// A bad tag and a reserved destination leave nowhere.
 const LEFT: &str =
     "tagged 1 111111111111 222222222222 0800 0102 44x00>111111111111 222222222222 8100 7007 0800 0102 44x00\n\
      untagged 1 111111111111 222222222222 0800 0102 44x00>111111111111 222222222222 0800 0102 44x00\n\

@@ -1,6 +1,6 @@
-//! Tests of what goes over a wire: frames and their tags, announcements, ECP, the control protocol, its sessions, and links.
-//! Each module has one driver; the cases are bytes as hexadecimal digits, steps in words, and what must come of them. Nothing
-//! stands on this crate.
+//! Tests of what goes over a wire: frames and their tags, announcements, ECP, the control protocol,
+//! its sessions, and links. Each module has one driver; the cases are bytes as hexadecimal digits,
+//! steps in words, and what must come of them. Nothing stands on this crate.
 #![tactic(auto)]
 
 #[cfg(test)]

@@ -44,7 +44,8 @@ fn counts(link: &Link) -> (u64, u64, bool) {
     (counts.frames, counts.control, link.is_empty())
 }
 
-// Does a step, and asserts how it is told: `control N` and `data N` send, `free AT`, `first`, `at AT`, `take`, `pick AT`, `counts`.
+// Does a step, and asserts how it is told: `control N` and `data N` send, `free AT`, `first`, `at
+// AT`, `take`, `pick AT`, `counts`.
 fn step(rt: &impl Abort, alloc: Global, link: &mut Link, step: &str, wanted: &str) {
     let (verb, behind) = step.split_once(' ').unwrap_or((step, "0"));
     let [_, number] = number(rt, behind).to_be_bytes();

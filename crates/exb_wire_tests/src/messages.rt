@@ -1,4 +1,5 @@
-//! Messages of the control protocol: what bytes say, or their first fault. What is read is written again as it was.
+//! Messages of the control protocol: what bytes say, or their first fault. What is read is written
+//! again as it was.
 use crate::formats::{WireFormat, judge};
 use crate::row_words::{bytes_of, expect, row_of, same, told};
 use exb_csp::{Body, CspFault, Message, Request, read, write};

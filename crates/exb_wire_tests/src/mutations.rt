@@ -1,6 +1,6 @@
-//! Good spellings of each format that are cut before each byte, have each bit turned, or go on for a byte. What is read then
-//! is the fault that comes first, or a value that is written as exactly these bytes. Where a bit isn't looked at (`unseen`),
-//! the value is that of the good spelling.
+//! Good spellings of each format that are cut before each byte, have each bit turned, or go on for
+//! a byte. What is read then is the fault that comes first, or a value that is written as exactly
+//! these bytes. Where a bit isn't looked at (`unseen`), the value is that of the good spelling.
 mod cases;
 
 use crate::formats::WireFormat;
@@ -21,15 +21,16 @@ use std::alloc::Global;
 use std::fmt::Debug;
 use std::process::Abort;
 
-/// A good spelling and what is read of it, by places from 0. It stands in a line for each field, behind a comment or none, with `%` before each
-/// further case.
+/// A good spelling and what is read of it, by places from 0. It stands in a line for each field,
+/// behind a comment or none, with `%` before each further case.
 #[derive(Clone, Copy)]
 struct MutatedSpelling<'a> {
     good: &'a str,
-    /// What is read where it is cut before a place: `PLACE VERDICT|`, up to the next entry's place. It isn't cut where there is none.
+    /// What is read where it is cut before a place: `PLACE VERDICT|`, up to the next entry's place.
+    /// It isn't cut where there is none.
     cut: &'a str,
-    /// What is read with a bit turned: `FIRST-LAST.BITS VERDICT|`; the first entry that has the place and the bit counts. No bit is
-    /// turned that none has.
+    /// What is read with a bit turned: `FIRST-LAST.BITS VERDICT|`; the first entry that has the
+    /// place and the bit counts. No bit is turned that none has.
     turned: &'a str,
     /// What is read with a byte more at its end.
     longer: &'a str,
@@ -254,7 +255,8 @@ fn is_like(bytes: &[u8], those: &[u8], unseen: &[u8]) -> bool {
     bytes.len() == those.len()
 }
 
-/// A format, what was written again, and for each byte of the good spelling the bits that aren't looked at.
+/// A format, what was written again, and for each byte of the good spelling the bits that aren't
+/// looked at.
 #[derive(Drop)]
 struct Bench {
     alloc: Global,
@@ -295,7 +297,8 @@ impl Bench {
         }
     }
 
-    // Whether a verdict is that which is wanted, and where it is `ok`, these bytes were written again.
+    // Whether a verdict is that which is wanted, and where it is `ok`, these bytes were written
+    // again.
     fn is_right(&self, verdict: &str, wanted: &str, bytes: &[u8]) -> bool {
         verdict == wanted && (wanted != "ok" || is_like(&self.again, bytes, &self.unseen))
     }
@@ -340,7 +343,8 @@ impl Bench {
         }
     }
 
-    // Asserts what is read of bytes, of their fronts, of them with each bit turned, and with a byte more.
+    // Asserts what is read of bytes, of their fronts, of them with each bit turned, and with a byte
+    // more.
     fn judge_all(&mut self, rt: &impl Abort, case: &MutatedSpelling<'_>, bytes: &mut Vec<u8>) {
         self.judge(rt, bytes.as_slice(), "ok");
         for place in 0..bytes.len() {
@@ -361,7 +365,8 @@ fn judge_text(rt: &impl Abort, alloc: Global, format: WireFormat, text: &str) {
     Bench::new(rt, alloc, format, &case).judge_all(rt, &case, &mut bytes);
 }
 
-// Asserts what is read of good spellings, of their fronts, of them with each bit turned, and with a byte more.
+// Asserts what is read of good spellings, of their fronts, of them with each bit turned, and with a
+// byte more.
 fn judge(rt: &impl Abort, alloc: Global, format: WireFormat, cases: &str) {
     for text in cases.split('%') {
         judge_text(rt, alloc, format, text.trim_end());

@@ -1,5 +1,5 @@
-//! The plain program of executing requests: a word of 64 bits for each E-CID, and loops that do what
-//! the definition says. Tests and faster programs are held against it.
+//! The plain program of executing requests: a word of 64 bits for each E-CID, and loops that do
+//! what the definition says. Tests and faster programs are held against it.
 
 ghost use Rattle.std.specs.Prelude.{◌≡◌, ◌≢◌, ℕ, ◌+◌, ◌<◌, ◌≤◌, ◌==◌, ◌&&◌, ◌||◌, [], nat_lt, nat_le, List, length, slice_index, slice_index_or, false, All, IfOk, if◌then◌else◌};
 ghost use Rattle.std.specs.List.{list_all};
@@ -13,8 +13,8 @@ use exb_model::memory::NoMemory;
 use std::alloc::{AllocError, Global};
 use std::marker::Model;
 
-/// The tables of an extender of 1 to 64 ports. Contracts see the lists that it keeps, and `tables_of`
-/// gives the tables that these are.
+/// The tables of an extender of 1 to 64 ports. Contracts see the lists that it keeps, and
+/// `tables_of` gives the tables that these are.
 #[derive(Drop)]
 pub struct PlainTables {
     own: Vec<u16>,
@@ -27,7 +27,11 @@ impl Model for PlainTables {
 
     ghost Value = { PlainState };
 
-    ghost view = { λ t. record { own = t.own.items; cascade = t.cascade.items; words = t.words.items } };
+    ghost view = { λ t. record {
+      own = t.own.items;
+      cascade = t.cascade.items;
+      words = t.words.items;
+    } };
 
     ghost invariant = { λ t. IsPlain t.own.items t.cascade.items t.words.items };
 }
@@ -257,7 +261,8 @@ fn delete(own: &mut [u16], words: &mut [u64], port: u8) -> u8
 // Does what the request asks, and answers its code.
 fn change(own: &mut [u16], cascade: &mut [bool], words: &mut [u64], request: &Request) -> u8
     requires { IsPlain own.old cascade.old words.old }
-    ensures { IsChange own.old cascade.old words.old request.now result own.new cascade.new words.new }
+    ensures { IsChange own.old cascade.old words.old request.now result own.new cascade.new
+        words.new }
 {
     match request {
         Request::Open => 0,

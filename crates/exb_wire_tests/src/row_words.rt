@@ -1,4 +1,5 @@
-//! What the words of a table say, and what is asserted of it. A test ends where a text says nothing.
+//! What the words of a table say, and what is asserted of it. A test ends where a text says
+//! nothing.
 use exb_test_rows::hex;
 use std::alloc::Global;
 use std::fmt::Debug;
@@ -14,7 +15,8 @@ pub(crate) fn number(rt: &impl Abort, word: &str) -> u16 {
     word.parse::<u16>().expect(rt, "a number below 65536")
 }
 
-/// A row of a table: what stands before `>`, and what is wanted. A row that begins with `#` is a comment.
+/// A row of a table: what stands before `>`, and what is wanted. A row that begins with `#` is a
+/// comment.
 pub(crate) fn row_of<'a>(rt: &impl Abort, row: &'a str) -> (&'a str, &'a str) {
     row.split_once('>').expect(rt, "what is wanted")
 }

@@ -1,4 +1,5 @@
-//! Sessions: what an asker takes as its answer and when a request is due again, and what an answerer executes.
+//! Sessions: what an asker takes as its answer and when a request is due again, and what an
+//! answerer executes.
 use crate::messages::told_message;
 use crate::row_words::{bytes_of, expect, number, row_of, same, told};
 use exb_csp::{Answerer, Asker, Due, Request, RequestKind, Response, Taken, read};
@@ -48,7 +49,8 @@ fn again(rt: &impl Abort, asker: &Asker) -> u64 {
     asker.again().serial
 }
 
-// Does a step, and asserts how it is told: `open`, `clear` and `create` ask, `take BYTES`, `beat N`, `again`.
+// Does a step, and asserts how it is told: `open`, `clear` and `create` ask, `take BYTES`, `beat
+// N`, `again`.
 fn step(rt: &impl Abort, alloc: Global, asker: &mut Asker, step: &str, wanted: &str) {
     let (word, behind) = step.split_once(' ').unwrap_or((step, ""));
     match word {

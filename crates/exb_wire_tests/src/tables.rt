@@ -1,5 +1,5 @@
-//! Requests that an extender of two ports executes, one after another, and which of three pairs it has then: port 1 with
-//! channel 1, and ports 1 and 2 with the group 0x1000.
+//! Requests that an extender of two ports executes, one after another, and which of three pairs it
+//! has then: port 1 with channel 1, and ports 1 and 2 with the group 0x1000.
 use crate::plain_tables::PlainTables;
 use crate::row_words::{bytes_of, expect, row_of};
 use exb_csp::{Body, Request, RequestKind, Response, read};

@@ -45,10 +45,12 @@ pub record Joins (t : Shape) (n : ℕ) (out : Out) (old new : Row) : Type 0 wher
   pub is : out ≡ record { to = Port port; form = Stripped }
   pub at : JoinsAt t n port old new
 
--- Before, a frame was still to leave at the ports of a row, then to go out in a form, and then the rest was to be done. Now it is to leave at
--- those of another row, and then the rest is to be done.
-pub record GoesBehind (s : Site) (stamp : Option Stamp) (f : List ℕ) (out : Out) (old new : Row) (c d : Whole) (before after : Log) : Type 0 where
+-- Before, a frame was still to leave at the ports of a row, then to go out in a form, and then the rest was to be done.
+-- Now it is to leave at those of another row, and then the rest is to be done.
+pub record GoesBehind (s : Site) (stamp : Option Stamp) (f : List ℕ) (out : Out) (old new : Row) (c d : Whole)
+    (before after : Log) : Type 0 where
   pub at : IsAt s d
   pub leads : (whole : Effect) (first : Log) (rest : List Sent)
-      → Leads whole (each (sends s.tree old.device stamp) (row_sent f (ports_in old) ++ out_sent f out ∷ rest) (world_in c)) first before
+      → Leads whole (each (sends s.tree old.device stamp) (row_sent f (ports_in old) ++ out_sent f out ∷ rest)
+      (world_in c)) first before
       → Leads whole (each (sends s.tree old.device stamp) (row_sent f (ports_in new) ++ rest) (world_in d)) first after

@@ -7,7 +7,8 @@ use Rattle.exb_world_spec.specs.Worlds.{Journal}
 use Rattle.exb_outbox.specs.declared.log.Log.{Log}
 use Rattle.exb_outbox.specs.Logs.{if_tracing}
 
--- What comes in is told, and nothing has gone out yet. Where a trace is kept `from` is how many events were told before.
+-- What comes in is told, and nothing has gone out yet. Where a trace is kept `from` is how many events were told
+-- before.
 pub record IsBegun (ins : List TraceLine) (from : ℕ) (old begun : Log) : Type 0 where
   pub few : from ≤ length old.events
   pub before : old.tracing ≡ true → from ≡ length old.events

@@ -67,8 +67,10 @@ pub record IsStepped (step : Step) (old new : Network) : Type 0 where
   pub world : world_of new ≡ (stepped (tree_of old) (bounds_of old) step (world_of old)).world
   pub events : new.log.events ≡ old.log.events ++ (stepped (tree_of old) (bounds_of old) step (world_of old)).events
   pub passed : new.log.passed ≡ old.log.passed ++ (stepped (tree_of old) (bounds_of old) step (world_of old)).passed
-  pub left : all_left new.log.left ≡ all_left old.log.left ++ (stepped (tree_of old) (bounds_of old) step (world_of old)).left
-  pub lines : old.log.tracing ≡ true → new.log.lines ≡ old.log.lines ++ all_told (stepped (tree_of old) (bounds_of old) step (world_of old)).lines
+  pub left : all_left new.log.left ≡ all_left old.log.left
+      ++ (stepped (tree_of old) (bounds_of old) step (world_of old)).left
+  pub lines : old.log.tracing ≡ true → new.log.lines ≡ old.log.lines ++ all_told
+      (stepped (tree_of old) (bounds_of old) step (world_of old)).lines
   pub silent : old.log.tracing ≡ false → new.log.lines ≡ old.log.lines
   pub same : IsSame old new
 

@@ -82,7 +82,8 @@ fn stays_low(clock: u64, seconds: u32) -> bool
 
 /// Whether the clock may go on.
 fn may_tick(core: &WorldParts, seconds: u32) -> bool
-    ensures { IsTrue result ↔ ((1 ≤ seconds) × ((world_in core.now).table.clock + seconds < 2 ^ 63)) }
+    ensures { IsTrue result
+        ↔ ((1 ≤ seconds) × ((world_in core.now).table.clock + seconds < 2 ^ 63)) }
 {
     seconds >= 1 && stays_low(core.bridge.clock(), seconds)
 }

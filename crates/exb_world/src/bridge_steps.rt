@@ -31,7 +31,8 @@ pub(crate) fn come(
     requires own { rest ≡ rest_of core.old }
     requires at { IsAt site.now core.old }
     requires external { is_external site.now.tree arrival.now.port ≡ true }
-    ensures { OnOk result (Does (comes site.now.tree arrival.now (world_in core.old)) site.now core.new room.old.post.log room.new.post.log) }
+    ensures { OnOk result (Does (comes site.now.tree arrival.now (world_in core.old)) site.now
+        core.new room.old.post.log room.new.post.log) }
 {
     exb_bridge::come(site, arrival, room, &mut core.bridge)
 }
@@ -46,7 +47,8 @@ pub(crate) fn beat_ends(
     ghost rest: { Rest }
     requires own { rest ≡ rest_of core.old }
     requires at { IsAt site.now core.old }
-    ensures { OnOk result (Does (each (if_there site.now.tree (beats_near site.now.tree)) all_extenders (world_in core.old)) site.now core.new room.old.post.log room.new.post.log) }
+    ensures { OnOk result (Does (each (if_there site.now.tree (beats_near site.now.tree))
+        all_extenders (world_in core.old)) site.now core.new room.old.post.log room.new.post.log) }
 {
     exb_bridge::beat_ends(site, &mut room.buffers, &mut core.bridge, &mut room.post)
 }
@@ -62,7 +64,8 @@ pub(crate) fn beat_control(
     requires own { rest ≡ rest_of core.old }
     requires at { IsAt site.now core.old }
     requires asks { AsksWell site.now.tree (limits_in site.now) (world_in core.old).control }
-    ensures { OnOk result (Does (beats_control site.now.tree (world_in core.old)) site.now core.new room.old.post.log room.new.post.log) }
+    ensures { OnOk result (Does (beats_control site.now.tree (world_in core.old)) site.now core.new
+        room.old.post.log room.new.post.log) }
 {
     exb_bridge::beat_control(site, room, &mut core.bridge)
 }
@@ -80,7 +83,8 @@ pub(crate) fn tick(
     requires own { rest ≡ rest_of core.old }
     requires at { IsAt site.now core.old }
     requires clock { (world_in core.old).table.clock + seconds < 2 ^ 63 }
-    ensures { OnOk result (Does (done_by site.now.tree (limits_in site.now) (Tick seconds) (world_in core.old)) site.now core.new room.old.post.log room.new.post.log) }
+    ensures { OnOk result (Does (done_by site.now.tree (limits_in site.now) (Tick seconds)
+        (world_in core.old)) site.now core.new room.old.post.log room.new.post.log) }
 {
     exb_bridge::tick(site, seconds, room, &mut core.bridge)
 }
@@ -100,7 +104,8 @@ pub(crate) fn order(
     requires names { NamesExternal site.now.tree command.now }
     requires few { (world_in core.old).control.given < 65536 }
     requires asks { AsksWell site.now.tree (limits_in site.now) (world_in core.old).control }
-    ensures { OnOk result (Does (done_by site.now.tree (limits_in site.now) (Order command.now) (world_in core.old)) site.now core.new room.old.post.log room.new.post.log) }
+    ensures { OnOk result (Does (done_by site.now.tree (limits_in site.now) (Order command.now)
+        (world_in core.old)) site.now core.new room.old.post.log room.new.post.log) }
 {
     exb_bridge::order(site, command, room, &mut core.bridge)
 }

@@ -1,4 +1,5 @@
-//! What an extender sends: it goes onto the link of the extender that hangs there, or leaves the network.
+//! What an extender sends: it goes onto the link of the extender that hangs there, or leaves the
+//! network.
 ghost use Rattle.std.specs.Prelude.{◌≡◌, ◌<◌, ◌≤◌, true, false, OnOk, map};
 ghost use Rattle.std.specs.List.{All};
 ghost use Rattle.exb_csp.specs.AllTables.{port_of};
@@ -49,7 +50,8 @@ fn send_at(
     requires at { IsAt site.now core.old }
     requires number { IsNumber number }
     requires port { (0 < port) × (port ≤ 64) }
-    ensures { OnOk result (Does (sent_at number port (hung_on site.now.tree (port_of number port)) word.stamp word.bytes (world_in core.old)) site.now core.new post.old.log post.new.log) }
+    ensures { OnOk result (Does (sent_at number port (hung_on site.now.tree (port_of number port))
+        word.stamp word.bytes (world_in core.old)) site.now core.new post.old.log post.new.log) }
 {
     note_out(
         post.alloc,
@@ -87,7 +89,8 @@ fn send_up(
 ) -> Result<(), NoMemory>
     requires at { IsAt site.now core.old }
     requires number { IsNumber number }
-    ensures { OnOk result (Does (sent_to site.now.tree number word.stamp Side.Up word.bytes (world_in core.old)) site.now core.new post.old.log post.new.log) }
+    ensures { OnOk result (Does (sent_to site.now.tree number word.stamp Side.Up word.bytes
+        (world_in core.old)) site.now core.new post.old.log post.new.log) }
 {
     let _ = site;
     note_out(
@@ -114,7 +117,8 @@ pub(crate) fn send_to(
     requires at { IsAt site.now core.old }
     requires number { IsNumber number }
     requires side { IsSide side }
-    ensures { OnOk result (Does (sent_to site.now.tree number word.stamp side word.bytes (world_in core.old)) site.now core.new post.old.log post.new.log) }
+    ensures { OnOk result (Does (sent_to site.now.tree number word.stamp side word.bytes
+        (world_in core.old)) site.now core.new post.old.log post.new.log) }
 {
     match side {
         Side::Up => send_up(site, number, word, core, post),
@@ -135,7 +139,9 @@ pub(crate) fn send_frame(
     requires at { IsAt site.now core.old }
     requires number { IsNumber number }
     requires can { CanGo came.now.frame.now out.now }
-    ensures { OnOk result (Does (sends site.now.tree number came.now.stamp (out_sent came.now.frame.now out.now) (world_in core.old)) site.now core.new post.old.log post.new.log) }
+    ensures { OnOk result (Does (sends site.now.tree number came.now.stamp
+        (out_sent came.now.frame.now out.now) (world_in core.old)) site.now core.new post.old.log
+        post.new.log) }
 {
     let mut buffer = post.store.buffer(post.alloc);
     put_form(came.frame, &out.form, &mut buffer)?;
@@ -144,8 +150,9 @@ pub(crate) fn send_frame(
     send_to(site, number, out.to, word, core, post)
 }
 
-/// Puts the port of an out behind those of a row, where the frame leaves there without its E-TAG: so it is written once for all
-/// of them. Nothing is put where it goes elsewhere, in another form, or to a port that isn't behind them.
+/// Puts the port of an out behind those of a row, where the frame leaves there without its E-TAG:
+/// so it is written once for all of them. Nothing is put where it goes elsewhere, in another form,
+/// or to a port that isn't behind them.
 #[inline(always)]
 fn joins(site: &TreeIndex, number: u8, out: &Out, row: &mut PortMap) -> bool
     requires number { number < 65 }
@@ -194,7 +201,9 @@ fn leave_extender(
 ) -> Result<(), NoMemory>
     requires at { IsAt site.now core.now }
     requires outer { AreOuter site.now.tree number came.now.frame.now (ports_in row.now) }
-    ensures { OnOk result (Does (each (sends site.now.tree number came.now.stamp) (row_sent came.now.frame.now (ports_in row.now)) (world_in core.now)) site.now core.now post.old.log post.new.log) }
+    ensures { OnOk result (Does (each (sends site.now.tree number came.now.stamp)
+        (row_sent came.now.frame.now (ports_in row.now)) (world_in core.now)) site.now core.now
+        post.old.log post.new.log) }
 {
     let _ = site;
     let _ = core;
@@ -212,8 +221,8 @@ fn leave_extender(
     })
 }
 
-/// A frame that an extender took goes out in one form more, behind a row of ports at which it is to leave: their number grows by
-/// one, or it leaves there and goes out.
+/// A frame that an extender took goes out in one form more, behind a row of ports at which it is to
+/// leave: their number grows by one, or it leaves there and goes out.
 #[inline(always)]
 fn send_behind(
     site: &TreeIndex,
@@ -229,7 +238,8 @@ fn send_behind(
     requires outer { AreOuter site.now.tree row.old.device came.now.frame.now (ports_in row.old) }
     ensures device { row.new.device ≡ row.old.device }
     ensures outer { AreOuter site.now.tree row.old.device came.now.frame.now (ports_in row.new) }
-    ensures sent { OnOk result (GoesBehind site.now came.now.stamp came.now.frame.now out.now row.old row.new (whole_of core.old) (whole_of core.new) post.old.log post.new.log) }
+    ensures sent { OnOk result (GoesBehind site.now came.now.stamp came.now.frame.now out.now
+        row.old row.new (whole_of core.old) (whole_of core.new) post.old.log post.new.log) }
 {
     let number = row.device();
     if joins(site, number, out, row) {
@@ -252,7 +262,9 @@ fn send_frames(
     requires at { IsAt site.now core.old }
     requires number { IsNumber number }
     requires can { All (CanGo came.now.frame.now) outs.now }
-    ensures { OnOk result (Does (each (sends site.now.tree number came.now.stamp) (map (out_sent came.now.frame.now) outs.now) (world_in core.old)) site.now core.new post.old.log post.new.log) }
+    ensures { OnOk result (Does (each (sends site.now.tree number came.now.stamp)
+        (map (out_sent came.now.frame.now) outs.now) (world_in core.old)) site.now core.new
+        post.old.log post.new.log) }
 {
     let mut row = PortMap::none(number);
     for out in outs {
@@ -273,7 +285,8 @@ fn send_own(
 ) -> Result<(), NoMemory>
     requires at { IsAt site.now core.old }
     requires number { IsNumber number }
-    ensures { OnOk result (Does (each (sends site.now.tree number stamp) (own_sent frame.now) (world_in core.old)) site.now core.new post.old.log post.new.log) }
+    ensures { OnOk result (Does (each (sends site.now.tree number stamp) (own_sent frame.now)
+        (world_in core.old)) site.now core.new post.old.log post.new.log) }
 {
     if frame.is_empty() {
         return Ok(());
@@ -283,7 +296,8 @@ fn send_own(
     send_to(site, number, Side::Up, word, core, post)
 }
 
-/// All that an extender sends where this frame came goes out: the frame in its forms, then the extender's own frames.
+/// All that an extender sends where this frame came goes out: the frame in its forms, then the
+/// extender's own frames.
 pub(crate) fn send_all(
     site: &TreeIndex,
     number: u8,
@@ -295,7 +309,9 @@ pub(crate) fn send_all(
     requires at { IsAt site.now core.old }
     requires number { IsNumber number }
     requires can { All (CanGo came.now.frame.now) reaction.now.frames.items }
-    ensures { OnOk result (Does (each (sends site.now.tree number came.now.stamp) (sent_by came.now.frame.now reaction.now) (world_in core.old)) site.now core.new post.old.log post.new.log) }
+    ensures { OnOk result (Does (each (sends site.now.tree number came.now.stamp)
+        (sent_by came.now.frame.now reaction.now) (world_in core.old)) site.now core.new
+        post.old.log post.new.log) }
 {
     let outs = reaction.frames.as_slice();
     send_frames(site, number, came, outs, core, post)?;

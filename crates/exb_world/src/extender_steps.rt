@@ -31,7 +31,8 @@ fn take_whole(
     requires at { IsAt site.now core.old }
     requires extender { is_extender site.now.tree number ≡ true }
     requires from { CanTake (far_of core.old.far number) from }
-    ensures { OnOk result (Does (reacts site.now.tree number word.stamp (Arrives from word.bytes) (world_in core.old)) site.now core.new room.old.post.log room.new.post.log) }
+    ensures { OnOk result (Does (reacts site.now.tree number word.stamp (Arrives from word.bytes)
+        (world_in core.old)) site.now core.new room.old.post.log room.new.post.log) }
 {
     site.has_low_number(number);
     let frame = word.bytes();
@@ -59,7 +60,8 @@ fn take(
     requires at { IsAt site.now core.old }
     requires extender { is_extender site.now.tree number ≡ true }
     requires from { CanTake (far_of core.old.far number) from }
-    ensures { OnOk result (Does (reacts site.now.tree number word.stamp (Arrives from word.bytes) (world_in core.old)) site.now core.new room.old.post.log room.new.post.log) }
+    ensures { OnOk result (Does (reacts site.now.tree number word.stamp (Arrives from word.bytes)
+        (world_in core.old)) site.now core.new room.old.post.log room.new.post.log) }
 {
     site.has_low_number(number);
     match core.far.only_out(number, from, word.bytes()) {
@@ -79,7 +81,8 @@ pub(crate) fn take_from_above(
 ) -> Result<(), NoMemory>
     requires at { IsAt site.now core.old }
     requires extender { is_extender site.now.tree number ≡ true }
-    ensures { OnOk result (Does (takes_from_above site.now.tree number word (world_in core.old)) site.now core.new room.old.post.log room.new.post.log) }
+    ensures { OnOk result (Does (takes_from_above site.now.tree number word (world_in core.old))
+        site.now core.new room.old.post.log room.new.post.log) }
 {
     take(site, number, Side::Up, word, room, core)
 }
@@ -95,7 +98,8 @@ pub(crate) fn take_from_below(
 ) -> Result<(), NoMemory>
     requires at { IsAt site.now core.old }
     requires port { IsPortAt site.now.tree port }
-    ensures { OnOk result (Does (takes_from_below site.now.tree (device port) (port_number port) word (world_in core.old)) site.now core.new room.old.post.log room.new.post.log) }
+    ensures { OnOk result (Does (takes_from_below site.now.tree (device port) (port_number port)
+        word (world_in core.old)) site.now core.new room.old.post.log room.new.post.log) }
 {
     let number = port.device();
     let port = port.place() + 1;
@@ -115,7 +119,8 @@ pub(crate) fn arrive_at(
 ) -> Result<(), NoMemory>
     requires at { IsAt site.now core.old }
     requires port { IsPortAt site.now.tree arrival.now.port }
-    ensures { OnOk result (Does (arrives_at site.now.tree arrival.now (world_in core.old)) site.now core.new room.old.post.log room.new.post.log) }
+    ensures { OnOk result (Does (arrives_at site.now.tree arrival.now (world_in core.old)) site.now
+        core.new room.old.post.log room.new.post.log) }
 {
     let number = arrival.port.device();
     site.has_low_number(number);
@@ -148,7 +153,8 @@ pub(crate) fn beat(
 ) -> Result<(), NoMemory>
     requires at { IsAt site.now core.old }
     requires extender { is_extender site.now.tree number ≡ true }
-    ensures { OnOk result (Does (reacts site.now.tree number None Beats (world_in core.old)) site.now core.new room.old.post.log room.new.post.log) }
+    ensures { OnOk result (Does (reacts site.now.tree number None Beats (world_in core.old))
+        site.now core.new room.old.post.log room.new.post.log) }
 {
     site.has_low_number(number);
     core.far.beat(number, &mut room.sends);

@@ -30,7 +30,8 @@ fn change(
     requires at { IsAt site.now core.old }
     requires number { IsNumber number }
     requires can { CanGo word.bytes out.now }
-    ensures { OnOk result (Does (sends site.now.tree number word.stamp (out_sent word.bytes out.now) (world_in core.old)) site.now core.new post.old.log post.new.log) }
+    ensures { OnOk result (Does (sends site.now.tree number word.stamp (out_sent word.bytes out.now)
+        (world_in core.old)) site.now core.new post.old.log post.new.log) }
 {
     let came = IncomingFrame {
         frame: word.bytes(),
@@ -41,7 +42,8 @@ fn change(
     Ok(())
 }
 
-/// A word goes on to a side without its E-TAG: the eight bytes at byte 12 are taken out where they stand.
+/// A word goes on to a side without its E-TAG: the eight bytes at byte 12 are taken out where they
+/// stand.
 #[inline(always)]
 fn strip(
     site: &TreeIndex,
@@ -55,7 +57,8 @@ fn strip(
     requires number { IsNumber number }
     requires side { IsSide to }
     requires long { 20 ≤ length word.bytes }
-    ensures { OnOk result (Does (sent_to site.now.tree number word.stamp to (stripped word.bytes) (world_in core.old)) site.now core.new post.old.log post.new.log) }
+    ensures { OnOk result (Does (sent_to site.now.tree number word.stamp to (stripped word.bytes)
+        (world_in core.old)) site.now core.new post.old.log post.new.log) }
 {
     word.take_out(E_TAG_AT, E_TAG_LENGTH);
     send_to(site, number, to, word, core, post)
@@ -74,7 +77,8 @@ pub(crate) fn pass_on(
     requires at { IsAt site.now core.old }
     requires number { IsNumber number }
     requires can { CanGo word.bytes out.now }
-    ensures { OnOk result (Does (sends site.now.tree number word.stamp (out_sent word.bytes out.now) (world_in core.old)) site.now core.new post.old.log post.new.log) }
+    ensures { OnOk result (Does (sends site.now.tree number word.stamp (out_sent word.bytes out.now)
+        (world_in core.old)) site.now core.new post.old.log post.new.log) }
 {
     match out.form {
         Form::AsIs => send_to(site, number, out.to, word, core, post),

@@ -1,10 +1,10 @@
-//! The tree as one value: the controlling bridge, the extenders below it, and the links between them,
-//! moved by single steps.
+//! The tree as one value: the controlling bridge, the extenders below it, and the links between
+//! them, moved by single steps.
 //!
-//! Upwards it promises that each call is exactly one step of the machine of `exb_world_spec`: the same
-//! world, events and departing frames, so that all laws on that machine hold of it. The crate is wires and
-//! steps. What is done with a frame at the end of a link is done by a box: the bridge (`exb_bridge`) or an
-//! extender (`exb_extender`).
+//! Upwards it promises that each call is exactly one step of the machine of `exb_world_spec`: the
+//! same world, events and departing frames, so that all laws on that machine hold of it. The crate
+//! is wires and steps. What is done with a frame at the end of a link is done by a box: the bridge
+//! (`exb_bridge`) or an extender (`exb_extender`).
 #![tactic(auto)]
 
 mod allowed_steps;

@@ -15,8 +15,8 @@ use exb_bridge::TreeIndex;
 use exb_link::Links;
 use exb_model::port::DEVICES;
 
-/// A direction that has a word: its place in the order in which a round goes through the directions of one way, and its
-/// extender.
+/// A direction that has a word: its place in the order in which a round goes through the directions
+/// of one way, and its extender.
 #[derive(Clone, Copy)]
 pub struct LinkTurn {
     pub place: u8,
@@ -39,7 +39,8 @@ fn earlier(first: u8, place: u8, from: u8) -> u8
 #[inline(always)]
 fn turn_at(order: &[u8], place: u8) -> Option<LinkTurn>
     requires { length order.now ≤ 64 }
-    ensures found { IfSome result (λ turn. (turn.place ≡ place) × (slice_get order.now place ≡ Some turn.link)) }
+    ensures found { IfSome result (λ turn. (turn.place ≡ place)
+        × (slice_get order.now place ≡ Some turn.link)) }
     ensures none { IfNone result (length order.now ≤ place) }
 {
     if place >= order.len() as u8 {
@@ -49,8 +50,8 @@ fn turn_at(order: &[u8], place: u8) -> Option<LinkTurn>
     Some(LinkTurn { place, link })
 }
 
-/// The first of these links, from a place on, that has a word. Only links that have one are looked at: of each its place
-/// in the order is known.
+/// The first of these links, from a place on, that has a word. Only links that have one are looked
+/// at: of each its place in the order is known.
 #[inline(always)]
 fn first_among(
     order: &[u8],
@@ -61,7 +62,8 @@ fn first_among(
     requires few { length order.now ≤ 64 }
     requires places { ArePlaces order.now places.now }
     ensures found { IfSome result (IsFirst order.now links.now from) }
-    ensures none { IfNone result ((k n : ℕ) → from ≤ k → slice_get order.now k ≡ Some n → words_of links.now n ≡ []) }
+    ensures none { IfNone result ((k n : ℕ) → from ≤ k → slice_get order.now k ≡ Some n
+        → words_of links.now n ≡ []) }
 {
     let mut first = 64u8;
     let mut number = 0u8;
@@ -87,8 +89,8 @@ fn turn_here(order: &[u8], links: &Links, place: u8) -> Option<LinkTurn>
     }
 }
 
-/// The first of these links, from a place on, that has a word. Mostly none has one, and where many have one it is that at the
-/// place itself.
+/// The first of these links, from a place on, that has a word. Mostly none has one, and where many
+/// have one it is that at the place itself.
 #[inline(always)]
 fn first_busy(
     order: &[u8],
@@ -100,7 +102,8 @@ fn first_busy(
     requires few { length order.now ≤ 64 }
     requires places { ArePlaces order.now places.now }
     ensures found { IfSome result (IsFirst order.now links.now from) }
-    ensures none { IfNone result ((k n : ℕ) → from ≤ k → slice_get order.now k ≡ Some n → words_of links.now n ≡ []) }
+    ensures none { IfNone result ((k n : ℕ) → from ≤ k → slice_get order.now k ≡ Some n
+        → words_of links.now n ≡ []) }
 {
     links.next_busy(0)?;
     match turn_here(order, links, from) {
@@ -113,7 +116,9 @@ fn first_busy(
 #[inline(always)]
 pub(crate) fn next_busy(site: &TreeIndex, core: &WorldParts, way: Way, from: u8) -> Option<LinkTurn>
     ensures found { IfSome result (IsTurn site.now.tree (way_of way) (world_in core.now) from) }
-    ensures none { IfNone result ((k n : ℕ) → from ≤ k → slice_get (order_of site.now.tree (way_of way)) k ≡ Some n → words_on n (way_of way) (world_in core.now) ≡ []) }
+    ensures none { IfNone result ((k n : ℕ) → from ≤ k
+        → slice_get (order_of site.now.tree (way_of way)) k ≡ Some n
+        → words_on n (way_of way) (world_in core.now) ≡ []) }
 {
     site.tree().is_tree();
     match way {

@@ -1,4 +1,5 @@
-//! The steps of a live network: it stays live, and where a trace is kept the lines of each are told.
+//! The steps of a live network: it stays live, and where a trace is kept the lines of each are
+//! told.
 ghost use Rattle.std.specs.Prelude.{OnOk};
 ghost use Rattle.exb_world_spec.specs.AllowedSteps.{Can};
 ghost use Rattle.exb_world_spec.specs.Runs.Requests.{AsksWell};
@@ -51,7 +52,8 @@ pub(crate) fn arrive(
 ) -> Result<(), NoMemory>
     requires live { IsLive site.now core.old }
     requires can { Can site.now.tree (world_in core.old) (Arrive arrival.now) }
-    ensures { OnOk result (Makes (Arrive arrival.now) site.now core.old core.new room.old.post.log room.new.post.log) }
+    ensures { OnOk result (Makes (Arrive arrival.now) site.now core.old core.new room.old.post.log
+        room.new.post.log) }
 {
     stays_live(site, core);
     are_bytes(arrival.bytes.as_slice());
@@ -72,7 +74,8 @@ pub(crate) fn carry(
 ) -> Result<(), NoMemory>
     requires live { IsLive site.now core.old }
     requires can { Can site.now.tree (world_in core.old) (Carry link (way_of way)) }
-    ensures { OnOk result (Makes (Carry link (way_of way)) site.now core.old core.new room.old.post.log room.new.post.log) }
+    ensures { OnOk result (Makes (Carry link (way_of way)) site.now core.old core.new
+        room.old.post.log room.new.post.log) }
 {
     stays_live(site, core);
     let from = tell_data(site, link, way, core, &mut room.post)?;
@@ -81,7 +84,8 @@ pub(crate) fn carry(
     tell_rest(from, &mut room.post)
 }
 
-/// The control word at a position of a direction is delivered, and stays on its link too if it is kept.
+/// The control word at a position of a direction is delivered, and stays on its link too if it is
+/// kept.
 pub(crate) fn deliver(
     site: &TreeIndex,
     link: u8,
@@ -93,7 +97,8 @@ pub(crate) fn deliver(
 ) -> Result<(), NoMemory>
     requires live { IsLive site.now core.old }
     requires can { Can site.now.tree (world_in core.old) (Control link (way_of way) at keep) }
-    ensures { OnOk result (Makes (Control link (way_of way) at keep) site.now core.old core.new room.old.post.log room.new.post.log) }
+    ensures { OnOk result (Makes (Control link (way_of way) at keep) site.now core.old core.new
+        room.old.post.log room.new.post.log) }
 {
     stays_live(site, core);
     let from = tell_control(site, link, way, at, core, &mut room.post)?;
@@ -113,7 +118,8 @@ pub(crate) fn lose(
 ) -> Result<(), NoMemory>
     requires live { IsLive site.now core.old }
     requires can { Can site.now.tree (world_in core.old) (Lose link (way_of way) at) }
-    ensures { OnOk result (Makes (Lose link (way_of way) at) site.now core.old core.new room.old.post.log room.new.post.log) }
+    ensures { OnOk result (Makes (Lose link (way_of way) at) site.now core.old core.new
+        room.old.post.log room.new.post.log) }
 {
     stays_live(site, core);
     let from = tell_nothing(&mut room.post.log);
@@ -131,7 +137,8 @@ pub(crate) fn beat(
 ) -> Result<(), NoMemory>
     requires live { IsLive site.now core.old }
     requires can { Can site.now.tree (world_in core.old) Beat }
-    ensures { OnOk result (Makes Beat site.now core.old core.new room.old.post.log room.new.post.log) }
+    ensures { OnOk result (Makes Beat site.now core.old core.new room.old.post.log
+        room.new.post.log) }
 {
     stays_live(site, core);
     let from = tell_beat(&mut room.post)?;
@@ -149,7 +156,8 @@ pub(crate) fn tick(
 ) -> Result<(), NoMemory>
     requires live { IsLive site.now core.old }
     requires can { Can site.now.tree (world_in core.old) (Tick seconds) }
-    ensures { OnOk result (Makes (Tick seconds) site.now core.old core.new room.old.post.log room.new.post.log) }
+    ensures { OnOk result (Makes (Tick seconds) site.now core.old core.new room.old.post.log
+        room.new.post.log) }
 {
     stays_live(site, core);
     let from = tell_nothing(&mut room.post.log);
@@ -167,7 +175,8 @@ pub(crate) fn order(
 ) -> Result<(), NoMemory>
     requires live { IsLive site.now core.old }
     requires can { Can site.now.tree (world_in core.old) (Order command.now) }
-    ensures { OnOk result (Makes (Order command.now) site.now core.old core.new room.old.post.log room.new.post.log) }
+    ensures { OnOk result (Makes (Order command.now) site.now core.old core.new room.old.post.log
+        room.new.post.log) }
 {
     stays_live(site, core);
     let from = tell_nothing(&mut room.post.log);
@@ -186,7 +195,8 @@ pub(crate) fn mark(
 ) -> Result<(), NoMemory>
     requires live { IsLive site.now core.old }
     requires can { Can site.now.tree (world_in core.old) Mark }
-    ensures { OnOk result (Makes Mark site.now core.old core.new room.old.post.log room.new.post.log) }
+    ensures { OnOk result (Makes Mark site.now core.old core.new room.old.post.log
+        room.new.post.log) }
 {
     stays_live(site, core);
     let from = tell_nothing(&mut room.post.log);

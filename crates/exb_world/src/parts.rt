@@ -27,8 +27,10 @@ impl WorldParts {
     /// As it begins.
     pub(crate) fn new(alloc: Global, setup: &Setup) -> Result<WorldParts, NoMemory>
         requires { IsValid setup.now }
-        ensures world { IfOk result (λ made. world_in made ≡ first_world (shape_of setup.now) (limits_of setup.now) (start_of setup.now) setup.now.ageing) }
-        ensures at { IfOk result (λ made. (s : Site) → s.tree ≡ shape_of setup.now → limits_in s ≡ limits_of setup.now → IsAt s made) }
+        ensures world { IfOk result (λ made. world_in made ≡ first_world (shape_of setup.now)
+            (limits_of setup.now) (start_of setup.now) setup.now.ageing) }
+        ensures at { IfOk result (λ made. (s : Site) → s.tree ≡ shape_of setup.now
+            → limits_in s ≡ limits_of setup.now → IsAt s made) }
     {
         let up = Links::new(alloc)?;
         let next = Indices::new(alloc)?;

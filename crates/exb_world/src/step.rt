@@ -22,8 +22,8 @@ pub enum Step<'a> {
         link: u8,
         way: Way,
     },
-    /// The control word at a position, before which no data word is left, is delivered; it stays on the link too if it is
-    /// kept.
+    /// The control word at a position, before which no data word is left, is delivered; it stays on
+    /// the link too if it is kept.
     Control {
         link: u8,
         way: Way,

@@ -40,7 +40,8 @@ fn take_up(
     requires at { IsAt site.now core.old }
     requires there { is_extender site.now.tree number ≡ true }
     requires asks { AsksWell site.now.tree (limits_in site.now) (world_in core.old).control }
-    ensures { OnOk result (Does (takes_up site.now.tree (limits_in site.now) number word (world_in core.old)) site.now core.new room.old.post.log room.new.post.log) }
+    ensures { OnOk result (Does (takes_up site.now.tree (limits_in site.now) number word
+        (world_in core.old)) site.now core.new room.old.post.log room.new.post.log) }
 {
     site.tree().is_tree();
     let port = site.on(number);
@@ -65,7 +66,8 @@ fn take(
     requires at { IsAt site.now core.old }
     requires there { is_extender site.now.tree number ≡ true }
     requires asks { AsksWell site.now.tree (limits_in site.now) (world_in core.old).control }
-    ensures { OnOk result (Does (takes site.now.tree (limits_in site.now) number (way_of way) word (world_in core.old)) site.now core.new room.old.post.log room.new.post.log) }
+    ensures { OnOk result (Does (takes site.now.tree (limits_in site.now) number (way_of way) word
+        (world_in core.old)) site.now core.new room.old.post.log room.new.post.log) }
 {
     match way {
         Way::Up => take_up(site, number, word, room, core),
@@ -86,7 +88,9 @@ fn pull_control(
     requires at { IsAt site.now core.old }
     requires known { IsNumber number }
     ensures word { result ≡ control_at (words_on number (way_of way) (world_in core.old)) place }
-    ensures rest { world_in core.new ≡ with_words number (way_of way) (without_control (words_on number (way_of way) (world_in core.old)) place) (world_in core.old) }
+    ensures rest { world_in core.new ≡ with_words number (way_of way)
+        (without_control (words_on number (way_of way) (world_in core.old)) place)
+        (world_in core.old) }
     ensures at { IsAt site.now core.new }
 {
     let _ = site;
@@ -104,7 +108,8 @@ fn copied(
     place: u64,
 ) -> Result<Option<BoxedFrame>, NoMemory>
     requires { IsNumber number }
-    ensures { IfOk result (λ word. word ≡ slice_get (filter is_control (words_of direction.now number)) place) }
+    ensures { IfOk result (λ word. word
+        ≡ slice_get (filter is_control (words_of direction.now number)) place) }
 {
     match direction.control_at(number, place) {
         None => Ok(None),
@@ -127,7 +132,8 @@ fn copy_control(
     core: &WorldParts,
 ) -> Result<Option<BoxedFrame>, NoMemory>
     requires { IsNumber number }
-    ensures { IfOk result (λ word. word ≡ control_at (words_on number (way_of way) (world_in core.now)) place) }
+    ensures { IfOk result (λ word. word
+        ≡ control_at (words_on number (way_of way) (world_in core.now)) place) }
 {
     match way {
         Way::Up => copied(alloc, &core.up, number, place),
@@ -146,7 +152,8 @@ fn carry_up(
     requires at { IsAt site.now core.old }
     requires there { is_extender site.now.tree number ≡ true }
     requires asks { AsksWell site.now.tree (limits_in site.now) (world_in core.old).control }
-    ensures { OnOk result (Does (done_by site.now.tree (limits_in site.now) (Carry number Up) (world_in core.old)) site.now core.new room.old.post.log room.new.post.log) }
+    ensures { OnOk result (Does (done_by site.now.tree (limits_in site.now) (Carry number Up)
+        (world_in core.old)) site.now core.new room.old.post.log room.new.post.log) }
 {
     site.has_low_number(number);
     match core.up.take_data(number) {
@@ -165,7 +172,8 @@ fn carry_down(
 ) -> Result<(), NoMemory>
     requires at { IsAt site.now core.old }
     requires there { is_extender site.now.tree number ≡ true }
-    ensures { OnOk result (Does (done_by site.now.tree (limits_in site.now) (Carry number Down) (world_in core.old)) site.now core.new room.old.post.log room.new.post.log) }
+    ensures { OnOk result (Does (done_by site.now.tree (limits_in site.now) (Carry number Down)
+        (world_in core.old)) site.now core.new room.old.post.log room.new.post.log) }
 {
     site.has_low_number(number);
     match core.bridge.down.take_data(number) {
@@ -186,7 +194,9 @@ pub(crate) fn carry(
     requires at { IsAt site.now core.old }
     requires there { is_extender site.now.tree number ≡ true }
     requires asks { AsksWell site.now.tree (limits_in site.now) (world_in core.old).control }
-    ensures { OnOk result (Does (done_by site.now.tree (limits_in site.now) (Carry number (way_of way)) (world_in core.old)) site.now core.new room.old.post.log room.new.post.log) }
+    ensures { OnOk result (Does (done_by site.now.tree (limits_in site.now)
+        (Carry number (way_of way)) (world_in core.old)) site.now core.new room.old.post.log
+        room.new.post.log) }
 {
     match way {
         Way::Up => carry_up(site, number, room, core),
@@ -194,7 +204,8 @@ pub(crate) fn carry(
     }
 }
 
-/// The control word at a position that is delivered: a copy of it where it is kept, or else it is taken off its link.
+/// The control word at a position that is delivered: a copy of it where it is kept, or else it is
+/// taken off its link.
 fn get_control(
     site: &TreeIndex,
     number: u8,
@@ -206,8 +217,11 @@ fn get_control(
 ) -> Result<Option<BoxedFrame>, NoMemory>
     requires at { IsAt site.now core.old }
     requires known { IsNumber number }
-    ensures word { IfOk result (λ word. word ≡ control_at (words_on number (way_of way) (world_in core.old)) place) }
-    ensures rest { OnOk result (world_in core.new ≡ with_words number (way_of way) (rest_of keep (words_on number (way_of way) (world_in core.old)) place) (world_in core.old)) }
+    ensures word { IfOk result (λ word. word
+        ≡ control_at (words_on number (way_of way) (world_in core.old)) place) }
+    ensures rest { OnOk result (world_in core.new ≡ with_words number (way_of way)
+        (rest_of keep (words_on number (way_of way) (world_in core.old)) place)
+        (world_in core.old)) }
     ensures at { OnOk result (IsAt site.now core.new) }
 {
     if keep {
@@ -232,7 +246,9 @@ pub(crate) fn deliver(
     requires at { IsAt site.now core.old }
     requires there { is_extender site.now.tree number ≡ true }
     requires asks { AsksWell site.now.tree (limits_in site.now) (world_in core.old).control }
-    ensures { OnOk result (Does (done_by site.now.tree (limits_in site.now) (Control number (way_of way) place keep) (world_in core.old)) site.now core.new room.old.post.log room.new.post.log) }
+    ensures { OnOk result (Does (done_by site.now.tree (limits_in site.now)
+        (Control number (way_of way) place keep) (world_in core.old)) site.now core.new
+        room.old.post.log room.new.post.log) }
 {
     site.has_low_number(number);
     match get_control(site, number, way, place, keep, room.post.alloc, core)? {
@@ -245,7 +261,9 @@ pub(crate) fn deliver(
 pub(crate) fn lose(site: &TreeIndex, number: u8, way: Way, place: u64, core: &mut WorldParts)
     requires at { IsAt site.now core.old }
     requires there { is_extender site.now.tree number ≡ true }
-    ensures world { world_in core.new ≡ (done_by site.now.tree (limits_in site.now) (Lose number (way_of way) place) (world_in core.old)).world }
+    ensures world { world_in core.new
+        ≡ (done_by site.now.tree (limits_in site.now) (Lose number (way_of way) place)
+        (world_in core.old)).world }
     ensures at { IsAt site.now core.new }
 {
     site.has_low_number(number);
@@ -263,7 +281,8 @@ pub(crate) fn arrive(
     requires at { IsAt site.now core.old }
     requires external { is_external site.now.tree arrival.now.port ≡ true }
     requires few { (world_in core.old).next arrival.now.port < 2 ^ 63 }
-    ensures { OnOk result (Does (arrives site.now.tree arrival.now (world_in core.old)) site.now core.new room.old.post.log room.new.post.log) }
+    ensures { OnOk result (Does (arrives site.now.tree arrival.now (world_in core.old)) site.now
+        core.new room.old.post.log room.new.post.log) }
 {
     let port = arrival.port;
     core.next.count(port);
@@ -278,7 +297,8 @@ pub(crate) fn arrive(
 #[inline(always)]
 pub(crate) fn mark(site: &TreeIndex, core: &WorldParts, log: &mut Log) -> Result<(), NoMemory>
     requires at { IsAt site.now core.now }
-    ensures { OnOk result (Does (done_by site.now.tree (limits_in site.now) Mark (world_in core.now)) site.now core.now log.old log.new) }
+    ensures { OnOk result (Does (done_by site.now.tree (limits_in site.now) Mark
+        (world_in core.now)) site.now core.now log.old log.new) }
 {
     let _ = site;
     let _ = core;

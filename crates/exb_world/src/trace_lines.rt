@@ -1,4 +1,5 @@
-//! The lines of a step in a trace: what comes in, then the journal, then what goes out. Where no trace is kept none is told.
+//! The lines of a step in a trace: what comes in, then the journal, then what goes out. Where no
+//! trace is kept none is told.
 ghost use Rattle.std.specs.Prelude.{◌≡◌, ◌++◌, ◌≤◌, ◌∷◌, [], true, OnOk, IfOk, drop, length, map};
 ghost use Rattle.std.specs.Option.{option_copied};
 ghost use Rattle.exb_model.specs.Traces.{line_by};
@@ -46,7 +47,8 @@ fn put(
     })
 }
 
-/// A step begins, and a trace is kept: nothing has gone out in it yet. It gives how many events were told before it.
+/// A step begins, and a trace is kept: nothing has gone out in it yet. It gives how many events
+/// were told before it.
 fn begin(log: &mut Log) -> usize
     ensures { IsBegun [] result log.old log.new }
 {
@@ -65,7 +67,8 @@ fn begin_in(
     post: &mut StepOutput,
 ) -> Result<usize, NoMemory>
     requires { post.old.log.tracing ≡ true }
-    ensures { IfOk result (λ from. IsBegun (line_by way who side bytes.now ∷ []) from post.old.log post.new.log) }
+    ensures { IfOk result (λ from. IsBegun (line_by way who side bytes.now ∷ []) from post.old.log
+        post.new.log) }
 {
     let from = begin(&mut post.log);
     put(post.alloc, way, who, side, bytes, &mut post.log.lines)?;
@@ -75,12 +78,14 @@ fn begin_in(
 /// A step begins in which a frame comes in by a port, and a trace is kept.
 fn begin_at(port: PortId, frame: &[u8], post: &mut StepOutput) -> Result<usize, NoMemory>
     requires { post.old.log.tracing ≡ true }
-    ensures { IfOk result (λ from. IsBegun (told (line_at port frame.now) ∷ []) from post.old.log post.new.log) }
+    ensures { IfOk result (λ from. IsBegun (told (line_at port frame.now) ∷ []) from post.old.log
+        post.new.log) }
 {
     begin_in(TraceWay::In, port.device(), port.place() + 1, frame, post)
 }
 
-/// A step begins in which a word, if there is one, comes in at the end of its direction, and a trace is kept.
+/// A step begins in which a word, if there is one, comes in at the end of its direction, and a
+/// trace is kept.
 #[cold]
 #[inline(never)]
 fn begin_word(
@@ -92,7 +97,9 @@ fn begin_word(
 ) -> Result<usize, NoMemory>
     requires there { is_extender site.now.tree number ≡ true }
     requires tracing { post.old.log.tracing ≡ true }
-    ensures { IfOk result (λ from. IsBegun (all_told (line_of_any site.now.tree number (way_of way) (option_copied word.entry))) from post.old.log post.new.log) }
+    ensures { IfOk result (λ from.
+        IsBegun (all_told (line_of_any site.now.tree number (way_of way)
+        (option_copied word.entry))) from post.old.log post.new.log) }
 {
     let Some(word) = word else {
         return Ok(begin(&mut post.log));
@@ -103,8 +110,8 @@ fn begin_word(
     }
 }
 
-/// A step begins in which nothing comes in. Like all that tell a beginning it gives how many events were told before it, where a
-/// trace is kept.
+/// A step begins in which nothing comes in. Like all that tell a beginning it gives how many events
+/// were told before it, where a trace is kept.
 pub(crate) fn tell_nothing(log: &mut Log) -> usize
     ensures { IsBegun [] result log.old log.new }
 {
@@ -114,7 +121,8 @@ pub(crate) fn tell_nothing(log: &mut Log) -> usize
 /// A step begins in which a frame arrives.
 #[inline(always)]
 pub(crate) fn tell_arrival(arrival: &Arrival, post: &mut StepOutput) -> Result<usize, NoMemory>
-    ensures { IfOk result (λ from. IsBegun (told (line_at arrival.now.port arrival.now.bytes) ∷ []) from post.old.log post.new.log) }
+    ensures { IfOk result (λ from. IsBegun (told (line_at arrival.now.port arrival.now.bytes) ∷ [])
+        from post.old.log post.new.log) }
 {
     if !post.log.tracing {
         return Ok(0);
@@ -132,7 +140,10 @@ pub(crate) fn tell_data(
     post: &mut StepOutput,
 ) -> Result<usize, NoMemory>
     requires { is_extender site.now.tree number ≡ true }
-    ensures { IfOk result (λ from. IsBegun (all_told (line_of_any site.now.tree number (way_of way) (first_data (words_on number (way_of way) (world_in core.now))))) from post.old.log post.new.log) }
+    ensures { IfOk result (λ from.
+        IsBegun (all_told (line_of_any site.now.tree number (way_of way)
+        (first_data (words_on number (way_of way) (world_in core.now))))) from post.old.log
+        post.new.log) }
 {
     if !post.log.tracing {
         return Ok(0);
@@ -152,7 +163,10 @@ pub(crate) fn tell_control(
     post: &mut StepOutput,
 ) -> Result<usize, NoMemory>
     requires { is_extender site.now.tree number ≡ true }
-    ensures { IfOk result (λ from. IsBegun (all_told (line_of_any site.now.tree number (way_of way) (control_at (words_on number (way_of way) (world_in core.now)) at))) from post.old.log post.new.log) }
+    ensures { IfOk result (λ from.
+        IsBegun (all_told (line_of_any site.now.tree number (way_of way)
+        (control_at (words_on number (way_of way) (world_in core.now)) at))) from post.old.log
+        post.new.log) }
 {
     if !post.log.tracing {
         return Ok(0);

@@ -43,7 +43,8 @@ pub enum WorldFault {
     Failed,
 }
 
-/// The controlling bridge with all extenders and links, and what has happened since the last `clear`.
+/// The controlling bridge with all extenders and links, and what has happened since the last
+/// `clear`.
 pub struct World {
     site: TreeIndex,
     core: WorldParts,
@@ -80,11 +81,12 @@ impl Model for World {
 impl World {
     ghost use Rattle.exb_world.specs.WorldContracts.{world_of, tree_of, bounds_of, step_of, IsQuiet, IsSame, IsStepped};
 
-    /// The world of a setup, with a trace of all that passes on links and ports where that is wanted. Nothing has happened in
-    /// it yet.
+    /// The world of a setup, with a trace of all that passes on links and ports where that is
+    /// wanted. Nothing has happened in it yet.
     pub fn new(alloc: Global, setup: &Setup, trace: bool) -> Result<World, NoMemory>
         requires { IsValid setup.now }
-        ensures world { IfOk result (λ made. world_of made ≡ first_world (shape_of setup.now) (limits_of setup.now) (start_of setup.now) setup.now.ageing) }
+        ensures world { IfOk result (λ made. world_of made ≡ first_world (shape_of setup.now)
+            (limits_of setup.now) (start_of setup.now) setup.now.ageing) }
         ensures tree { IfOk result (λ made. tree_of made ≡ shape_of setup.now) }
         ensures limits { IfOk result (λ made. bounds_of made ≡ limits_of setup.now) }
         ensures quiet { IfOk result IsQuiet }
@@ -106,24 +108,29 @@ impl World {
         })
     }
 
-    /// Whether a step may be made, where memory hasn't run out. An arrival: the port is external, the index is the port's next
-    /// one and below 2^63, and the frame has at most 262,144 bytes. A carry: a data word is in that direction. A control word:
-    /// it is there, and to be delivered it is free: no data word sent before it is left. A tick: it has at least one second, and
-    /// the clock stays below 2^63. A command: its ports are external, and fewer than 65,536 were given. A mark: nothing is left
-    /// to be done.
+    /// Whether a step may be made, where memory hasn't run out. An arrival: the port is external,
+    /// the index is the port's next one and below 2^63, and the frame has at most 262,144 bytes. A
+    /// carry: a data word is in that direction. A control word: it is there, and to be delivered it
+    /// is free: no data word sent before it is left. A tick: it has at least one second, and the
+    /// clock stays below 2^63. A command: its ports are external, and fewer than 65,536 were given.
+    /// A mark: nothing is left to be done.
     pub fn can(&self, step: &Step<'_>) -> bool
-        ensures may { result ≡ true → Can (tree_of self.now) (world_of self.now) (step_of step.now) }
-        ensures exact { self.now.failed ≡ false → Can (tree_of self.now) (world_of self.now) (step_of step.now) → result ≡ true }
+        ensures may { result ≡ true → Can (tree_of self.now) (world_of self.now)
+            (step_of step.now) }
+        ensures exact { self.now.failed ≡ false → Can (tree_of self.now) (world_of self.now)
+            (step_of step.now) → result ≡ true }
     {
         !self.failed && allowed_steps::can(&self.site, &self.core, step)
     }
 
-    /// A frame of at most 262,144 bytes arrives at an external port. Like each kind of step it is put into the place of its call.
+    /// A frame of at most 262,144 bytes arrives at an external port. Like each kind of step it is
+    /// put into the place of its call.
     #[inline(always)]
     pub fn arrive(&mut self, arrival: &Arrival) -> Result<(), WorldFault>
         requires { Can (tree_of self.old) (world_of self.old) (Arrive arrival.now) }
         ensures ok { OnOk result (IsStepped (Arrive arrival.now) self.old self.new) }
-        ensures may { OnOk result (MayTake (tree_of self.old) (world_of self.old) (Arrive arrival.now)) }
+        ensures may { OnOk result (MayTake (tree_of self.old) (world_of self.old)
+            (Arrive arrival.now)) }
         ensures failed { (result ≡ Err WorldFault.Failed) ↔ (self.old.failed ≡ true) }
         ensures memory { OnErr result (self.new.failed ≡ true) }
     {
@@ -139,7 +146,8 @@ impl World {
     pub fn carry(&mut self, link: u8, way: Way) -> Result<(), WorldFault>
         requires { Can (tree_of self.old) (world_of self.old) (Carry link (way_of way)) }
         ensures ok { OnOk result (IsStepped (Carry link (way_of way)) self.old self.new) }
-        ensures may { OnOk result (MayTake (tree_of self.old) (world_of self.old) (Carry link (way_of way))) }
+        ensures may { OnOk result (MayTake (tree_of self.old) (world_of self.old)
+            (Carry link (way_of way))) }
         ensures failed { (result ≡ Err WorldFault.Failed) ↔ (self.old.failed ≡ true) }
         ensures memory { OnErr result (self.new.failed ≡ true) }
     {
@@ -150,12 +158,14 @@ impl World {
         closed(made, &mut self.failed)
     }
 
-    /// The control word at a position, before which no data word is left, is delivered; it stays on the link too if it is kept.
+    /// The control word at a position, before which no data word is left, is delivered; it stays on
+    /// the link too if it is kept.
     #[inline(always)]
     pub fn deliver(&mut self, link: u8, way: Way, at: u64, keep: bool) -> Result<(), WorldFault>
         requires { Can (tree_of self.old) (world_of self.old) (Control link (way_of way) at keep) }
         ensures ok { OnOk result (IsStepped (Control link (way_of way) at keep) self.old self.new) }
-        ensures may { OnOk result (MayTake (tree_of self.old) (world_of self.old) (Control link (way_of way) at keep)) }
+        ensures may { OnOk result (MayTake (tree_of self.old) (world_of self.old)
+            (Control link (way_of way) at keep)) }
         ensures failed { (result ≡ Err WorldFault.Failed) ↔ (self.old.failed ≡ true) }
         ensures memory { OnErr result (self.new.failed ≡ true) }
     {
@@ -179,7 +189,8 @@ impl World {
     pub fn lose(&mut self, link: u8, way: Way, at: u64) -> Result<(), WorldFault>
         requires { Can (tree_of self.old) (world_of self.old) (Lose link (way_of way) at) }
         ensures ok { OnOk result (IsStepped (Lose link (way_of way) at) self.old self.new) }
-        ensures may { OnOk result (MayTake (tree_of self.old) (world_of self.old) (Lose link (way_of way) at)) }
+        ensures may { OnOk result (MayTake (tree_of self.old) (world_of self.old)
+            (Lose link (way_of way) at)) }
         ensures failed { (result ≡ Err WorldFault.Failed) ↔ (self.old.failed ≡ true) }
         ensures memory { OnErr result (self.new.failed ≡ true) }
     {
@@ -227,7 +238,8 @@ impl World {
     pub fn order(&mut self, command: &Command) -> Result<(), WorldFault>
         requires { Can (tree_of self.old) (world_of self.old) (Order command.now) }
         ensures ok { OnOk result (IsStepped (Order command.now) self.old self.new) }
-        ensures may { OnOk result (MayTake (tree_of self.old) (world_of self.old) (Order command.now)) }
+        ensures may { OnOk result (MayTake (tree_of self.old) (world_of self.old)
+            (Order command.now)) }
         ensures failed { (result ≡ Err WorldFault.Failed) ↔ (self.old.failed ≡ true) }
         ensures memory { OnErr result (self.new.failed ≡ true) }
     {
@@ -261,10 +273,11 @@ impl World {
         self.failed
     }
 
-    /// Whether nothing is left to be done, and memory hasn't run out: no job waits and no change is at work, nothing is on any
-    /// link, and every end of the transport is idle.
+    /// Whether nothing is left to be done, and memory hasn't run out: no job waits and no change is
+    /// at work, nothing is on any link, and every end of the transport is idle.
     pub fn settled(&self) -> bool
-        ensures { IsTrue result ↔ ((self.now.failed ≡ false) × IsSettled (tree_of self.now) (world_of self.now)) }
+        ensures { IsTrue result ↔ ((self.now.failed ≡ false)
+            × IsSettled (tree_of self.now) (world_of self.now)) }
     {
         !self.failed && is_settled(&self.site, &self.core)
     }
@@ -290,7 +303,9 @@ impl World {
 
     /// How many exchanges and announcements are still to come before all jobs are done.
     pub fn planned(&self) -> Result<u64, NoMemory>
-        ensures { self.now.failed ≡ false → IfOk result (λ count. count ≡ planned (tree_of self.now) (decide (tree_of self.now) (bounds_of self.now)) (world_of self.now).control) }
+        ensures { self.now.failed ≡ false
+            → IfOk result (λ count. count ≡ planned (tree_of self.now)
+            (decide (tree_of self.now) (bounds_of self.now)) (world_of self.now).control) }
     {
         self.core.bridge.control.planned()
     }
@@ -298,14 +313,17 @@ impl World {
     /// How many data words and control words are on a direction.
     pub fn counts(&self, link: u8, way: Way) -> Counts
         requires { is_extender (tree_of self.now) link ≡ true }
-        ensures frames { result.frames ≡ length (filter is_data (words_on link (way_of way) (world_of self.now))) }
-        ensures control { result.control ≡ length (filter is_control (words_on link (way_of way) (world_of self.now))) }
+        ensures frames { result.frames
+            ≡ length (filter is_data (words_on link (way_of way) (world_of self.now))) }
+        ensures control { result.control
+            ≡ length (filter is_control (words_on link (way_of way) (world_of self.now))) }
     {
         self.site.has_low_number(link);
         link_of(&self.core, link, way).counts()
     }
 
-    /// Whether there is a control word at a position of a direction, and no data word sent before it is left.
+    /// Whether there is a control word at a position of a direction, and no data word sent before
+    /// it is left.
     pub fn free_at(&self, link: u8, way: Way, at: u64) -> bool
         requires { is_extender (tree_of self.now) link ≡ true }
         ensures { IsTrue result ↔ (at < leading (words_on link (way_of way) (world_of self.now))) }
@@ -318,8 +336,10 @@ impl World {
     #[inline(always)]
     pub fn next_link(&self, way: Way, from: u8) -> Option<u8>
         requires { from ≤ 65 }
-        ensures found { IfSome result (λ n. (from ≤ n) × (n < 65) × (words_on n (way_of way) (world_of self.now) ≢ [])) }
-        ensures none { IfNone result ((n : ℕ) → from ≤ n → words_on n (way_of way) (world_of self.now) ≡ []) }
+        ensures found { IfSome result (λ n. (from ≤ n) × (n < 65)
+            × (words_on n (way_of way) (world_of self.now) ≢ [])) }
+        ensures none { IfNone result ((n : ℕ) → from ≤ n
+            → words_on n (way_of way) (world_of self.now) ≡ []) }
     {
         match way {
             Way::Up => self.core.up.next_busy(from),
@@ -327,10 +347,14 @@ impl World {
         }
     }
 
-    /// The first direction of a way, from a place on in the order in which a round goes through them, that has a word.
+    /// The first direction of a way, from a place on in the order in which a round goes through
+    /// them, that has a word.
     pub fn next_busy(&self, way: Way, from: u8) -> Option<LinkTurn>
-        ensures found { IfSome result (λ turn. IsTurn (tree_of self.now) (way_of way) (world_of self.now) from turn) }
-        ensures none { IfNone result ((k n : ℕ) → from ≤ k → slice_get (order_of (tree_of self.now) (way_of way)) k ≡ Some n → words_on n (way_of way) (world_of self.now) ≡ []) }
+        ensures found { IfSome result (λ turn. IsTurn (tree_of self.now) (way_of way)
+            (world_of self.now) from turn) }
+        ensures none { IfNone result ((k n : ℕ) → from ≤ k
+            → slice_get (order_of (tree_of self.now) (way_of way)) k ≡ Some n
+            → words_on n (way_of way) (world_of self.now) ≡ []) }
     {
         link_turns::next_busy(&self.site, &self.core, way, from)
     }
@@ -373,9 +397,11 @@ impl World {
         self.failed = true;
     }
 
-    /// That a run of a valid setup comes to this network, where memory hasn't run out, as a fact for whoever calls this. It does nothing.
+    /// That a run of a valid setup comes to this network, where memory hasn't run out, as a fact
+    /// for whoever calls this. It does nothing.
     pub fn is_reached(&self)
-        ensures { self.now.failed ≡ false → IsReached (tree_of self.now) (bounds_of self.now) (world_of self.now) }
+        ensures { self.now.failed ≡ false → IsReached (tree_of self.now) (bounds_of self.now)
+            (world_of self.now) }
     {
         let _ = &self.core;
     }
@@ -427,7 +453,8 @@ pub(crate) fn link_of(core: &WorldParts, number: u8, way: Way) -> &Link
 
 /// Whether nothing is on the link of any extender, and both ends of its transport are idle.
 fn are_idle(site: &TreeIndex, core: &WorldParts) -> bool
-    ensures { IsTrue result ↔ ((n : ℕ) → is_extender site.now.tree n ≡ true → IsIdle (world_in core.now) n) }
+    ensures { IsTrue result ↔ ((n : ℕ) → is_extender site.now.tree n ≡ true
+        → IsIdle (world_in core.now) n) }
 {
     let all = site.extenders();
     if core.bridge.near.are_sending(all) {

@@ -15,7 +15,8 @@ use exb_bridge::{StepScratch, TreeIndex};
 use exb_model::device_set::first_in;
 use exb_model::memory::NoMemory;
 
-/// The beat passes at all extenders: first at those that rest, which send nothing, then at the others by number.
+/// The beat passes at all extenders: first at those that rest, which send nothing, then at the
+/// others by number.
 #[inline(always)]
 fn beat_all_far(
     site: &TreeIndex,
@@ -23,7 +24,9 @@ fn beat_all_far(
     core: &mut WorldParts,
 ) -> Result<(), NoMemory>
     requires at { IsAt site.now core.old }
-    ensures { OnOk result (Does (each (if_there site.now.tree (λ n. reacts site.now.tree n None Beats)) all_extenders (world_in core.old)) site.now core.new room.old.post.log room.new.post.log) }
+    ensures { OnOk result
+        (Does (each (if_there site.now.tree (λ n. reacts site.now.tree n None Beats)) all_extenders
+        (world_in core.old)) site.now core.new room.old.post.log room.new.post.log) }
 {
     site.tree().is_tree();
     core.far.beat_resting();
@@ -46,7 +49,8 @@ pub(crate) fn beat(
 ) -> Result<(), NoMemory>
     requires at { IsAt site.now core.old }
     requires asks { AsksWell site.now.tree (limits_in site.now) (world_in core.old).control }
-    ensures { OnOk result (Does (beats_all site.now.tree (world_in core.old)) site.now core.new room.old.post.log room.new.post.log) }
+    ensures { OnOk result (Does (beats_all site.now.tree (world_in core.old)) site.now core.new
+        room.old.post.log room.new.post.log) }
 {
     core.beats = core.beats.saturating_add(1);
     beat_ends(site, room, core)?;

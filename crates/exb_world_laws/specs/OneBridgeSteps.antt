@@ -21,32 +21,40 @@ use Rattle.exb_world_laws.specs.WorldInvariant.{MayStart, MayDoAll, given_in, Ke
 use Rattle.exb_world_laws.specs.OneBridge.{Stands}
 
 -- ---- any steps
--- Where a world stood before these steps, whatever was given, was told and had left, it stands after them with what they give, tell
--- and make leave; its links are clean, and its ageing time is what it was.
-pub record IsLeftStanding (t : Shape) (l : Limits) (i : Basis) (w : World) (g : List Given) (h : History) (left : List Left) (steps : List Step) : Type 0 where
-  pub stands : Stands t l i (run t l steps w).world (g ++ given_in steps) (h then (run t l steps w).events) (left ++ (run t l steps w).left)
+-- Where a world stood before these steps, whatever was given, was told and had left, it stands after them with what
+-- they give, tell and make leave; its links are clean, and its ageing time is what it was.
+pub record IsLeftStanding (t : Shape) (l : Limits) (i : Basis) (w : World) (g : List Given) (h : History)
+    (left : List Left) (steps : List Step) : Type 0 where
+  pub stands : Stands t l i (run t l steps w).world (g ++ given_in steps) (h then (run t l steps w).events)
+      (left ++ (run t l steps w).left)
   pub clean : IsClean t (run t l steps w).world
   pub ageing : (run t l steps w).world.table.ageing ≡ w.table.ageing
 
 abbrev pub RunsLeaveStanding : Type 0
 RunsLeaveStanding =
-    (t : Shape) (l : Limits) (b : Basis) → MayStart t l b → (w : World) (given : List Given) (told : History) (gone : List Left) → Kept t l b w given told gone →
+    (t : Shape) (l : Limits) (b : Basis) → MayStart t l b
+    → (w : World) (given : List Given) (told : History) (gone : List Left) → Kept t l b w given told gone →
     (steps : List Step) → MayDoAll t l w steps →
-    (i : Basis) → i.ageing ≡ w.table.ageing → (g : List Given) (h : History) (left : List Left) → Stands t l i w g h left → IsLeftStanding t l i w g h left steps
+    (i : Basis) → i.ageing ≡ w.table.ageing → (g : List Given) (h : History) (left : List Left)
+    → Stands t l i w g h left → IsLeftStanding t l i w g h left steps
 
 -- They say of each Relay among their events whether its frame passes, in the configuration before it.
 abbrev pub RunsTellPassed : Type 0
 RunsTellPassed =
-    (t : Shape) (l : Limits) (b : Basis) → MayStart t l b → (w : World) (given : List Given) (told : History) (gone : List Left) → Kept t l b w given told gone →
+    (t : Shape) (l : Limits) (b : Basis) → MayStart t l b
+    → (w : World) (given : List Given) (told : History) (gone : List Left) → Kept t l b w given told gone →
     (steps : List Step) → MayDoAll t l w steps →
-    (i : Basis) → i.ageing ≡ w.table.ageing → (g : List Given) (h : History) (left : List Left) → Stands t l i w g h left →
+    (i : Basis) → i.ageing ≡ w.table.ageing → (g : List Given) (h : History) (left : List Left)
+    → Stands t l i w g h left →
     (run t l steps w).passed ≡ passed_over (basis_with i (g ++ given_in steps)) h (run t l steps w).events
 
 -- ---- a settled world
--- Where it stands nothing is owed: what has left each port is what the one bridge sends there. That it stands is enough.
+-- Where it stands nothing is owed: what has left each port is what the one bridge sends there. That it stands is
+-- enough.
 abbrev pub StandsOwesNothing : Type 0
 StandsOwesNothing =
-    (t : Shape) (l : Limits) (i : Basis) → IsTree t → (w : World) (g : List Given) (h : History) (left : List Left) → Stands t l i w g h left → IsSettled t w →
+    (t : Shape) (l : Limits) (i : Basis) → IsTree t → (w : World) (g : List Given) (h : History) (left : List Left)
+    → Stands t l i w g h left → IsSettled t w →
     (q : ℕ) → is_external t q ≡ true → (owed_at t w q ≡ []) × (left_at q left ≡ flat (basis_with i g) h q)
 
 -- ---- one event
@@ -65,20 +73,30 @@ told_of t l w _ = event.Settled
 -- A settled world is given something and settles by moves: just that is told.
 abbrev pub EventsAreTold : Type 0
 EventsAreTold =
-    (t : Shape) (l : Limits) (b : Basis) → MayStart t l b → (w : World) (given : List Given) (told : History) (gone : List Left) → Kept t l b w given told gone → IsSettled t w →
-    (step : Step) (moves : List Step) → IsGiving step → MayDoAll t l w (step ∷ moves) → machine.Each IsMove moves → IsSettled t (run t l (step ∷ moves) w).world →
+    (t : Shape) (l : Limits) (b : Basis) → MayStart t l b
+    → (w : World) (given : List Given) (told : History) (gone : List Left) → Kept t l b w given told gone
+    → IsSettled t w →
+    (step : Step) (moves : List Step) → IsGiving step → MayDoAll t l w (step ∷ moves) → machine.Each IsMove moves
+    → IsSettled t (run t l (step ∷ moves) w).world →
     (run t l (step ∷ moves) w).events ≡ told_of t l w step ∷ []
 
 -- And just that leaves which the one bridge sends for it, at each external port.
-pub record IsOneEvent (t : Shape) (l : Limits) (i : Basis) (w : World) (g : List Given) (h : History) (left : List Left) (step : Step) (moves : List Step) : Type 0 where
+pub record IsOneEvent (t : Shape) (l : Limits) (i : Basis) (w : World) (g : List Given) (h : History) (left : List Left)
+    (step : Step) (moves : List Step) : Type 0 where
   pub told : (run t l (step ∷ moves) w).events ≡ told_of t l w step ∷ []
-  pub stands : Stands t l i (run t l (step ∷ moves) w).world (g ++ given_by step) (told_of t l w step ∷ h) (left ++ (run t l (step ∷ moves) w).left)
+  pub stands : Stands t l i (run t l (step ∷ moves) w).world (g ++ given_by step) (told_of t l w step ∷ h)
+      (left ++ (run t l (step ∷ moves) w).left)
   pub clean : IsClean t (run t l (step ∷ moves) w).world
   pub ageing : (run t l (step ∷ moves) w).world.table.ageing ≡ w.table.ageing
-  pub leaves : (q : ℕ) → is_external t q ≡ true → left_at q (run t l (step ∷ moves) w).left ≡ sent_by (bridge_after (basis_with i g) h) (learned (basis_with i g) h) (told_of t l w step) q
+  pub leaves : (q : ℕ) → is_external t q ≡ true → left_at q (run t l (step ∷ moves) w).left
+      ≡ sent_by (bridge_after (basis_with i g) h) (learned (basis_with i g) h) (told_of t l w step) q
 
 abbrev pub EventsGoAlone : Type 0
 EventsGoAlone =
-    (t : Shape) (l : Limits) (b : Basis) → MayStart t l b → (w : World) (given : List Given) (told : History) (gone : List Left) → Kept t l b w given told gone → IsSettled t w →
-    (step : Step) (moves : List Step) → IsGiving step → MayDoAll t l w (step ∷ moves) → machine.Each IsMove moves → IsSettled t (run t l (step ∷ moves) w).world →
-    (i : Basis) → i.ageing ≡ w.table.ageing → (g : List Given) (h : History) (left : List Left) → Stands t l i w g h left → IsOneEvent t l i w g h left step moves
+    (t : Shape) (l : Limits) (b : Basis) → MayStart t l b
+    → (w : World) (given : List Given) (told : History) (gone : List Left) → Kept t l b w given told gone
+    → IsSettled t w →
+    (step : Step) (moves : List Step) → IsGiving step → MayDoAll t l w (step ∷ moves) → machine.Each IsMove moves
+    → IsSettled t (run t l (step ∷ moves) w).world →
+    (i : Basis) → i.ageing ≡ w.table.ageing → (g : List Given) (h : History) (left : List Left)
+    → Stands t l i w g h left → IsOneEvent t l i w g h left step moves

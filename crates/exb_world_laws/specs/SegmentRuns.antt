@@ -32,8 +32,8 @@ abbrev pub IsUnmarked : Step → Type 0
 IsUnmarked Mark = ⊥
 IsUnmarked _ = Unit {0}
 
--- Steps that give a segment: its seconds pass in one tick, where there are any; its commands are given, in order, and its
--- arrivals, each once and in any order; meanwhile nothing is marked.
+-- Steps that give a segment: its seconds pass in one tick, where there are any; its commands are given, in order, and
+-- its arrivals, each once and in any order; meanwhile nothing is marked.
 pub record Gives (b : Basis) (s : Segment) (steps : List Step) : Type 0 where
   pub seconds : seconds_in steps ≡ (if s.seconds == 0 then [] else s.seconds ∷ [])
   pub commands : commands_of (given_in steps) ≡ filter_map (command_of b) s.commands
@@ -63,13 +63,14 @@ PlayAll t l b w (s ∷ ss) [] = ⊥
 abbrev pub IsTimely : Input → Type 0
 IsTimely i = AllPairs (λ c d. c.at ≤ d.at) i.commands
 
--- A run that plays the opening and then the segments of an input, in the eager mode or in a seeded one, each settled and marked,
--- tells a history that the input allows.
+-- A run that plays the opening and then the segments of an input, in the eager mode or in a seeded one, each settled
+-- and marked, tells a history that the input allows.
 abbrev pub RunsPlayLegally : Type 0
 RunsPlayLegally =
     (m : Mode) (i : Input) (plays : List (List Step)) → IsValid i.setup → All HasVid i.setup.start → IsTimely i →
     let w = first_world (tree_of i) (bounds_of i) (start_of i.setup) i.setup.ageing in
-    MayGoAll (tree_of i) (bounds_of i) w (marked_each plays) → PlayAll (tree_of i) (bounds_of i) (basis_of i) w (nothing_given ∷ segments m i) plays →
+    MayGoAll (tree_of i) (bounds_of i) w (marked_each plays)
+    → PlayAll (tree_of i) (bounds_of i) (basis_of i) w (nothing_given ∷ segments m i) plays →
     Legal m i ([] then (run (tree_of i) (bounds_of i) (marked_each plays) w).events)
 
 -- ---- the eager run
@@ -78,24 +79,29 @@ pub record IsEager (s : Segment) (steps : List Step) : Type 0 where
   pub rest : List Step
   pub is : steps ≡ (if s.seconds == 0 then [] else Tick s.seconds ∷ []) ++ rest
 
--- A run that plays the opening and then the segments of the eager mode, the seconds of each first, tells exactly the eager
--- history, whatever the links do.
+-- A run that plays the opening and then the segments of the eager mode, the seconds of each first, tells exactly the
+-- eager history, whatever the links do.
 abbrev pub RunsPlayEagerly : Type 0
 RunsPlayEagerly =
-    (i : Input) (first : List Step) (plays : List (List Step)) → IsValid i.setup → All HasVid i.setup.start → IsTimely i →
+    (i : Input) (first : List Step) (plays : List (List Step)) → IsValid i.setup → All HasVid i.setup.start
+    → IsTimely i →
     let w = first_world (tree_of i) (bounds_of i) (start_of i.setup) i.setup.ageing in
-    MayGoAll (tree_of i) (bounds_of i) w (marked_each (first ∷ plays)) → PlayAll (tree_of i) (bounds_of i) (basis_of i) w (nothing_given ∷ segments Eager i) (first ∷ plays) →
-    Pairwise IsEager (segments Eager i) plays → ([] then (run (tree_of i) (bounds_of i) (marked_each (first ∷ plays)) w).events) ≡ eager i
+    MayGoAll (tree_of i) (bounds_of i) w (marked_each (first ∷ plays))
+    → PlayAll (tree_of i) (bounds_of i) (basis_of i) w (nothing_given ∷ segments Eager i) (first ∷ plays) →
+    Pairwise IsEager (segments Eager i) plays
+    → ([] then (run (tree_of i) (bounds_of i) (marked_each (first ∷ plays)) w).events) ≡ eager i
 
 -- ---- settling
 -- Steps that give a segment, and then settling: they play it, where settling ends settled.
-pub record IsPlayedBy (t : Shape) (l : Limits) (b : Basis) (s : Segment) (w : World) (steps : List Step) (done : Stepped) : Type 0 where
+pub record IsPlayedBy (t : Shape) (l : Limits) (b : Basis) (s : Segment) (w : World) (steps : List Step)
+    (done : Stepped) : Type 0 where
   pub more : List Step
   pub is : done ≡ run t l more (run t l steps w).world
   pub plays : Plays t l b s w (steps ++ more)
 
 abbrev pub SettlingPlays : Type 0
 SettlingPlays =
-    (t : Shape) (l : Limits) (b : Basis) (s : Segment) (w : World) (steps : List Step) (verdicts : List Verdict) (n : ℕ) → Gives b s steps →
+    (t : Shape) (l : Limits) (b : Basis) (s : Segment) (w : World) (steps : List Step) (verdicts : List Verdict) (n : ℕ)
+    → Gives b s steps →
     let done = (settled_within t l n (run t l steps w).world verdicts).done in
     IsSettled t done.world → IsPlayedBy t l b s w steps done

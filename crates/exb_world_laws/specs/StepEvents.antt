@@ -27,11 +27,12 @@ pub record IsTold (w : World) (n : ℕ) (es : List Event) : Type 0 where
   pub stamped : word.stamp ≡ Some stamp
   pub is : es ≡ arrival_event w.control.bridge (arrival_by stamp.port stamp (stripped word.bytes)) ∷ []
 
--- Of an arrival at a port of the bridge exactly one, Relay or Ignored of that record; at a port of an extender Ignored exactly
--- where the extender ignores it, and else none.
+-- Of an arrival at a port of the bridge exactly one, Relay or Ignored of that record; at a port of an extender Ignored
+-- exactly where the extender ignores it, and else none.
 pub record IsArrival (w : World) (a : Arrival) (es : List Event) : Type 0 where
   pub local : a.port < 64 → es ≡ arrival_event w.control.bridge a ∷ []
-  pub extended : 64 ≤ a.port → es ≡ (if is_ignored ((w.far (device a.port)).tables.own (port_number a.port)) a.bytes then event.Ignored a.port a.index ∷ [] else [])
+  pub extended : 64 ≤ a.port → es ≡ (if is_ignored ((w.far (device a.port)).tables.own (port_number a.port)) a.bytes
+      then event.Ignored a.port a.index ∷ [] else [])
 
 pub record IsCarried (t : Shape) (w : World) (n : ℕ) (es : List Event) : Type 0 where
   pub bridge : on t n < 64 → IsTold w n es
@@ -56,5 +57,7 @@ TellsOf t w Mark es = es ≡ event.Settled ∷ []
 -- So it is for every step that may be made.
 abbrev pub StepsTellSo : Type 0
 StepsTellSo =
-    (t : Shape) (l : Limits) (i : Basis) → MayStart t l i → (w : World) (g : List Given) (h : History) (left : List Left) → Kept t l i w g h left → (step : Step) → MayDo t l w step →
+    (t : Shape) (l : Limits) (i : Basis) → MayStart t l i
+    → (w : World) (g : List Given) (h : History) (left : List Left) → Kept t l i w g h left → (step : Step)
+    → MayDo t l w step →
     TellsOf t w step (stepped t l step w).events

@@ -66,12 +66,14 @@ given_in (step ∷ steps) = given_by step ++ given_in steps
 -- A Relay stands where the bridge relays, and an Ignored where it doesn't relay its arrival, which was given.
 abbrev pub IsSurely : Basis → (ℕ → List Arrival) → History → Event → Type 0
 IsSurely i arrivals h (event.Relay p n moment f) = is_relayed (bridge_after i h) p f ≡ true
-IsSurely i arrivals h (event.Ignored p n) = (a : Arrival) × (numbered (arrivals p) n ≡ Some a) × (is_relayed (bridge_after i h) p a.bytes ≡ false)
+IsSurely i arrivals h (event.Ignored p n) = (a : Arrival) × (numbered (arrivals p) n ≡ Some a)
+    × (is_relayed (bridge_after i h) p a.bytes ≡ false)
 IsSurely i arrivals h _ = Unit {0}
 
--- After what was given, a journal and what has left: there is a flight in which the world shows, and all jobs so far are those
--- of the extenders and the commands that were given.
-pub record Kept (t : Shape) (l : Limits) (i : Basis) (w : World) (g : List Given) (h : History) (left : List Left) : Type 0 where
+-- After what was given, a journal and what has left: there is a flight in which the world shows, and all jobs so far
+-- are those of the extenders and the commands that were given.
+pub record Kept (t : Shape) (l : Limits) (i : Basis) (w : World) (g : List Given) (h : History)
+    (left : List Left) : Type 0 where
   pub journal : List Event
   pub is : h ≡ ([] then journal)
   pub stood : Stood t l (basis_with i g) w h left
@@ -86,41 +88,53 @@ pub record Kept (t : Shape) (l : Limits) (i : Basis) (w : World) (g : List Given
 -- ---- the laws
 -- As it begins the world keeps all that.
 abbrev pub BeginsKept : Type 0
-BeginsKept = (t : Shape) (l : Limits) (i : Basis) → MayStart t l i → Kept t l i (first_world t l i.start i.ageing) [] [] []
+BeginsKept = (t : Shape) (l : Limits) (i : Basis) → MayStart t l i
+    → Kept t l i (first_world t l i.start i.ageing) [] [] []
 
 -- Every step keeps it, with what the step gives, tells and makes leave.
 abbrev pub StepsKeep : Type 0
 StepsKeep =
-    (t : Shape) (l : Limits) (i : Basis) → MayStart t l i → (w : World) (g : List Given) (h : History) (left : List Left) → Kept t l i w g h left → (step : Step) → MayDo t l w step →
-    Kept t l i (stepped t l step w).world (g ++ given_by step) (h then (stepped t l step w).events) (left ++ (stepped t l step w).left)
+    (t : Shape) (l : Limits) (i : Basis) → MayStart t l i
+    → (w : World) (g : List Given) (h : History) (left : List Left) → Kept t l i w g h left → (step : Step)
+    → MayDo t l w step →
+    Kept t l i (stepped t l step w).world (g ++ given_by step) (h then (stepped t l step w).events)
+    (left ++ (stepped t l step w).left)
 
 -- Where it is kept, the world stands.
 abbrev pub KeptStands : Type 0
-KeptStands = (t : Shape) (l : Limits) (i : Basis) → MayStart t l i → (w : World) (g : List Given) (h : History) (left : List Left) → Kept t l i w g h left → Stands t l i w g h left
+KeptStands = (t : Shape) (l : Limits) (i : Basis) → MayStart t l i
+    → (w : World) (g : List Given) (h : History) (left : List Left) → Kept t l i w g h left → Stands t l i w g h left
 
 -- And the links are clean.
 abbrev pub KeptIsClean : Type 0
-KeptIsClean = (t : Shape) (l : Limits) (i : Basis) → MayStart t l i → (w : World) (g : List Given) (h : History) (left : List Left) → Kept t l i w g h left → IsClean t w
+KeptIsClean = (t : Shape) (l : Limits) (i : Basis) → MayStart t l i
+    → (w : World) (g : List Given) (h : History) (left : List Left) → Kept t l i w g h left → IsClean t w
 
 -- Over a settled world nothing is owed, so what has left a port is what the one bridge sends there.
 abbrev pub SettledOwesNothing : Type 0
 SettledOwesNothing =
-    (t : Shape) (l : Limits) (i : Basis) → MayStart t l i → (w : World) (g : List Given) (h : History) (left : List Left) → Kept t l i w g h left → IsSettled t w →
+    (t : Shape) (l : Limits) (i : Basis) → MayStart t l i
+    → (w : World) (g : List Given) (h : History) (left : List Left) → Kept t l i w g h left → IsSettled t w →
     (q : ℕ) → is_external t q ≡ true → (owed_at t w q ≡ []) × (left_at q left ≡ flat (basis_with i g) h q)
 
--- And whatever was given, was told and has left: where a world stands with that, after a step it stands with what the step gives, tells
--- and makes leave. Of the world it is enough that it is kept after anything.
+-- And whatever was given, was told and has left: where a world stands with that, after a step it stands with what the
+-- step gives, tells and makes leave. Of the world it is enough that it is kept after anything.
 abbrev pub StandsGoOn : Type 0
 StandsGoOn =
-    (t : Shape) (l : Limits) (b : Basis) → MayStart t l b → (w : World) (given : List Given) (told : History) (gone : List Left) → Kept t l b w given told gone → (step : Step) → MayDo t l w step →
-    (i : Basis) → i.ageing ≡ w.table.ageing → (g : List Given) (h : History) (left : List Left) → Stands t l i w g h left →
-    Stands t l i (stepped t l step w).world (g ++ given_by step) (h then (stepped t l step w).events) (left ++ (stepped t l step w).left)
+    (t : Shape) (l : Limits) (b : Basis) → MayStart t l b
+    → (w : World) (given : List Given) (told : History) (gone : List Left) → Kept t l b w given told gone
+    → (step : Step) → MayDo t l w step →
+    (i : Basis) → i.ageing ≡ w.table.ageing → (g : List Given) (h : History) (left : List Left)
+    → Stands t l i w g h left →
+    Stands t l i (stepped t l step w).world (g ++ given_by step) (h then (stepped t l step w).events)
+    (left ++ (stepped t l step w).left)
 
--- So over every list of steps from the beginning of each setup that may start it stands, with all that was given, told and has
--- left; and the links are clean.
+-- So over every list of steps from the beginning of each setup that may start it stands, with all that was given, told
+-- and has left; and the links are clean.
 abbrev pub RunsStand : Type 0
 RunsStand =
     (t : Shape) (l : Limits) (i : Basis) → MayStart t l i → (steps : List Step) →
     let w = first_world t l i.start i.ageing in
     MayDoAll t l w steps →
-    Stands t l i (run t l steps w).world (given_in steps) ([] then (run t l steps w).events) (run t l steps w).left × IsClean t (run t l steps w).world
+    Stands t l i (run t l steps w).world (given_in steps) ([] then (run t l steps w).events) (run t l steps w).left
+    × IsClean t (run t l steps w).world

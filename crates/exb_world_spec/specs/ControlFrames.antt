@@ -85,7 +85,8 @@ hears_message t l n (Err fault) w = only w
 hears_message t l n (Ok m) w = moves t (answered (decide t l) n m w.control) (stops (took (w.control.askers n) m).1 n w)
 
 abbrev pub hears_fresh : Shape → Limits → ℕ → Bool → ℕ → List ℕ → World → Effect
-hears_fresh t l n true sequence payload w = hears_message t l n (read_message payload) (with_near n (received sequence (w.near n)) w)
+hears_fresh t l n true sequence payload w = hears_message t l n (read_message payload)
+    (with_near n (received sequence (w.near n)) w)
 hears_fresh t l n false sequence payload w = only w
 
 -- it is acknowledged first; where its sequence differs from the last received the payload is taken
@@ -98,7 +99,8 @@ abbrev pub hears_pdu : Shape → Limits → ℕ → Result Pdu EcpFault → List
 hears_pdu t l n (Err fault) f w = only w
 hears_pdu t l n (Ok pdu) f w =
     if pdu.subtype == 2
-    then (if pdu.acknowledgement then only (with_near n (acknowledged pdu.sequence (w.near n)) w) else hears_request t l n pdu.sequence (drop 18 f) w)
+    then (if pdu.acknowledgement then only (with_near n (acknowledged pdu.sequence (w.near n)) w) else hears_request t l
+    n pdu.sequence (drop 18 f) w)
     else only w
 
 abbrev pub hears_frame : Shape → Limits → ℕ → Result Announce LldpFault → List ℕ → World → Effect

@@ -31,8 +31,13 @@ puts_word port (Some m) x w = sending (BridgeOut port x.bytes) (push_down m x w)
 
 -- a frame leaves at a bridge port as it goes out, or goes down there with an E-TAG
 abbrev pub sent_by : Shape → Arrival → List ℕ → ℕ → Option ETag → World → Effect
-sent_by t a bytes port None w = leaving (BridgeOut port bytes) (record { port = port - 1; moment = a.moment; bytes = bytes }) w
-sent_by t a bytes port (Some tag) w = puts_word port (hung_on t (port - 1)) (record { bytes = tagged bytes (tag_of tag); stamp = Some (stamp_of a) }) w
+sent_by t a bytes port None w = leaving (BridgeOut port bytes) (record {
+  port = port - 1;
+  moment = a.moment;
+  bytes = bytes;
+}) w
+sent_by t a bytes port (Some tag) w = puts_word port (hung_on t (port - 1))
+    (record { bytes = tagged bytes (tag_of tag); stamp = Some (stamp_of a) }) w
 
 abbrev pub sends_in : Shape → Arrival → ℕ → SendTo → World → Effect
 sends_in t a vid x w = sent_by t a (egress a.bytes x.kind vid) x.bridge_port x.tag w

@@ -25,11 +25,14 @@ hung_on t p = hung_below t p 65
 -- ---- what is sent
 -- it goes to the extender that hangs there, else it leaves
 abbrev pub sent_at : ℕ → ℕ → Option ℕ → Option Stamp → List ℕ → World → Effect
-sent_at n k (Some m) stamp bytes w = sending (Out n (side.Port k) bytes) (push_down m (record { bytes = bytes; stamp = stamp }) w)
-sent_at n k None stamp bytes w = leaving (Out n (side.Port k) bytes) (record { port = port_of n k; moment = moment_of stamp; bytes = bytes }) w
+sent_at n k (Some m) stamp bytes w = sending (Out n (side.Port k) bytes)
+    (push_down m (record { bytes = bytes; stamp = stamp }) w)
+sent_at n k None stamp bytes w = leaving (Out n (side.Port k) bytes)
+    (record { port = port_of n k; moment = moment_of stamp; bytes = bytes }) w
 
 abbrev pub sent_to : Shape → ℕ → Option Stamp → Side → List ℕ → World → Effect
-sent_to t n stamp side.Up bytes w = sending (Out n side.Up bytes) (push_up n (record { bytes = bytes; stamp = stamp }) w)
+sent_to t n stamp side.Up bytes w = sending (Out n side.Up bytes)
+    (push_up n (record { bytes = bytes; stamp = stamp }) w)
 sent_to t n stamp (side.Port k) bytes w = sent_at n k (hung_on t (port_of n k)) stamp bytes w
 
 -- extender n sends
@@ -50,7 +53,8 @@ takes_from_above t n x w = reacts t n x.stamp (Arrives side.Up x.bytes) w
 
 -- and one from a port, which has to be a cascade port
 abbrev pub takes_from_below : Shape → ℕ → ℕ → LinkFrame → World → Effect
-takes_from_below t n k x w = if (w.far n).tables.cascade k then reacts t n x.stamp (Arrives (side.Port k) x.bytes) w else only w
+takes_from_below t n k x w = if (w.far n).tables.cascade k then reacts t n x.stamp (Arrives (side.Port k) x.bytes) w
+    else only w
 
 -- ---- arrivals
 abbrev pub stamp_of : Arrival → Stamp

@@ -23,7 +23,8 @@ are_all test (n ∷ ns) = test n && are_all test ns
 
 -- nothing is on the link of extender n, and both ends of its transport are idle
 abbrev pub is_idle : World → ℕ → Bool
-is_idle w n = is_none (w.near n).sending && (is_none (w.far n).ecp.sending && (is_empty (w.down n) && is_empty (w.up n)))
+is_idle w n = is_none (w.near n).sending && (is_none (w.far n).ecp.sending
+    && (is_empty (w.down n) && is_empty (w.up n)))
 
 abbrev pub is_idle_at : Shape → World → ℕ → Bool
 is_idle_at t w n = if is_extender t n then is_idle w n else true
@@ -85,7 +86,8 @@ unfoldable pub gone_through : ℕ → Way → ℕ → List LinkFrame → List Ve
 gone_through n way k [] vs = record { steps = []; verdicts = vs }
 gone_through n way k (x ∷ xs) vs =
     if is_control x
-    then before (steps_for n way k (first_verdict vs)) (gone_through n way (next_place k (first_verdict vs)) xs (after_first vs))
+    then before (steps_for n way k (first_verdict vs)) (gone_through n way (next_place k (first_verdict vs)) xs
+    (after_first vs))
     else before (Carry n way ∷ []) (gone_through n way k xs vs)
 
 -- ---- a round
@@ -127,7 +129,8 @@ through_all t l (d ∷ ds) w vs =
 unfoldable pub round : Shape → Limits → World → List Verdict → Played
 round t l w vs =
     record {
-      done = followed_by (through_all t l (directions t) w vs).done (stepped t l Beat (through_all t l (directions t) w vs).done.world);
+      done = followed_by (through_all t l (directions t) w vs).done
+          (stepped t l Beat (through_all t l (directions t) w vs).done.world);
       verdicts = (through_all t l (directions t) w vs).verdicts;
     }
 
@@ -144,7 +147,8 @@ unfoldable pub settled_within : Shape → Limits → ℕ → World → List Verd
 settled_within t l zero w vs = record { done = nothing w; verdicts = vs }
 settled_within t l (suc n) w vs =
     if is_settled t w then record { done = nothing w; verdicts = vs }
-    else played_before (round t l w vs).done (settled_within t l n (round t l w vs).done.world (round t l w vs).verdicts)
+    else played_before (round t l w vs).done (settled_within t l n (round t l w vs).done.world
+    (round t l w vs).verdicts)
 
 -- with a fate that lowers its `left` at most so often
 abbrev pub settle : Shape → Limits → ℕ → World → List Verdict → Played

@@ -72,17 +72,20 @@ all_extenders = range_with_len 1 64
 unfoldable pub beats_all : Shape → World → Effect
 beats_all t w =
     then_do
-    (then_do (each (if_there t (beats_near t)) all_extenders (record w { beats = next_beat w.beats })) (beats_control t))
+    (then_do (each (if_there t (beats_near t)) all_extenders (record w { beats = next_beat w.beats }))
+    (beats_control t))
     (each (if_there t (λ n. reacts t n None Beats)) all_extenders)
 
 -- ---- a step
 abbrev pub done_by : Shape → Limits → Step → World → Effect
 done_by t l (Arrive a) w = arrives t a w
 done_by t l (Carry n way) w = takes_any t l n way (first_data (words_on n way w)) (without_data (words_on n way w)) w
-done_by t l (Control n way k keep) w = takes_any t l n way (control_at (words_on n way w) k) (rest_of keep (words_on n way w) k) w
+done_by t l (Control n way k keep) w = takes_any t l n way (control_at (words_on n way w) k)
+    (rest_of keep (words_on n way w) k) w
 done_by t l (Lose n way k) w = only (with_words n way (without_control (words_on n way w) k) w)
 done_by t l Beat w = beats_all t w
-done_by t l (Tick seconds) w = record (only (with_table (after_call (Ticks seconds) w.table) w)) { events = event.Tick seconds ∷ [] }
+done_by t l (Tick seconds) w = record (only (with_table (after_call (Ticks seconds) w.table) w))
+    { events = event.Tick seconds ∷ [] }
 done_by t l (Order c) w = moves t (ordered (decide t l) c w.control) w
 done_by t l Mark w = record (only w) { events = event.Settled ∷ [] }
 

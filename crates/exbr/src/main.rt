@@ -1,5 +1,5 @@
-//! `exbr`, the program: hands its words, the files of its folder and its standard output to `exb_run`,
-//! which does all the work, so that nothing here needs a promise of its own.
+//! `exbr`, the program: hands its words, the files of its folder and its standard output to
+//! `exb_run`, which does all the work, so that nothing here needs a promise of its own.
 #![tactic(auto)]
 
 use exb_run::run_armed;
@@ -9,7 +9,8 @@ use std::env;
 use std::io::ErrorKind;
 use std::process::ExitCode;
 
-// The words without the program's name. Where they are no text there are none, so that usage is printed.
+// The words without the program's name. Where they are no text there are none, so that usage is
+// printed.
 fn words(alloc: Global, rt: &HostRuntime) -> Result<Vec<String>, AllocError> {
     match env::args(rt) {
         Ok(words) => words.skip(1).collect(alloc),

@@ -38,7 +38,8 @@ ChannelWordsCarry =
 -- passes the ports above c as it is, and comes out at no other port of any extender.
 abbrev pub ControlWordsCarry : Type 0
 ControlWordsCarry =
-    (s : Shape) (t : Tables) (k n c : ℕ) → IsTree s → k < 64 → HangsOn s n k → is_cascade_under s k c ≡ true → t.own c < 4096 →
+    (s : Shape) (t : Tables) (k n c : ℕ) → IsTree s → k < 64 → HangsOn s n k → is_cascade_under s k c ≡ true
+    → t.own c < 4096 →
     IsLaid s t k (λ x. x == c) (t.own c) →
     (f : List ℕ) (tag : Tag) → read_etag f ≡ Some tag → tag.ecid ≡ t.own c → read_etag (stripped f) ≡ None →
     (q : ℕ) → 64 ≤ q → is_port s q ≡ true →

@@ -30,7 +30,8 @@ trunk_of t (Some p) = Some (trunk t (device p))
 -- Why the change is refused: the channels of the bridge port above the port that goes up, else the groups of
 -- the lowest bridge port that has too few for the sets of both configurations.
 unfoldable pub refusal_between : Shape → Limits → Bridge → Bridge → Option Cause
-refusal_between t l old new = first_cause (channels_short t l old (trunk_of t (goes_up t old new))) (groups_short t l old new)
+refusal_between t l old new = first_cause (channels_short t l old (trunk_of t (goes_up t old new)))
+    (groups_short t l old new)
 
 -- ---- sets
 abbrev pub has_set : List PortsAt → PortsAt → Bool

@@ -48,7 +48,8 @@ needed_at had fresh bridge_port = how_many (is_at bridge_port) had + how_many (i
 
 abbrev pub short_at : Limits → List PortsAt → List PortsAt → ℕ → Option Cause
 short_at l had fresh bridge_port =
-    if nat_lt l.groups (needed_at had fresh bridge_port) then Some (cause.Groups (needed_at had fresh bridge_port) l.groups) else None
+    if nat_lt l.groups (needed_at had fresh bridge_port) then Some
+    (cause.Groups (needed_at had fresh bridge_port) l.groups) else None
 
 abbrev pub is_short : Shape → Limits → List PortsAt → List PortsAt → ℕ → Bool
 is_short t l had fresh k = is_cascade t k && nat_lt l.groups (needed_at had fresh (k + 1))

@@ -43,8 +43,10 @@ needs_channel t b k p = is_under t k p && b.present p || is_cascade_under t k p
 pub record HoldsNeeded (t : Shape) (b : Bridge) (h : Held) : Type 0 where
   pub channels : (k p : ℕ) → k < 64 → is_cascade t k ≡ true → is_some (channel_in h k p) ≡ needs_channel t b k p
   pub one_channel : (k p c : ℕ) → k < 64 → is_cascade t k ≡ true → h.port k c ≡ Some p → channel_in h k p ≡ Some c
-  pub groups : (k : ℕ) (set : List ℕ) → k < 64 → is_cascade t k ≡ true → is_some (group_in h k set) ≡ list_any (bytes_eq set) (sets_at t k b)
-  pub one_group : (k g : ℕ) → k < 64 → is_cascade t k ≡ true → group_used h k g ≡ true → group_in h k (h.set k g) ≡ Some g
+  pub groups : (k : ℕ) (set : List ℕ) → k < 64 → is_cascade t k ≡ true → is_some (group_in h k set)
+      ≡ list_any (bytes_eq set) (sets_at t k b)
+  pub one_group : (k g : ℕ) → k < 64 → is_cascade t k ≡ true → group_used h k g ≡ true
+      → group_in h k (h.set k g) ≡ Some g
 
 -- ---- numbers that are given
 abbrev pub or_zero : Option ℕ → ℕ
@@ -79,7 +81,11 @@ give_all (x ∷ xs) h = give_all xs (give x h)
 
 -- the group that a set gets: the lowest free one
 abbrev pub group_for : ℕ → Held → PortsAt → Group
-group_for groups h s = record { bridge_port = s.bridge_port; number = free_group groups h (s.bridge_port - 1); ports = s.ports }
+group_for groups h s = record {
+  bridge_port = s.bridge_port;
+  number = free_group groups h (s.bridge_port - 1);
+  ports = s.ports;
+}
 
 -- the groups that sets get in their order
 unfoldable pub numbered : ℕ → Held → List PortsAt → List Group

@@ -11,7 +11,8 @@ use Rattle.exb_control_spec.specs.Plans.Plans.{claimed, freed}
 
 -- A plan for what a command makes of a configuration is refused just where the command is, for the same cause.
 abbrev pub RefusedAsCommanded : Type 0
-RefusedAsCommanded = (t : Shape) (l : Limits) (old : Bridge) (c : Command) → IsTree t → refusal_between t l old (after c old) ≡ refusal t l old c
+RefusedAsCommanded = (t : Shape) (l : Limits) (old : Bridge) (c : Command) → IsTree t
+    → refusal_between t l old (after c old) ≡ refusal t l old c
 
 -- the presence of at most one port differs, and present ports are external ports of the tree
 pub record IsStep (t : Shape) (old new : Bridge) : Type 0 where
@@ -23,7 +24,8 @@ pub record IsStep (t : Shape) (old new : Bridge) : Type 0 where
 -- is held once the numbers are claimed and, at the end, freed.
 abbrev pub HeldGoesOn : Type 0
 HeldGoesOn =
-    (t : Shape) (l : Limits) (old new : Bridge) (h : Held) → IsTree t → l.channels ≤ 4094 → l.groups ≤ 12288 → IsStep t old new → HoldsNeeded t old h →
+    (t : Shape) (l : Limits) (old new : Bridge) (h : Held) → IsTree t → l.channels ≤ 4094 → l.groups ≤ 12288
+    → IsStep t old new → HoldsNeeded t old h →
     refusal_between t l old new ≡ None → HoldsNeeded t new (freed t old new (claimed t l old new h))
 
 -- no group is held, and just the cascade ports of extenders have channels, each one

@@ -60,7 +60,8 @@ abbrev pub prepare_with : Shape → ℕ → Option ℕ → List Group → List A
 prepare_with t c up groups = up_asks t c up ++ group_asks Lay t groups
 
 unfoldable pub prepare_of : Shape → Limits → Bridge → Bridge → Held → List AskAt
-prepare_of t l old new h = prepare_with t (new_channel t l h (goes_up t old new)) (goes_up t old new) (fresh_groups t l old new h)
+prepare_of t l old new h = prepare_with t (new_channel t l h (goes_up t old new)) (goes_up t old new)
+    (fresh_groups t l old new h)
 
 -- what is held from the claim on
 unfoldable pub claimed : Shape → Limits → Bridge → Bridge → Held → Held
@@ -72,14 +73,16 @@ abbrev pub cleanup_with : Shape → ℕ → Option ℕ → List Group → List A
 cleanup_with t c down gone = group_asks Clear t gone ++ down_asks t c down
 
 unfoldable pub cleanup_of : Shape → Bridge → Bridge → Held → List AskAt
-cleanup_of t old new h = cleanup_with t (own_channel t h (goes_down t old new)) (goes_down t old new) (gone_groups t (sets_of t new) h)
+cleanup_of t old new h = cleanup_with t (own_channel t h (goes_down t old new)) (goes_down t old new)
+    (gone_groups t (sets_of t new) h)
 
 abbrev pub number_of : Group → Number
 number_of x = record { bridge_port = x.bridge_port; number = x.number }
 
 -- what is held once the cleanup is answered, of what was held before the change
 unfoldable pub freed : Shape → Bridge → Bridge → Held → Held
-freed t old new h = without_channel t (own_channel t h (goes_down t old new)) (goes_down t old new) (free_where (is_gone (sets_of t new) h) h)
+freed t old new h = without_channel t (own_channel t h (goes_down t old new)) (goes_down t old new)
+    (free_where (is_gone (sets_of t new) h) h)
 
 -- ---- the decision
 unfoldable pub change_of : Shape → Limits → Bridge → Bridge → Held → Change

@@ -25,4 +25,5 @@ rows_have rows p = list_any (row_has p) rows
 -- The rows of a set have just the ports of extenders whose subtree has a port of the set.
 abbrev pub RowsCover : Type 0
 RowsCover =
-    (s : Shape) (set : ℕ → Bool) (p : ℕ) → IsTree s → 64 ≤ p → is_port s p ≡ true → rows_have (rows_of s set) p ≡ covers s set p
+    (s : Shape) (set : ℕ → Bool) (p : ℕ) → IsTree s → 64 ≤ p → is_port s p ≡ true → rows_have (rows_of s set) p
+    ≡ covers s set p

@@ -41,4 +41,5 @@ seen s = record { bridge_port = s.bridge_port; ports = ports_of s.set }
 -- Of each bridge port they are its sets, in their order.
 abbrev pub SetsOfEach : Type 0
 SetsOfEach =
-    (t : Shape) (b : Bridge) (k : ℕ) → k < 64 → map (λ s. s.ports) (filter (λ s. s.bridge_port == k + 1) (sets_of t b)) ≡ sets_at t k b
+    (t : Shape) (b : Bridge) (k : ℕ) → k < 64 → map (λ s. s.ports) (filter (λ s. s.bridge_port == k + 1) (sets_of t b))
+    ≡ sets_at t k b

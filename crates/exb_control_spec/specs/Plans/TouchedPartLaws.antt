@@ -18,7 +18,8 @@ UsesChange =
 
 -- A configuration has a set exactly where it isn't empty and is a part.
 abbrev pub SetsAreUsed : Type 0
-SetsAreUsed = (t : Shape) (b : Bridge) (s : PortsAt) → has_set (sets_of t b) s ≡ (not (is_empty_set s.ports) && nat_lt 0 (uses_of t b s))
+SetsAreUsed = (t : Shape) (b : Bridge) (s : PortsAt) → has_set (sets_of t b) s
+    ≡ (not (is_empty_set s.ports) && nat_lt 0 (uses_of t b s))
 
 -- The sets that a command brings are those of the touched parts that weren't there before, each once, in their order.
 abbrev pub FreshAreTouched : Type 0

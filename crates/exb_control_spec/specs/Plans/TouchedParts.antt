@@ -1,4 +1,5 @@
--- The parts that a command touches: those of the VLANs and static entries which it changes, below the bridge ports where it changes any.
+-- The parts that a command touches: those of the VLANs and static entries which it changes, below the bridge ports
+-- where it changes any.
 use Rattle.std.specs.Prelude.{ℕ, ◌==◌, ◌&&◌, Bool, true, List, [], Option, Some, None, filter, find, flat_map, count_by}
 use Rattle.exb_model.specs.declared.rules.StaticAt.{StaticAt}
 use Rattle.exb_model.specs.declared.command.Command.{Command}

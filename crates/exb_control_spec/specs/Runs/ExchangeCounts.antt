@@ -14,7 +14,8 @@ use Rattle.exb_control_spec.specs.Runs.MachineInvariant.{OneWaits}
 -- Each answer that is taken is one less.
 abbrev pub AnswersCount : Type 0
 AnswersCount =
-    (t : Shape) (decide : Decide) (s : State) (n : ℕ) (m : Message) (response : Response) → OneWaits s → (took (s.askers n) m).1 ≡ taken.Answer response →
+    (t : Shape) (decide : Decide) (s : State) (n : ℕ) (m : Message) (response : Response) → OneWaits s
+    → (took (s.askers n) m).1 ≡ taken.Answer response →
     suc (planned t decide (answered decide n m s).state) ≡ planned t decide s
 
 -- So is each extender that is heard and wasn't before.

@@ -18,15 +18,18 @@ pub record MayBegin (t : Shape) (l : Limits) (b : Bridge) : Type 0 where
 
 -- Each valid setup is such a beginning.
 abbrev pub SetupsBegin : Type 0
-SetupsBegin = (s : Setup) → IsValid s → IsSetting (shape_of s) (limits_of s) × MayBegin (shape_of s) (limits_of s) (start_of s)
+SetupsBegin = (s : Setup) → IsValid s → IsSetting (shape_of s) (limits_of s)
+    × MayBegin (shape_of s) (limits_of s) (start_of s)
 
 -- The machine and the tables stand there.
 abbrev pub Begins : Type 0
-Begins = (t : Shape) (l : Limits) (b : Bridge) → IsSetting t l → MayBegin t l b → Stands (planning t) (first_system t l b)
+Begins = (t : Shape) (l : Limits) (b : Bridge) → IsSetting t l → MayBegin t l b
+    → Stands (planning t) (first_system t l b)
 
 -- So they stand over every run from there, and each code is 0.
 abbrev pub RunsFromTheBeginning : Type 0
 RunsFromTheBeginning =
     (t : Shape) (l : Limits) (b : Bridge) (steps : List Step) → IsSetting t l → MayBegin t l b →
     let y = first_system t l b in
-    MayRun (planning t) (decide t l) y steps → Stands (planning t) (run (decide t l) steps y) × CodesAreZero (decide t l) y steps
+    MayRun (planning t) (decide t l) y steps → Stands (planning t) (run (decide t l) steps y)
+    × CodesAreZero (decide t l) y steps

@@ -80,7 +80,8 @@ WillCommit t l b (Some w) = CommitsIn t l b w.phase w.job
 -- From a configuration on, `all` are the jobs ever queued, `events` and `downs` all that was told and all ports that
 -- commands made go down. Then they are those of the jobs that were decided, which come first of all jobs, and the
 -- configuration in force is what these left.
-pub record Tells (t : Shape) (l : Limits) (b : Bridge) (all : List Job) (events : List Event) (downs : List ℕ) (s : State) : Type 0 where
+pub record Tells (t : Shape) (l : Limits) (b : Bridge) (all : List Job) (events : List Event) (downs : List ℕ)
+    (s : State) : Type 0 where
   pub decided : List Job
   pub order : decided ++ pending s ≡ all
   pub lines : events ≡ told t l b decided
@@ -91,9 +92,11 @@ pub record Tells (t : Shape) (l : Limits) (b : Bridge) (all : List Job) (events 
 -- Each step tells what the jobs that it decides tell.
 abbrev pub StepsTell : Type 0
 StepsTell =
-    (t : Shape) (l : Limits) (b : Bridge) (all : List Job) (events : List Event) (downs : List ℕ) (y : System) (step : Step) → IsTree t →
+    (t : Shape) (l : Limits) (b : Bridge) (all : List Job) (events : List Event) (downs : List ℕ) (y : System)
+    (step : Step) → IsTree t →
     Tells t l b all events downs y.state →
-    Tells t l b (jobs_with y all step) (events ++ (moved (decide t l) y step).events) (downs ++ (moved (decide t l) y step).downs) (stepped (decide t l) y step).state
+    Tells t l b (jobs_with y all step) (events ++ (moved (decide t l) y step).events)
+    (downs ++ (moved (decide t l) y step).downs) (stepped (decide t l) y step).state
 
 -- the jobs that a run orders, after those before it; what it tells; and the ports that it makes go down
 abbrev pub jobs_over : Shape → Limits → System → List Job → List Step → List Job
@@ -102,11 +105,13 @@ jobs_over t l y all (step ∷ steps) = jobs_over t l (stepped (decide t l) y ste
 
 abbrev pub events_over : Shape → Limits → System → List Step → List Event
 events_over t l y [] = []
-events_over t l y (step ∷ steps) = (moved (decide t l) y step).events ++ events_over t l (stepped (decide t l) y step) steps
+events_over t l y (step ∷ steps) = (moved (decide t l) y step).events ++ events_over t l (stepped (decide t l) y step)
+    steps
 
 abbrev pub downs_over : Shape → Limits → System → List Step → List ℕ
 downs_over t l y [] = []
-downs_over t l y (step ∷ steps) = (moved (decide t l) y step).downs ++ downs_over t l (stepped (decide t l) y step) steps
+downs_over t l y (step ∷ steps) = (moved (decide t l) y step).downs ++ downs_over t l (stepped (decide t l) y step)
+    steps
 
 -- Over each run from the beginning, the jobs decided so far come first of all jobs ever queued, which are those of
 -- the extenders and then the commands as they were given. What was told is what these tell, each once, in order.
@@ -114,4 +119,5 @@ abbrev pub DecidedOnce : Type 0
 DecidedOnce =
     (t : Shape) (l : Limits) (b : Bridge) (steps : List Step) → IsTree t →
     let y = first_system t l b in
-    Tells t l b (jobs_over t l y (first_jobs t) steps) (events_over t l y steps) (downs_over t l y steps) (run (decide t l) steps y).state
+    Tells t l b (jobs_over t l y (first_jobs t) steps) (events_over t l y steps) (downs_over t l y steps)
+    (run (decide t l) steps y).state

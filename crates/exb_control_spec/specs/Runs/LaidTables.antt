@@ -44,7 +44,8 @@ laid_by t shown h =
     record {
       own = λ q. if shown q then channel_of t h q else 0;
       cascade = λ q. is_cascade t q && shown q;
-      pair = λ e q. channel_pair t shown q (h.port (trunk t (device q)) e) || group_pair t q (h.set (trunk t (device q)) e);
+      pair = λ e q. channel_pair t shown q (h.port (trunk t (device q)) e) || group_pair t q
+          (h.set (trunk t (device q)) e);
     }
 
 -- the tables of all extenders where these are opened, and just what is held is laid

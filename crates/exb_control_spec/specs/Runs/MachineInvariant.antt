@@ -62,11 +62,12 @@ pub record AreFew (opened : ℕ → Bool) (asks : List AskAt) : Type 0 where
   pub go : GoTo opened asks
   pub few : length asks ≤ most_asks
 
--- What a plan promises. Its prepare goes from the tables of what is held to those of what is claimed, its cleanup
--- from there to those of what is left, with no code but 0; and what holds at rest holds again. The prepare only adds
--- to the tables, and the cleanup only clears; all that was held is held where the numbers are claimed. All that is asked goes
+-- What a plan promises. Its prepare goes from the tables of what is held to those of what is claimed, its cleanup from
+-- there to those of what is left, with no code but 0; and what holds at rest holds again. The prepare only adds to the
+-- tables, and the cleanup only clears; all that was held is held where the numbers are claimed. All that is asked goes
 -- to extenders that are opened after the job, and isn't much.
-pub record IsPlanned (p : Planning) (opened : ℕ → Bool) (b : Bridge) (h : Held) (j : Job) (x : Change) (claimed : Held) : Type 0 where
+pub record IsPlanned (p : Planning) (opened : ℕ → Bool) (b : Bridge) (h : Held) (j : Job) (x : Change)
+    (claimed : Held) : Type 0 where
   pub prepared : RunsAt (p.laid opened h) x.prepare (p.laid (opens j opened) claimed)
   pub cleaned : RunsAt (p.laid (opens j opened) claimed) x.cleanup (p.laid (opens j opened) (release x claimed))
   pub exact : p.Exact (opens j opened) (bridge_after j b) (release x claimed)
@@ -79,9 +80,11 @@ pub record IsPlanned (p : Planning) (opened : ℕ → Bool) (b : Bridge) (h : He
 
 -- each change that is decided is so planned, and no opening is refused
 pub record Plans (p : Planning) (decide : Decide) : Type 0 where
-  pub ready : (opened : ℕ → Bool) (b : Bridge) (h : Held) (j : Job) (x : Change) (claimed : Held) → p.Exact opened b h → p.Fits opened j →
+  pub ready : (opened : ℕ → Bool) (b : Bridge) (h : Held) (j : Job) (x : Change) (claimed : Held) → p.Exact opened b h
+      → p.Fits opened j →
       decide b h j ≡ Ready x claimed → IsPlanned p opened b h j x claimed
-  pub refused : (opened : ℕ → Bool) (b : Bridge) (h : Held) (j : Job) (cause : Cause) → decide b h j ≡ Refused cause → opens j opened ≡ opened
+  pub refused : (opened : ℕ → Bool) (b : Bridge) (h : Held) (j : Job) (cause : Cause) → decide b h j ≡ Refused cause
+      → opens j opened ≡ opened
 
 -- ---- what stands
 -- a job fits when its turn comes, and its extender isn't opened twice
@@ -107,8 +110,10 @@ RunsLeft (Some response) all first rest end = RunsAt all rest end
 
 abbrev pub InPhase : Planning → Phase → Work → (ℕ → Bool) → Option Response → (ℕ → ExtenderTables) → Held → Type 0
 InPhase p Preparing w opened answer all claimed =
-    RunsLeft answer all w.first w.rest (p.laid opened claimed) × RunsAt (p.laid opened claimed) w.change.cleanup (p.laid opened (release w.change claimed))
-InPhase p Cleaning w opened answer all claimed = RunsLeft answer all w.first w.rest (p.laid opened (release w.change claimed))
+    RunsLeft answer all w.first w.rest (p.laid opened claimed)
+    × RunsAt (p.laid opened claimed) w.change.cleanup (p.laid opened (release w.change claimed))
+InPhase p Cleaning w opened answer all claimed = RunsLeft answer all w.first w.rest
+    (p.laid opened (release w.change claimed))
 
 -- the configuration before the change, where this one is in force
 abbrev pub IsBefore : Phase → Job → Bridge → Bridge → Type 0
@@ -130,7 +135,8 @@ Answers None request = Unit {0}
 Answers (Some response) request = (response.to ≡ kind_of request) × (response.code ≡ 0)
 
 -- A request is outstanding.
-pub record Works (p : Planning) (w : Work) (s : State) (js : List Job) (all : ℕ → ExtenderTables) (answer : Option Response) : Type 0 where
+pub record Works (p : Planning) (w : Work) (s : State) (js : List Job) (all : ℕ → ExtenderTables)
+    (answer : Option Response) : Type 0 where
   -- the requests left lead to the tables of what is claimed, those after them to the tables of what is left
   pub left : InPhase p w.phase w (opened_by p.there js) answer all s.held
   -- the configuration in force is the old one or the new one
@@ -202,5 +208,6 @@ CodesAreZero decide y (step ∷ steps) = (code_in y step ≡ 0) × CodesAreZero 
 -- So it is over every run.
 abbrev pub RunsStand : Type 1
 RunsStand =
-    (p : Planning) (decide : Decide) → Plans p decide → (y : System) (steps : List Step) → Stands p y → MayRun p decide y steps →
+    (p : Planning) (decide : Decide) → Plans p decide → (y : System) (steps : List Step) → Stands p y
+    → MayRun p decide y steps →
     Stands p (run decide steps y) × CodesAreZero decide y steps

@@ -41,13 +41,14 @@ left_of None = 0
 left_of (Some w) = left_in w.phase w.rest w.change.cleanup
 
 -- ---- extenders in their turn
--- An extender whose opening is still to come was asked nothing; each other one was heard, and asked something, at first to open.
--- No extender is asked more than the jobs so far may ask.
+-- An extender whose opening is still to come was asked nothing; each other one was heard, and asked something, at first
+-- to open. No extender is asked more than the jobs so far may ask.
 pub record InTurn (t : Shape) (s : State) : Type 0 where
   pub unasked : (n : ℕ) → opened_by (is_extender t) s.queue n ≡ false → (s.askers n).serial ≡ 0
   pub asked : (n : ℕ) → opened_by (is_extender t) s.queue n ≡ true → 0 < (s.askers n).serial
   pub heard : (n : ℕ) → opened_by (is_extender t) s.queue n ≡ true → s.heard n ≡ true
-  pub first : (n : ℕ) (request : Request) → (s.askers n).waiting ≡ Some request → (s.askers n).serial ≡ 1 → request ≡ Open
+  pub first : (n : ℕ) (request : Request) → (s.askers n).waiting ≡ Some request → (s.askers n).serial ≡ 1
+      → request ≡ Open
   pub awaits : Awaits s.heard s.work s.queue
   pub few : (n : ℕ) → (s.askers n).serial + left_of s.work + asks_for (length s.queue) ≤ asks_for (4160 + s.given)
 
@@ -59,7 +60,8 @@ BeginsInTurn = (t : Shape) (l : Limits) (b : Bridge) → IsTree t → InTurn t (
 -- And each step keeps it.
 abbrev pub StepsKeepTurns : Type 0
 StepsKeepTurns =
-    (t : Shape) (l : Limits) → IsSetting t l → (y : System) (step : Step) → Stands (planning t) y → MayStep (planning t) y step → InTurn t y.state →
+    (t : Shape) (l : Limits) → IsSetting t l → (y : System) (step : Step) → Stands (planning t) y
+    → MayStep (planning t) y step → InTurn t y.state →
     InTurn t (stepped (decide t l) y step).state
 
 -- So serials stay low, as long as at most 65,536 commands were given.

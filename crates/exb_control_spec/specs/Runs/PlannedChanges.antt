@@ -66,29 +66,40 @@ FitsJob t opened (job.AutomaticUp p) = MayRise t opened p
 FitsJob t opened (job.Ordered n c) = MayChange t opened c
 
 abbrev pub planning : Shape → Planning
-planning t = record { there = is_extender t; laid = laid t; Exact = IsExact t; During = HasBoth t; MayCome = NamesExternal t; Fits = FitsJob t }
+planning t = record {
+  there = is_extender t;
+  laid = laid t;
+  Exact = IsExact t;
+  During = HasBoth t;
+  MayCome = NamesExternal t;
+  Fits = FitsJob t;
+}
 
 -- ---- the laws
 -- Each step of the machine with the plans of changes keeps what stands, and no extender answers another code than 0.
 abbrev pub PlannedStepsStand : Type 0
 PlannedStepsStand =
-    (t : Shape) (l : Limits) → IsSetting t l → (y : System) (step : Step) → Stands (planning t) y → MayStep (planning t) y step →
+    (t : Shape) (l : Limits) → IsSetting t l → (y : System) (step : Step) → Stands (planning t) y
+    → MayStep (planning t) y step →
     Stands (planning t) (stepped (decide t l) y step) × (code_in y step ≡ 0)
 
 -- So it is over every run.
 abbrev pub PlannedRunsStand : Type 0
 PlannedRunsStand =
-    (t : Shape) (l : Limits) → IsSetting t l → (y : System) (steps : List Step) → Stands (planning t) y → MayRun (planning t) (decide t l) y steps →
+    (t : Shape) (l : Limits) → IsSetting t l → (y : System) (steps : List Step) → Stands (planning t) y
+    → MayRun (planning t) (decide t l) y steps →
     Stands (planning t) (run (decide t l) steps y) × CodesAreZero (decide t l) y steps
 
 -- At every moment, also in the middle of a change, the configuration in force has its numbers.
 abbrev pub ReadyMidway : Type 0
-ReadyMidway = (t : Shape) (y : System) → IsTree t → Stands (planning t) y → IsReady t y.state.bridge (numbers_in y.state.held)
+ReadyMidway = (t : Shape) (y : System) → IsTree t → Stands (planning t) y
+    → IsReady t y.state.bridge (numbers_in y.state.held)
 
 -- The answer to the outstanding request is taken as that, and its code is 0.
 abbrev pub AnswersAreTaken : Type 0
 AnswersAreTaken =
-    (t : Shape) (y : System) (w : Work) (response : Response) → Stands (planning t) y → y.state.work ≡ Some w → y.answer ≡ Some response →
+    (t : Shape) (y : System) (w : Work) (response : Response) → Stands (planning t) y → y.state.work ≡ Some w
+    → y.answer ≡ Some response →
     let a = y.state.askers w.first.extender in
     ((took a (answer_message a.serial response)).1 ≡ taken.Answer response) × (response.code ≡ 0)
 

@@ -33,12 +33,14 @@ pub record IsReady (t : Shape) (l : Limits) (old new : Bridge) (h : Held) (opene
 
 -- the requests before the commit are each answered with code 0 and lay just what is claimed
 abbrev pub PrepareRuns : Shape → Limits → Bridge → Bridge → Held → (ℕ → Bool) → Type 0
-PrepareRuns t l old new h opened = RunsAt (laid t opened h) (prepare_of t l old new h) (laid t opened (claimed t l old new h))
+PrepareRuns t l old new h opened = RunsAt (laid t opened h) (prepare_of t l old new h)
+    (laid t opened (claimed t l old new h))
 
 -- those after it are each answered with code 0 and leave just what isn't freed
 abbrev pub CleanupRuns : Shape → Limits → Bridge → Bridge → Held → (ℕ → Bool) → Type 0
 CleanupRuns t l old new h opened =
-    RunsAt (laid t opened (claimed t l old new h)) (cleanup_of t old new h) (laid t opened (freed t old new (claimed t l old new h)))
+    RunsAt (laid t opened (claimed t l old new h)) (cleanup_of t old new h)
+    (laid t opened (freed t old new (claimed t l old new h)))
 
 -- Where just what is held is laid, executing a plan's requests in order gives code 0 each time; then just what is
 -- claimed is laid, and at the end just what isn't freed.
@@ -74,11 +76,14 @@ OpeningsRun =
 -- What the tables of all extenders say of what is held under each cascade port of the bridge.
 pub record IsLaidOut (t : Shape) (opened : ℕ → Bool) (b : Bridge) (h : Held) : Type 0 where
   -- the rows of each group are those of its set
-  pub groups : (k g : ℕ) → k < 64 → is_cascade t k ≡ true → group_used h k g ≡ true → IsLaid t (tables_at (laid t opened h)) k (is_listed (h.set k g)) g
+  pub groups : (k g : ℕ) → k < 64 → is_cascade t k ≡ true → group_used h k g ≡ true
+      → IsLaid t (tables_at (laid t opened h)) k (is_listed (h.set k g)) g
   -- a port that needs a channel has the one that it holds, once it was created
-  pub own : (k p : ℕ) → k < 64 → is_cascade t k ≡ true → needs_channel t b k p ≡ true → is_shown t opened p ≡ true → (tables_at (laid t opened h)).own p ≡ channel_of t h p
+  pub own : (k p : ℕ) → k < 64 → is_cascade t k ≡ true → needs_channel t b k p ≡ true → is_shown t opened p ≡ true
+      → (tables_at (laid t opened h)).own p ≡ channel_of t h p
   -- its rows are those of the port
-  pub channels : (k p : ℕ) → k < 64 → is_cascade t k ≡ true → needs_channel t b k p ≡ true → is_shown t opened p ≡ true →
+  pub channels : (k p : ℕ) → k < 64 → is_cascade t k ≡ true → needs_channel t b k p ≡ true
+      → is_shown t opened p ≡ true →
       IsLaid t (tables_at (laid t opened h)) k (λ x. x == p) (channel_of t h p)
   -- a number that isn't held has no rows
   pub free : (k e : ℕ) → h.port k e ≡ None → h.set k e ≡ [] → IsFree t (tables_at (laid t opened h)) k e
@@ -86,7 +91,8 @@ pub record IsLaidOut (t : Shape) (opened : ℕ → Bool) (b : Bridge) (h : Held)
 -- At rest just what is held is laid out.
 abbrev pub RestIsLaidOut : Type 0
 RestIsLaidOut =
-    (t : Shape) (b : Bridge) (h : Held) (opened : ℕ → Bool) → IsTree t → HoldsNeeded t b h → AreOpened t opened b → IsLaidOut t opened b h
+    (t : Shape) (b : Bridge) (h : Held) (opened : ℕ → Bool) → IsTree t → HoldsNeeded t b h → AreOpened t opened b
+    → IsLaidOut t opened b h
 
 -- In the middle of a change, for the old configuration and the new one.
 abbrev pub ClaimedIsLaidOut : Type 0
@@ -94,8 +100,9 @@ ClaimedIsLaidOut =
     (t : Shape) (l : Limits) (old new : Bridge) (h : Held) (opened : ℕ → Bool) → IsReady t l old new h opened →
     IsLaidOut t opened old (claimed t l old new h) × IsLaidOut t opened new (claimed t l old new h)
 
--- At power-on no extender has anything, and where nothing but the channels of cascade ports is held that is laid, since no
--- extender is opened.
+-- At power-on no extender has anything, and where nothing but the channels of cascade ports is held that is laid, since
+-- no extender is opened.
 abbrev pub NothingIsLaid : Type 0
 NothingIsLaid =
-    (t : Shape) (b : Bridge) (h : Held) → IsTree t → IsBeginning t b h → laid t (λ n. false) h ≡ (λ n. powered_on (slice_index t.ports n))
+    (t : Shape) (b : Bridge) (h : Held) → IsTree t → IsBeginning t b h → laid t (λ n. false) h
+    ≡ (λ n. powered_on (slice_index t.ports n))

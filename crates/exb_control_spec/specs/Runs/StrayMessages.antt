@@ -7,7 +7,8 @@ use Rattle.exb_control_spec.specs.Runs.Systems.{IsStray}
 
 -- Such a message changes nothing, and nothing happens or goes out.
 abbrev pub StraysChangeNothing : Type 0
-StraysChangeNothing = (decide : Decide) (s : State) (n : ℕ) (m : Message) → IsStray s n m → answered decide n m s ≡ still s
+StraysChangeNothing = (decide : Decide) (s : State) (n : ℕ) (m : Message) → IsStray s n m
+    → answered decide n m s ≡ still s
 
 -- It is one where its serial is that of an earlier request, or where its extender isn't waited for.
 pub record OldIsStray (s : State) (n : ℕ) (m : Message) : Type 0 where

@@ -84,7 +84,11 @@ answer_after y Answer = None
 answer_after y _ = y.answer
 
 abbrev pub stepped : Decide → System → Step → System
-stepped decide y step = record { state = (moved decide y step).state; tables = tables_after y step; answer = answer_after y step }
+stepped decide y step = record {
+  state = (moved decide y step).state;
+  tables = tables_after y step;
+  answer = answer_after y step;
+}
 
 -- the code that a step makes an extender answer
 abbrev pub code_in : System → Step → ℕ

@@ -34,11 +34,13 @@ StepsWait = (decide : Decide) (y : System) (step : Step) → OneWaits y.state �
 
 -- So it is over each run from the beginning.
 abbrev pub OneWaitsAlways : Type 0
-OneWaitsAlways = (t : Shape) (l : Limits) (b : Bridge) (decide : Decide) (steps : List Step) → OneWaits (run decide steps (first_system t l b)).state
+OneWaitsAlways = (t : Shape) (l : Limits) (b : Bridge) (decide : Decide) (steps : List Step)
+    → OneWaits (run decide steps (first_system t l b)).state
 
 -- A step adds the requests that it asks to the serial of each asker, and they go out under the new serial.
 pub record Numbers (decide : Decide) (y : System) (step : Step) : Type 0 where
-  pub serials : (n : ℕ) → ((stepped decide y step).state.askers n).serial ≡ (y.state.askers n).serial + asked_of n (asked_in decide y step)
+  pub serials : (n : ℕ) → ((stepped decide y step).state.askers n).serial
+      ≡ (y.state.askers n).serial + asked_of n (asked_in decide y step)
   pub numbered : AreNumbered (stepped decide y step).state (asked_in decide y step)
 
 abbrev pub StepsNumber : Type 0
@@ -48,4 +50,5 @@ StepsNumber = (decide : Decide) (y : System) (step : Step) → Numbers decide y 
 abbrev pub SerialsCount : Type 0
 SerialsCount =
     (t : Shape) (l : Limits) (b : Bridge) (decide : Decide) (steps : List Step) (n : ℕ) →
-    ((run decide steps (first_system t l b)).state.askers n).serial ≡ asked_of n (asked_over decide (first_system t l b) steps)
+    ((run decide steps (first_system t l b)).state.askers n).serial
+    ≡ asked_of n (asked_over decide (first_system t l b) steps)

@@ -24,8 +24,10 @@ begun = record { serial = 0; waiting = None; beats = 0 }
 
 -- the next request is asked, and this is its message
 abbrev pub asked : AskerState → Request → AskerState × Message
-asked s request =
-    (record { serial = s.serial + 1; waiting = Some request; beats = 0 }, record { serial = s.serial + 1; body = body.Ask request })
+asked s request = (
+  record { serial = s.serial + 1; waiting = Some request; beats = 0 },
+  record { serial = s.serial + 1; body = body.Ask request },
+)
 
 -- the message of the request that is waited for
 abbrev pub message_again : AskerState → Option Message
@@ -71,4 +73,5 @@ pub record StaysSound : Type 0 where
 -- What an asker asks has a spelling where its request can be spelled, the first time and once more.
 pub record AsksAreSpelled : Type 0 where
   pub asks : (s : AskerState) (request : Request) → IsSpelledRequest request → HasSpelling (asked s request).1
-  pub again : (s : AskerState) (m : Message) → IsSound s → IfSome s.waiting IsSpelledRequest → message_again s ≡ Some m → HasSpelling m
+  pub again : (s : AskerState) (m : Message) → IsSound s → IfSome s.waiting IsSpelledRequest → message_again s ≡ Some m
+      → HasSpelling m

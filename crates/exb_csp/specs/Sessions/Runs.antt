@@ -38,7 +38,16 @@ pub record Session : Type 0 where
 
 -- nothing happened yet
 abbrev pub opened : Session
-opened = record { asker = begun; answerer = fresh; requests = []; answers = []; asks = []; executed = []; responses = []; answered = [] }
+opened = record {
+  asker = begun;
+  answerer = fresh;
+  requests = [];
+  answers = [];
+  asks = [];
+  executed = [];
+  responses = [];
+  answered = [];
+}
 
 abbrev pub executed_by : Due → List Request
 executed_by (Execute request) = request ∷ []
@@ -53,12 +62,19 @@ answered_by taken.NotOurs = []
 -- the asker asks
 abbrev pub asking : Session → Request → Session
 asking s request =
-    record s { asker = (asked s.asker request).0; requests = s.requests ++ (asked s.asker request).1 ∷ []; asks = s.asks ++ request ∷ [] }
+    record s {
+      asker = (asked s.asker request).0;
+      requests = s.requests ++ (asked s.asker request).1 ∷ [];
+      asks = s.asks ++ request ∷ [];
+    }
 
 -- the answerer takes a request
 abbrev pub arriving : Session → ℕ → Request → Session
 arriving s serial request =
-    record s { answerer = (arrived s.answerer serial request).0; executed = s.executed ++ executed_by (arrived s.answerer serial request).1 }
+    record s {
+      answerer = (arrived s.answerer serial request).0;
+      executed = s.executed ++ executed_by (arrived s.answerer serial request).1;
+    }
 
 -- it stores a response
 abbrev pub storing : Session → Response → Session
@@ -66,7 +82,10 @@ storing s response = record s { answerer = stored s.answerer response; responses
 
 -- the asker takes an answer
 abbrev pub taking : Session → Message → Session
-taking s message = record s { asker = (took s.asker message).0; answered = s.answered ++ answered_by (took s.asker message).1 }
+taking s message = record s {
+  asker = (took s.asker message).0;
+  answered = s.answered ++ answered_by (took s.asker message).1;
+}
 
 -- a message comes to the answerer, where its last response is stored
 abbrev pub arriving_body : Session → ℕ → Body → Session
@@ -101,7 +120,8 @@ IsFront {A} front all = (rest : List A) × (all ≡ front ++ rest)
 -- Over every list of events, what is executed is a front of what was asked, and what is answered a
 -- front of what was stored.
 abbrev pub EachRequestOnce : Type 0
-EachRequestOnce = (events : List Event) → IsFront (run events opened).executed (run events opened).asks × IsFront (run events opened).answered (run events opened).responses
+EachRequestOnce = (events : List Event) → IsFront (run events opened).executed (run events opened).asks
+    × IsFront (run events opened).answered (run events opened).responses
 
 -- A request that comes is executed, and the response that is stored is taken as its answer.
 abbrev pub RequestsAreAnswered : Type 0

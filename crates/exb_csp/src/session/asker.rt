@@ -34,8 +34,8 @@ pub enum Taken {
     Answer(Response),
     /// An answer to an earlier request: its serial is below the one that is waited for.
     Stale,
-    /// Nothing is waited for, or the message is a request, its serial is above the one that is waited
-    /// for, or it answers a request of another kind.
+    /// Nothing is waited for, or the message is a request, its serial is above the one that is
+    /// waited for, or it answers a request of another kind.
     NotOurs,
 }
 

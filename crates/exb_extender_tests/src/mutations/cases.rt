@@ -1,7 +1,9 @@
-//! Frames of every side, and what becomes of them with a cut or a bit turned: by the rules of forwarding, by the order in which
-//! ECP and messages try faults, and by the order of a request's codes.
+//! Frames of every side, and what becomes of them with a cut or a bit turned: by the rules of
+//! forwarding, by the order in which ECP and messages try faults, and by the order of a request's
+//! codes.
 
-/// Control from upstream. Under 18 bytes ECP is cut; what is no message of the control protocol is acknowledged alone.
+/// Control from upstream. Under 18 bytes ECP is cut; what is no message of the control protocol is
+/// acknowledged alone.
 pub(super) const CONTROL: &str =
     "# The first request, Open: no other is of that length, and no other serial is the next one.\n\
      PowerOn down 0180C200000E024542000000 8940 10020001 01 0000000000000001 0000\n\
@@ -86,7 +88,8 @@ pub(super) const CONTROL: &str =
      0-40 same\n\
      0 same";
 
-/// Words from upstream. Addresses, PCP, DEI and reserved bits are not looked at; under 20 bytes there is no E-TAG.
+/// Words from upstream. Addresses, PCP, DEI and reserved bits are not looked at; under 20 bytes
+/// there is no E-TAG.
 pub(super) const WORDS: &str = "# Nothing goes anywhere at power-on.\n\
      PowerOn down FFFFFFFFFFFF020000000001 893F 0001 1000 0000 0800\n\
      nothing\n\
@@ -131,7 +134,8 @@ pub(super) const WORDS: &str = "# Nothing goes anywhere at power-on.\n\
      0-19 same\n\
      0 same";
 
-/// Frames from the cascade port. Only the E-TAG of a channel goes up, and a control frame without one by the channel of the port.
+/// Frames from the cascade port. Only the E-TAG of a channel goes up, and a control frame without
+/// one by the channel of the port.
 pub(super) const FROM_BELOW: &str =
     "# The channels 1 and 4094, with each other bit clear and set.\n\
      Rows below FFFFFFFFFFFF020000000001 893F 0000 0001 0000 0800\n\
@@ -174,7 +178,8 @@ pub(super) const FROM_BELOW: &str =
      0-19 same\n\
      0 same";
 
-/// Frames of stations. They go up whatever they hold, unless they are short, long or reserved, or the port has no channel.
+/// Frames of stations. They go up whatever they hold, unless they are short, long or reserved, or
+/// the port has no channel.
 pub(super) const FROM_STATIONS: &str = "Rows arrive FFFFFFFFFFFF020000000001 0800 4500\n\
      up by 1;\n\
      0 ignored | 14 same\n\

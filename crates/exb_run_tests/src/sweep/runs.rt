@@ -1,7 +1,7 @@
 //! Whole runs, by their files.
 
-/// A run: its words, its topology or those of a net with its file, its captures in hexadecimal, the files that it makes, in their
-/// order, and its summary.
+/// A run: its words, its topology or those of a net with its file, its captures in hexadecimal, the
+/// files that it makes, in their order, and its summary.
 pub(super) struct Run {
     pub(super) words: &'static str,
     pub(super) texts: &'static [(&'static str, &'static str)],
@@ -113,7 +113,8 @@ const IN_A_TREE: &[(&str, &str)] = &[
     ),
 ];
 
-/// An extender below another: a port goes down, VLANs come, and then groups don't suffice for the port to go up again.
+/// An extender below another: a port goes down, VLANs come, and then groups don't suffice for the
+/// port to go up again.
 pub(super) const TREE: Run = Run {
     words: "run t.toml",
     texts: &[(
@@ -140,7 +141,8 @@ pub(super) const TREE: Run = Run {
     summary: "arrivals 4 relayed 4 ignored 0 left 12 commits 3 refusals 1\n",
 };
 
-/// The same with control frames that are lost, late or come twice, in a drawn order and with a trace.
+/// The same with control frames that are lost, late or come twice, in a drawn order and with a
+/// trace.
 pub(super) const LOSSY: Run = Run {
     words: "run t.toml --trace --seed 5",
     texts: &[(
@@ -168,7 +170,8 @@ pub(super) const LOSSY: Run = Run {
     summary: "arrivals 4 relayed 4 ignored 0 left 9 commits 3 refusals 0\n",
 };
 
-/// Two bridges with a wire between them, and counters: the frames of `BARE`, each of which crosses it.
+/// Two bridges with a wire between them, and counters: the frames of `BARE`, each of which crosses
+/// it.
 pub(super) const NET: Run = Run {
     words: "net n.toml --counters",
     texts: &[

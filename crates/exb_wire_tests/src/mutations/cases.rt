@@ -1,6 +1,8 @@
-//! Good spellings of each format, and what is read of them with a cut or a bit turned: by the order in which the formats try faults.
+//! Good spellings of each format, and what is read of them with a cut or a bit turned: by the order
+//! in which the formats try faults.
 
-/// Under 14 bytes there is no type. Then the TLV that runs past the end is cut, and where the TLVs end without an End, the end.
+/// Under 14 bytes there is no type. Then the TLV that runs past the end is cut, and where the TLVs
+/// end without an End, the end.
 pub(super) const ANNOUNCEMENTS: &str =
     "0180C200000E024542010001 88CC 02070402454201000104030775700602 0078 FE050245420102 0000\n\
      0 NotLldp | 14 Cut { at: 14 } | 23 Cut { at: 23 } | 28 Cut { at: 28 } | 32 Cut { at: 32 } | 39 Cut { at: 39 }\n\
@@ -32,7 +34,8 @@ pub(super) const ECP: &str = "0180C200000E024542000000 8940 10020001 01000000000
      14.F0 Version | 14.08 Operation | 14-17 ok\n\
      ok";
 
-/// Whatever is left of a message, its header or its body is cut. A length that isn't the type's comes before that.
+/// Whatever is left of a message, its header or its body is cut. A length that isn't the type's
+/// comes before that.
 pub(super) const MESSAGES: &str = "01 0000000000000001 0000\n\
      0 Cut\n\
      0.79 UnknownType | 0 Length | 8.01 Range | 1-8 ok | 9-10 Length\n\

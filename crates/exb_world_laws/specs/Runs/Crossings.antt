@@ -12,7 +12,8 @@ use Rattle.exb_world_spec.specs.Runs.SessionLaws.{IsMove}
 use Rattle.exb_world_spec.specs.Runs.Sessions.{Each}
 use Rattle.exb_world_spec.specs.Runs.ReachedWorlds.{HasVid, MayTakeAll, beginning, reached_by}
 
--- Steps of a world that a run of a valid setup reaches and that is settled: it is given something, and settles by moves.
+-- Steps of a world that a run of a valid setup reaches and that is settled: it is given something, and settles by
+-- moves.
 pub record IsAlone (s : Setup) (before : List Step) (step : Step) (moves : List Step) : Type 0 where
   pub valid : IsValid s
   pub vids : All HasVid s.start
@@ -37,13 +38,16 @@ pub record AreCrossing (t : Shape) (a : Arrival) (left : List Left) : Type 0 whe
   pub few : (q : ℕ) → is_external t q ≡ true → length (left_at q left) ≤ 1
 
 abbrev pub LeavesMayCross : Type 0
-LeavesMayCross = (s : Setup) (before : List Step) (a : Arrival) (moves : List Step) → IsAlone s before (Arrive a) moves → AreCrossing (shape_of s) a (left_by s before (Arrive a) moves)
+LeavesMayCross = (s : Setup) (before : List Step) (a : Arrival) (moves : List Step) → IsAlone s before (Arrive a) moves
+    → AreCrossing (shape_of s) a (left_by s before (Arrive a) moves)
 
 abbrev pub CommandsSendNothing : Type 0
-CommandsSendNothing = (s : Setup) (before : List Step) (c : Command) (moves : List Step) → IsAlone s before (Order c) moves → left_by s before (Order c) moves ≡ []
+CommandsSendNothing = (s : Setup) (before : List Step) (c : Command) (moves : List Step)
+    → IsAlone s before (Order c) moves → left_by s before (Order c) moves ≡ []
 
 -- It may arrive at an external port of another world, with the next index.
 abbrev pub CrossingsMayArrive : Type 0
 CrossingsMayArrive =
-    (t : Shape) (w : World) (p moment : ℕ) (bytes : List ℕ) → is_external t p ≡ true → w.next p < 2 ^ 63 → length bytes ≤ 9220 →
+    (t : Shape) (w : World) (p moment : ℕ) (bytes : List ℕ) → is_external t p ≡ true → w.next p < 2 ^ 63
+    → length bytes ≤ 9220 →
     Can t w (Arrive (record { port = p; index = w.next p; moment = moment; bytes = bytes }))

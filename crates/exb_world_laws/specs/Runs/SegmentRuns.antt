@@ -22,13 +22,14 @@ use Rattle.exb_world_laws.specs.SegmentRuns.{IsEager, IsTimely, PlayAll, marked_
 abbrev pub begin_of : Input → World
 begin_of i = first_world (tree_of i) (bounds_of i) (start_of i.setup) i.setup.ageing
 
--- in the eager mode the seconds of each segment pass first; in a seeded one nothing is asked of the order within a segment
+-- in the eager mode the seconds of each segment pass first; in a seeded one nothing is asked of the order within a
+-- segment
 abbrev pub AreOrdered : Mode → List Segment → List (List Step) → Type 0
 AreOrdered Eager so_far plays = Pairwise IsEager so_far plays
 AreOrdered Seeded so_far plays = Unit {0}
 
--- Steps that may be made play the opening and then these segments, each settled and marked; in the eager mode the seconds of each
--- pass first. This was done by them.
+-- Steps that may be made play the opening and then these segments, each settled and marked; in the eager mode the
+-- seconds of each pass first. This was done by them.
 pub record PlaysIn (m : Mode) (i : Input) (so_far : List Segment) (done : Stepped) : Type 0 where
   pub first : List Step
   pub plays : List (List Step)
@@ -55,16 +56,18 @@ pub record IsCopyOfAny (i : Input) (arrivals : List Arrival) (x : Left) : Type 0
   pub moment : x.moment ≡ arrival.moment
   pub short : length x.bytes ≤ 9220
 
--- The next index of each port, the number of commands and the clock follow what was played, and what has left are copies of its
--- arrivals.
+-- The next index of each port, the number of commands and the clock follow what was played, and what has left are
+-- copies of its arrivals.
 pub record IsUnderWay (i : Input) (so_far : List Segment) (done : Stepped) : Type 0 where
   pub next : (p : ℕ) → done.world.next p ≡ length (filter (λ (a : Arrival). a.port == p) (arrivals_in so_far)) + 1
-  pub commands : done.world.control.given ≡ length (flat_map (λ (s : Segment). filter_map (command_of (basis_of i)) s.commands) so_far)
+  pub commands : done.world.control.given
+      ≡ length (flat_map (λ (s : Segment). filter_map (command_of (basis_of i)) s.commands) so_far)
   pub clock : done.world.table.clock ≡ sum_by (λ (s : Segment). s.seconds) so_far
   pub copies : All (IsCopyOfAny i (arrivals_in so_far)) done.left
 
 abbrev pub RunsAreUnderWay : Type 0
-RunsAreUnderWay = (m : Mode) (i : Input) (so_far : List Segment) (done : Stepped) → PlaysIn m i so_far done → IsUnderWay i so_far done
+RunsAreUnderWay = (m : Mode) (i : Input) (so_far : List Segment) (done : Stepped) → PlaysIn m i so_far done
+    → IsUnderWay i so_far done
 
 -- ---- how much
 abbrev pub none_counted : Counts
@@ -73,30 +76,35 @@ none_counted = record { relayed = 0; ignored = 0; left = 0; commits = 0; refusal
 abbrev pub counted_in : List Event → Counts
 counted_in events = fold (λ (c : Counts) (e : Event). counted e c) none_counted events
 
--- Each arrival was relayed or ignored, once; each command took effect or was refused, once; a port has sent at most one frame
--- for each arrival, so in all at most 4,160 for each have left.
+-- Each arrival was relayed or ignored, once; each command took effect or was refused, once; a port has sent at most one
+-- frame for each arrival, so in all at most 4,160 for each have left.
 pub record AreFew (i : Input) (so_far : List Segment) (done : Stepped) : Type 0 where
   pub entered : (counted_in done.events).relayed + (counted_in done.events).ignored ≡ length (arrivals_in so_far)
-  pub decided : (counted_in done.events).commits + (counted_in done.events).refusals ≡ length (flat_map (λ (s : Segment). filter_map (command_of (basis_of i)) s.commands) so_far)
+  pub decided : (counted_in done.events).commits + (counted_in done.events).refusals
+      ≡ length (flat_map (λ (s : Segment). filter_map (command_of (basis_of i)) s.commands) so_far)
   pub left : length done.left ≤ 4160 * length (arrivals_in so_far)
   pub left_each : (q : ℕ) → length (left_at q done.left) ≤ length (arrivals_in so_far)
 
 abbrev pub RunsAreFew : Type 0
-RunsAreFew = (m : Mode) (i : Input) (so_far : List Segment) (done : Stepped) → PlaysIn m i so_far done → AreFew i so_far done
+RunsAreFew = (m : Mode) (i : Input) (so_far : List Segment) (done : Stepped) → PlaysIn m i so_far done
+    → AreFew i so_far done
 
 -- ---- the whole
--- Where all segments are played a history was told that the input allows, and what has left each external port is what the one
--- bridge sends there over it.
+-- Where all segments are played a history was told that the input allows, and what has left each external port is what
+-- the one bridge sends there over it.
 pub record HasWrittenIn (m : Mode) (i : Input) (done : Stepped) : Type 0 where
   pub journal : Legal m i ([] then done.events)
-  pub captures : (q : ℕ) → is_external (tree_of i) q ≡ true → left_at q done.left ≡ flat (basis_of i) ([] then done.events) q
+  pub captures : (q : ℕ) → is_external (tree_of i) q ≡ true → left_at q done.left
+      ≡ flat (basis_of i) ([] then done.events) q
 
 abbrev pub RunsWriteLegally : Type 0
-RunsWriteLegally = (m : Mode) (i : Input) (done : Stepped) → IsTimely i → PlaysIn m i (segments m i) done → HasWrittenIn m i done
+RunsWriteLegally = (m : Mode) (i : Input) (done : Stepped) → IsTimely i → PlaysIn m i (segments m i) done
+    → HasWrittenIn m i done
 
 -- Of each Relay it was said whether its frame passed, in the configuration before it.
 abbrev pub RunsSayPassed : Type 0
-RunsSayPassed = (m : Mode) (i : Input) (done : Stepped) → IsTimely i → PlaysIn m i (segments m i) done → done.passed ≡ passed_over (basis_of i) [] done.events
+RunsSayPassed = (m : Mode) (i : Input) (done : Stepped) → IsTimely i → PlaysIn m i (segments m i) done
+    → done.passed ≡ passed_over (basis_of i) [] done.events
 
 -- In the eager mode it is the eager history.
 pub record HasWritten (i : Input) (done : Stepped) : Type 0 where
@@ -106,12 +114,14 @@ pub record HasWritten (i : Input) (done : Stepped) : Type 0 where
 abbrev pub RunsWriteEagerly : Type 0
 RunsWriteEagerly = (i : Input) (done : Stepped) → IsTimely i → PlaysSoFar i (segments Eager i) done → HasWritten i done
 
--- After some segments of the eager mode what was told is a front of the eager history: with these events more it is that. What has
--- left each external port is what the one bridge sends there over it.
+-- After some segments of the eager mode what was told is a front of the eager history: with these events more it is
+-- that. What has left each external port is what the one bridge sends there over it.
 pub record HasWrittenFront (i : Input) (done : Stepped) : Type 0 where
   pub more : List Event
   pub journal : eager i ≡ (([] then done.events) then more)
-  pub captures : (q : ℕ) → is_external (tree_of i) q ≡ true → left_at q done.left ≡ flat (basis_of i) ([] then done.events) q
+  pub captures : (q : ℕ) → is_external (tree_of i) q ≡ true → left_at q done.left
+      ≡ flat (basis_of i) ([] then done.events) q
 
 abbrev pub RunsWriteFronts : Type 0
-RunsWriteFronts = (i : Input) (so_far rest : List Segment) (done : Stepped) → IsTimely i → segments Eager i ≡ so_far ++ rest → PlaysSoFar i so_far done → HasWrittenFront i done
+RunsWriteFronts = (i : Input) (so_far rest : List Segment) (done : Stepped) → IsTimely i
+    → segments Eager i ≡ so_far ++ rest → PlaysSoFar i so_far done → HasWrittenFront i done

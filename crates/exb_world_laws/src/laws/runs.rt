@@ -10,8 +10,9 @@ use exb_frame::laws::tag_round_trip;
 use exb_relay::laws::{sends_are_words, sends_leave_as_flat};
 use exb_world_spec::laws::steps_stay_written;
 
-/// Every world that a run of a valid setup reaches, whatever arrives, is ordered, lost, repeated or overtaken, keeps the facts
-/// that the bound on settling asks, and each serial is below 2 to the power of 38.
+/// Every world that a run of a valid setup reaches, whatever arrives, is ordered, lost, repeated or
+/// overtaken, keeps the facts that the bound on settling asks, and each serial is below 2 to the
+/// power of 38.
 pub fn runs_are_ready()
     ensures { RunsAreReady }
 {
@@ -33,8 +34,9 @@ pub fn runs_stay_low()
     steps_stay_written();
 }
 
-/// From every world that a run of a valid setup reaches settling ends settled, whatever the verdicts are, of which at most b
-/// aren't Pass: within 64 rounds for each of them, for each exchange that is planned, and for one more.
+/// From every world that a run of a valid setup reaches settling ends settled, whatever the
+/// verdicts are, of which at most b aren't Pass: within 64 rounds for each of them, for each
+/// exchange that is planned, and for one more.
 pub fn settles()
     ensures { Settles }
 {
@@ -45,8 +47,8 @@ pub fn settles()
     steps_stay_written();
 }
 
-/// So steps that give a segment, from a world that a run of a valid setup reaches, play it with the settling after them: that
-/// settling ends settled is no premise of playing.
+/// So steps that give a segment, from a world that a run of a valid setup reaches, play it with the
+/// settling after them: that settling ends settled is no premise of playing.
 pub fn settling_always_plays()
     ensures { SettlingAlwaysPlays }
 {
@@ -57,8 +59,9 @@ pub fn settling_always_plays()
     steps_stay_written();
 }
 
-/// Of a run that has played the opening and some segments of an input, in either mode, the next index of each port, the number of commands and the clock
-/// follow what was played, and each frame that has left is a copy of one of its arrivals.
+/// Of a run that has played the opening and some segments of an input, in either mode, the next
+/// index of each port, the number of commands and the clock follow what was played, and each frame
+/// that has left is a copy of one of its arrivals.
 pub fn runs_are_under_way()
     ensures { RunsAreUnderWay }
 {
@@ -69,8 +72,8 @@ pub fn runs_are_under_way()
     steps_stay_written();
 }
 
-/// In such a run each arrival was relayed or ignored, once, each command took effect or was refused, once, a port has sent at
-/// most one frame for each arrival.
+/// In such a run each arrival was relayed or ignored, once, each command took effect or was
+/// refused, once, a port has sent at most one frame for each arrival.
 pub fn runs_are_few()
     ensures { RunsAreFew }
 {
@@ -82,8 +85,9 @@ pub fn runs_are_few()
     settled_is_orderly();
 }
 
-/// A run that has played all segments of an input, in the eager mode or in a seeded one, told a history that the input allows, and
-/// what has left each external port is what one VLAN bridge sends there over it.
+/// A run that has played all segments of an input, in the eager mode or in a seeded one, told a
+/// history that the input allows, and what has left each external port is what one VLAN bridge
+/// sends there over it.
 pub fn runs_write_legally()
     ensures { RunsWriteLegally }
 {
@@ -95,7 +99,8 @@ pub fn runs_write_legally()
     settled_is_orderly();
 }
 
-/// Such a run said of each Relay that it told, in order, whether its frame passed in the configuration before it.
+/// Such a run said of each Relay that it told, in order, whether its frame passed in the
+/// configuration before it.
 pub fn runs_say_passed()
     ensures { RunsSayPassed }
 {
@@ -107,8 +112,8 @@ pub fn runs_say_passed()
     settled_is_orderly();
 }
 
-/// A run that has played all segments of the eager mode told the eager history, and what has left each external port is what one
-/// VLAN bridge sends there over it.
+/// A run that has played all segments of the eager mode told the eager history, and what has left
+/// each external port is what one VLAN bridge sends there over it.
 pub fn runs_write_eagerly()
     ensures { RunsWriteEagerly }
 {
@@ -120,8 +125,9 @@ pub fn runs_write_eagerly()
     settled_is_orderly();
 }
 
-/// A run that has played some segments of the eager mode, so far, told a front of the eager history, and what has left each external
-/// port is what one VLAN bridge sends there over that front.
+/// A run that has played some segments of the eager mode, so far, told a front of the eager
+/// history, and what has left each external port is what one VLAN bridge sends there over that
+/// front.
 pub fn runs_write_fronts()
     ensures { RunsWriteFronts }
 {
@@ -132,8 +138,8 @@ pub fn runs_write_fronts()
     steps_stay_written();
 }
 
-/// What leaves a settled world for one arrival, until it is settled again, leaves at external ports, at each at most once, at the
-/// moment of the arrival and with at most 9,220 bytes.
+/// What leaves a settled world for one arrival, until it is settled again, leaves at external
+/// ports, at each at most once, at the moment of the arrival and with at most 9,220 bytes.
 pub fn leaves_may_cross()
     ensures { LeavesMayCross }
 {
@@ -155,14 +161,15 @@ pub fn commands_send_nothing()
     steps_stay_written();
 }
 
-/// A frame of at most 9,220 bytes may arrive at each external port of which fewer than 2 to the power of 63 arrivals came, with its
-/// next index.
+/// A frame of at most 9,220 bytes may arrive at each external port of which fewer than 2 to the
+/// power of 63 arrivals came, with its next index.
 pub fn crossings_may_arrive()
     ensures { CrossingsMayArrive }
 {}
 
-/// From each world that a run of a valid setup reaches any steps leave it standing, with whatever it stood before them, with what they
-/// give, tell and make leave. They say which relayed frames passed, and what leaves are copies of what was given, at external ports.
+/// From each world that a run of a valid setup reaches any steps leave it standing, with whatever
+/// it stood before them, with what they give, tell and make leave. They say which relayed frames
+/// passed, and what leaves are copies of what was given, at external ports.
 pub fn runs_last()
     ensures { RunsLast }
 {
@@ -173,8 +180,9 @@ pub fn runs_last()
     steps_stay_written();
 }
 
-/// And where it is settled, is given an arrival or a command and settles by moves, it tells just what becomes of that by its
-/// configuration, and just that leaves which the one bridge sends for it; with whatever it stood before.
+/// And where it is settled, is given an arrival or a command and settles by moves, it tells just
+/// what becomes of that by its configuration, and just that leaves which the one bridge sends for
+/// it; with whatever it stood before.
 pub fn events_last()
     ensures { EventsLast }
 {
@@ -185,7 +193,8 @@ pub fn events_last()
     steps_stay_written();
 }
 
-/// A run that has played the opening and some segments of an input stands with what they give, and its links are clean.
+/// A run that has played the opening and some segments of an input stands with what they give, and
+/// its links are clean.
 pub fn plays_stand()
     ensures { PlaysStand }
 {

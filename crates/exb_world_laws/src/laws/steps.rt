@@ -21,8 +21,9 @@ pub fn begins_kept()
     ensures { BeginsKept }
 {}
 
-/// Each step that may be made keeps it: for what was given followed by the step's arrival or command, the history followed by the
-/// events that the step adds, and what has left followed by what leaves in it. Whatever is lost, repeated or overtaken.
+/// Each step that may be made keeps it: for what was given followed by the step's arrival or
+/// command, the history followed by the events that the step adds, and what has left followed by
+/// what leaves in it. Whatever is lost, repeated or overtaken.
 pub fn steps_keep()
     ensures { StepsKeep }
 {
@@ -32,8 +33,8 @@ pub fn steps_keep()
     steps_tell();
 }
 
-/// A step leaves a world standing whatever was given, was told and has left before it, so far as the world stands with that; that a run
-/// from the beginning comes to the world says all else.
+/// A step leaves a world standing whatever was given, was told and has left before it, so far as
+/// the world stands with that; that a run from the beginning comes to the world says all else.
 pub fn stands_go_on()
     ensures { StandsGoOn }
 {
@@ -43,25 +44,29 @@ pub fn stands_go_on()
     steps_tell();
 }
 
-/// The events that a step adds are by its kind, and it adds no others: one of each frame that comes to the bridge, Ignored where an
-/// extender ignores an arrival, those of jobs where the bridge takes a control word or a command, a Tick, a Settled.
+/// The events that a step adds are by its kind, and it adds no others: one of each frame that comes
+/// to the bridge, Ignored where an extender ignores an arrival, those of jobs where the bridge
+/// takes a control word or a command, a Tick, a Settled.
 pub fn steps_tell_so()
     ensures { StepsTellSo }
 {}
 
-/// A world that has it stands: configuration, clock and live entries are those of the history; what has left each port, followed
-/// by what is owed to it, is what the one bridge sends there; each arrival is named once, in order; each command and each
-/// automatic up is decided once, in order, or waits; and each event stands where it may.
+/// A world that has it stands: configuration, clock and live entries are those of the history; what
+/// has left each port, followed by what is owed to it, is what the one bridge sends there; each
+/// arrival is named once, in order; each command and each automatic up is decided once, in order,
+/// or waits; and each event stands where it may.
 pub fn kept_stands()
     ensures { KeptStands }
 {}
 
-/// And its links are clean: no word on the way down has a number that is free, and each on the way up has the channel of its port.
+/// And its links are clean: no word on the way down has a number that is free, and each on the way
+/// up has the channel of its port.
 pub fn kept_is_clean()
     ensures { KeptIsClean }
 {}
 
-/// Over a settled world nothing is owed: what has left each port is what the one bridge sends there.
+/// Over a settled world nothing is owed: what has left each port is what the one bridge sends
+/// there.
 pub fn settled_owes_nothing()
     ensures { SettledOwesNothing }
 {}
@@ -76,14 +81,15 @@ pub fn runs_stand()
     steps_tell();
 }
 
-/// The history of a settled world is orderly: each automatic up and each command is decided once, in order, as refusals say; each
-/// arrival is named once, in the order of its port, relayed exactly where the bridge relays.
+/// The history of a settled world is orderly: each automatic up and each command is decided once,
+/// in order, as refusals say; each arrival is named once, in the order of its port, relayed exactly
+/// where the bridge relays.
 pub fn settled_is_orderly()
     ensures { SettledIsOrderly }
 {}
 
-/// And between two settled moments just what was given in between is decided and named, each once. So a run that gives the commands
-/// and arrivals of a segment and settles plays that segment.
+/// And between two settled moments just what was given in between is decided and named, each once.
+/// So a run that gives the commands and arrivals of a segment and settles plays that segment.
 pub fn segments_are_played()
     ensures { SegmentsArePlayed }
 {
@@ -93,16 +99,16 @@ pub fn segments_are_played()
     steps_tell();
 }
 
-/// Of a world that is kept and whose words are bytes and short, each step that may be made is one of which these laws speak, and words
-/// stay so: that words are bytes is no premise of a run.
+/// Of a world that is kept and whose words are bytes and short, each step that may be made is one
+/// of which these laws speak, and words stay so: that words are bytes is no premise of a run.
 pub fn steps_go_on()
     ensures { StepsGoOn }
 {
     steps_stay_written();
 }
 
-/// So each run from the beginning is one of which all laws speak, and at its end each word on a link is a list of bytes, and of at
-/// most 9,232.
+/// So each run from the beginning is one of which all laws speak, and at its end each word on a
+/// link is a list of bytes, and of at most 9,232.
 pub fn runs_go_on()
     ensures { RunsGoOn }
 {
@@ -124,9 +130,9 @@ pub fn setups_go_on()
     steps_stay_written();
 }
 
-/// A run that plays the opening and then the segments of an input, in the eager mode or in a seeded one, each settled and marked,
-/// tells a history that the input allows: of each segment the seconds pass in one tick, its commands are given in order, and its
-/// arrivals, each once and in any order.
+/// A run that plays the opening and then the segments of an input, in the eager mode or in a seeded
+/// one, each settled and marked, tells a history that the input allows: of each segment the seconds
+/// pass in one tick, its commands are given in order, and its arrivals, each once and in any order.
 pub fn runs_play_legally()
     ensures { RunsPlayLegally }
 {
@@ -137,8 +143,8 @@ pub fn runs_play_legally()
     steps_stay_written();
 }
 
-/// Where it plays the segments of the eager mode, the seconds of each first, it tells exactly the eager history, whatever the links
-/// do.
+/// Where it plays the segments of the eager mode, the seconds of each first, it tells exactly the
+/// eager history, whatever the links do.
 pub fn runs_play_eagerly()
     ensures { RunsPlayEagerly }
 {
@@ -149,14 +155,14 @@ pub fn runs_play_eagerly()
     steps_stay_written();
 }
 
-/// Steps that give a segment play it with the settling after them, where that ends settled: settling gives nothing, lets no second
-/// pass and marks nothing.
+/// Steps that give a segment play it with the settling after them, where that ends settled:
+/// settling gives nothing, lets no second pass and marks nothing.
 pub fn settling_plays()
     ensures { SettlingPlays }
 {}
 
-/// Any steps leave a world standing with what they give, tell and make leave, whatever was given, told and has left before them; its
-/// links are clean, and its ageing time stays.
+/// Any steps leave a world standing with what they give, tell and make leave, whatever was given,
+/// told and has left before them; its links are clean, and its ageing time stays.
 pub fn runs_leave_standing()
     ensures { RunsLeaveStanding }
 {
@@ -166,7 +172,8 @@ pub fn runs_leave_standing()
     steps_tell();
 }
 
-/// They say of each Relay among their events, in order, whether its frame passes in the configuration before it.
+/// They say of each Relay among their events, in order, whether its frame passes in the
+/// configuration before it.
 pub fn runs_tell_passed()
     ensures { RunsTellPassed }
 {
@@ -181,7 +188,8 @@ pub fn stands_owes_nothing()
     ensures { StandsOwesNothing }
 {}
 
-/// A settled world that is given an arrival or a command, and settles by moves, tells just what becomes of that by its configuration.
+/// A settled world that is given an arrival or a command, and settles by moves, tells just what
+/// becomes of that by its configuration.
 pub fn events_are_told()
     ensures { EventsAreTold }
 {

@@ -10,11 +10,13 @@ use Rattle.exb_control_spec.specs.Runs.PlannedChanges.{planning, IsExact, HasBot
 
 -- each port of an extender on which an extender hangs has a channel
 abbrev pub AreFirst : Shape → Held → Type 0
-AreFirst t f = (n : ℕ) → is_extender t n ≡ true → 64 ≤ on t n → (channel : ℕ) × (0 < channel) × (f.port (trunk t n) channel ≡ Some (on t n))
+AreFirst t f = (n : ℕ) → is_extender t n ≡ true → 64 ≤ on t n → (channel : ℕ) × (0 < channel)
+    × (f.port (trunk t n) channel ≡ Some (on t n))
 
 -- and has it still
 abbrev pub AreFixed : Shape → Held → Held → Type 0
-AreFixed t f h = (n channel : ℕ) → is_extender t n ≡ true → 64 ≤ on t n → 0 < channel → f.port (trunk t n) channel ≡ Some (on t n) → h.port (trunk t n) channel ≡ Some (on t n)
+AreFixed t f h = (n channel : ℕ) → is_extender t n ≡ true → 64 ≤ on t n → 0 < channel
+    → f.port (trunk t n) channel ≡ Some (on t n) → h.port (trunk t n) channel ≡ Some (on t n)
 
 -- no channel is a group's number
 abbrev pub AreHigh : Shape → Held → Type 0

@@ -31,8 +31,8 @@ pub record IsUpward (f : List ℕ) : Type 0 where
 pub record SendsBytes (e : Ecp) : Type 0 where
   pub payload : (x : Sending) → e.sending ≡ Some x → IsBytes x.payload
 
--- So is each word on the links and what each end sends; and the bridge's ends are as calls leave them, so that sequences
--- have two bytes and payloads at most 1,024.
+-- So is each word on the links and what each end sends; and the bridge's ends are as calls leave them, so that
+-- sequences have two bytes and payloads at most 1,024.
 pub record AreWritten (w : World) : Type 0 where
   pub downs : (n : ℕ) → Each (λ (x : LinkFrame). IsDownward x.bytes) (w.down n)
   pub ups : (n : ℕ) → Each (λ (x : LinkFrame). IsUpward x.bytes) (w.up n)
@@ -48,10 +48,13 @@ BeginsWritten = (t : Shape) (l : Limits) (b : Bridge) (ageing : ℕ) → AreWrit
 -- Each step that may be made keeps it, where a frame that arrives is a list of bytes, and PVIDs are VLANs.
 abbrev pub StepsStayWritten : Type 0
 StepsStayWritten =
-    (t : Shape) (l : Limits) → IsSetting t l → (w : World) (step : Step) → IsSound t l w → HasPvids w.control.bridge → Can t w step → HasBytes step →
-    AreLow w.control.askers → AreLow (stepped t l step w).world.control.askers → AreWritten w → AreWritten (stepped t l step w).world
+    (t : Shape) (l : Limits) → IsSetting t l → (w : World) (step : Step) → IsSound t l w → HasPvids w.control.bridge
+    → Can t w step → HasBytes step →
+    AreLow w.control.askers → AreLow (stepped t l step w).world.control.askers → AreWritten w
+    → AreWritten (stepped t l step w).world
 
--- So each word on a link is a list of bytes, and of at most 9,232: the longest frame that leaves has 9,220, and an E-TAG has 8.
+-- So each word on a link is a list of bytes, and of at most 9,232: the longest frame that leaves has 9,220, and an
+-- E-TAG has 8.
 pub record AreShort (w : World) : Type 0 where
   pub downs : (n : ℕ) → Each (λ (x : LinkFrame). length x.bytes ≤ 9232) (w.down n)
   pub ups : (n : ℕ) → Each (λ (x : LinkFrame). length x.bytes ≤ 9232) (w.up n)

@@ -27,4 +27,5 @@ passed_over i h (e ∷ es) = passed_by (bridge_after i h) e ++ passed_over i (e 
 
 -- A step says it of each Relay among its events, in the configuration before the step.
 abbrev pub StepsTellPassed : Type 0
-StepsTellPassed = (t : Shape) (l : Limits) (w : World) (step : Step) → (stepped t l step w).passed ≡ passed_in w.control.bridge (stepped t l step w).events
+StepsTellPassed = (t : Shape) (l : Limits) (w : World) (step : Step) → (stepped t l step w).passed
+    ≡ passed_in w.control.bridge (stepped t l step w).events

@@ -58,7 +58,8 @@ HasFewPorts t = (n : ℕ) → slice_index t.ports n ≤ 64
 
 -- The world is sound as it begins.
 abbrev pub BeginsSound : Type 0
-BeginsSound = (t : Shape) (l : Limits) (b : Bridge) (ageing : ℕ) → IsSetting t l → HasFewPorts t → MayBegin t l b → IsSound t l (first_world t l b ageing)
+BeginsSound = (t : Shape) (l : Limits) (b : Bridge) (ageing : ℕ) → IsSetting t l → HasFewPorts t → MayBegin t l b
+    → IsSound t l (first_world t l b ageing)
 
 -- ---- a step
 -- the command that a step gives
@@ -74,7 +75,8 @@ ordered_in (step ∷ steps) = ordered_by step ++ ordered_in steps
 -- Each step keeps what holds of the sessions, over the bytes of all words; and for the machine of changes it is nothing
 -- or one step, of the same command. Of jobs it tells just what that step tells.
 abbrev pub StepsStaySound : Type 0
-StepsStaySound = (t : Shape) (l : Limits) → IsSetting t l → (w : World) (step : Step) → IsSound t l w → MayMake t l w step → StaysSound t l (ordered_by step) w (stepped t l step w).world (stepped t l step w).events
+StepsStaySound = (t : Shape) (l : Limits) → IsSetting t l → (w : World) (step : Step) → IsSound t l w
+    → MayMake t l w step → StaysSound t l (ordered_by step) w (stepped t l step w).world (stepped t l step w).events
 
 -- ---- control frames on their way
 -- Of a control frame f for extender n with the channel of n's port, whose content is c, extender m sends this: at that
@@ -88,7 +90,8 @@ pub record IsHop (t : Shape) (m n : ℕ) (f c : List ℕ) (x : Sent) : Type 0 wh
   pub way : above t (port_of m port) (on t n) ≡ true
   pub hop : ((port_of m port ≡ on t n) × (x.bytes ≡ c)) ⊎ ((x.bytes ≡ f) × ((d : ℕ) × HangsOn t d (port_of m port)))
 
--- So a control frame goes on towards its extender, at one port at most and nowhere else, and the extender that sends it on stays as it is.
+-- So a control frame goes on towards its extender, at one port at most and nowhere else, and the extender that sends it
+-- on stays as it is.
 pub record IsSentOn (t : Shape) (w : World) (m n : ℕ) (f c : List ℕ) : Type 0 where
   pub sent : Each (IsHop t m n f c) (react (Arrives side.Up f) (w.far m)).1
   pub few : length (react (Arrives side.Up f) (w.far m)).1 ≤ 1
@@ -96,7 +99,8 @@ pub record IsSentOn (t : Shape) (w : World) (m n : ℕ) (f c : List ℕ) : Type 
 
 abbrev pub ControlGoesOn : Type 0
 ControlGoesOn =
-    (t : Shape) (l : Limits) → IsSetting t l → (w : World) → IsSound t l w → (m n : ℕ) (f c : List ℕ) → is_extender t m ≡ true → is_extender t n ≡ true → is_bare_control c ≡ true →
+    (t : Shape) (l : Limits) → IsSetting t l → (w : World) → IsSound t l w → (m n : ℕ) (f c : List ℕ)
+    → is_extender t m ≡ true → is_extender t n ≡ true → is_bare_control c ≡ true →
     IsTagged t w.control.held m f n c → IsSentOn t w m n f c
 
 -- ---- a settled world
@@ -130,7 +134,8 @@ pub record RunsSound (t : Shape) (l : Limits) (cs : List Command) (w v : World) 
 
 -- So all laws over runs of the machine hold of each run of the world.
 abbrev pub RunsStaySound : Type 0
-RunsStaySound = (t : Shape) (l : Limits) → IsSetting t l → (w : World) (steps : List Step) → IsSound t l w → MayMakeAll t l w steps → RunsSound t l (ordered_in steps) w (run t l steps w).world (run t l steps w).events
+RunsStaySound = (t : Shape) (l : Limits) → IsSetting t l → (w : World) (steps : List Step) → IsSound t l w
+    → MayMakeAll t l w steps → RunsSound t l (ordered_in steps) w (run t l steps w).world (run t l steps w).events
 
 -- ---- rounds
 -- words are carried, delivered or lost, or a beat passes
@@ -162,11 +167,12 @@ SettledExactly = (t : Shape) (w : World) → IsTree t → (is_settled t w ≡ tr
 -- Whoever takes a word puts none on the direction from which it came.
 abbrev pub TakingLeavesItsDirection : Type 0
 TakingLeavesItsDirection =
-    (t : Shape) (l : Limits) (w : World) → IsTree t → IsSound t l w → (n : ℕ) (way : Way) (x : LinkFrame) → is_extender t n ≡ true →
+    (t : Shape) (l : Limits) (w : World) → IsTree t → IsSound t l w → (n : ℕ) (way : Way) (x : LinkFrame)
+    → is_extender t n ≡ true →
     words_on n way (takes t l n way x w).world ≡ words_on n way w
 
--- Where control words stand before a word, that word is the next one: a control word is free at their number, and a data
--- word is the first. Without it the others stay in order.
+-- Where control words stand before a word, that word is the next one: a control word is free at their number, and a
+-- data word is the first. Without it the others stay in order.
 pub record IsNextControl (before : List LinkFrame) (x : LinkFrame) (rest : List LinkFrame) : Type 0 where
   pub free : length before < leading (before ++ x ∷ rest)
   pub there : control_at (before ++ x ∷ rest) (length before) ≡ Some x
@@ -179,11 +185,13 @@ pub record IsNextData (before : List LinkFrame) (x : LinkFrame) (rest : List Lin
 
 abbrev pub DirectionsGoInOrder : Type 0
 DirectionsGoInOrder =
-    (before : List LinkFrame) (x : LinkFrame) (rest : List LinkFrame) → Each (λ (w : LinkFrame). is_control w ≡ true) before →
+    (before : List LinkFrame) (x : LinkFrame) (rest : List LinkFrame)
+    → Each (λ (w : LinkFrame). is_control w ≡ true) before →
     (is_control x ≡ true → IsNextControl before x rest) × (is_control x ≡ false → IsNextData before x rest)
 
 -- ---- valid setups
 -- The world of each valid setup is sound as it begins.
 abbrev pub SetupsBeginSound : Type 0
 SetupsBeginSound =
-    (s : Setup) → IsValid s → IsSetting (shape_of s) (limits_of s) × IsSound (shape_of s) (limits_of s) (first_world (shape_of s) (limits_of s) (start_of s) s.ageing)
+    (s : Setup) → IsValid s → IsSetting (shape_of s) (limits_of s)
+    × IsSound (shape_of s) (limits_of s) (first_world (shape_of s) (limits_of s) (start_of s) s.ageing)

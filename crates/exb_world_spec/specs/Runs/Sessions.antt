@@ -158,21 +158,26 @@ pub record WorldFits (t : Shape) (w : World) : Type 0 where
   pub ups : LinksFit t w.control.held (StoredAt w.far) w.up
 
 -- ---- what a step of the world needs, and the machine of changes has to give
--- Under a channel of the port on which an extender hangs, the tables of extender m send a frame on towards it, as it is,
--- or at that port without its E-TAG; and nowhere else.
+-- Under a channel of the port on which an extender hangs, the tables of extender m send a frame on towards it, as it
+-- is, or at that port without its E-TAG; and nowhere else.
 pub record IsNextHop (t : Shape) (x : ExtenderState) (m p channel n : ℕ) : Type 0 where
   pub way : above t (port_of m p) (on t n) ≡ true
-  pub hop : ((port_of m p ≡ on t n) × (x.tables.own p ≡ channel)) ⊎ ((x.tables.cascade p ≡ true) × (x.tables.own p ≢ channel) × ((c : ℕ) × HangsOn t c (port_of m p)))
+  pub hop : ((port_of m p ≡ on t n) × (x.tables.own p ≡ channel))
+      ⊎ ((x.tables.cascade p ≡ true) × (x.tables.own p ≢ channel) × ((c : ℕ) × HangsOn t c (port_of m p)))
 
 pub record Routes (t : Shape) (h : Held) (far : ℕ → ExtenderState) : Type 0 where
-  pub down : (m p channel n : ℕ) → is_extender t m ≡ true → is_extender t n ≡ true → 64 ≤ on t n → h.port (trunk t m) channel ≡ Some (on t n) →
-      0 < channel → channel < 4095 → 0 < p → p ≤ 64 → 0 < (far m).tables.own p → (far m).tables.pair channel p ≡ true → IsNextHop t (far m) m p channel n
+  pub down : (m p channel n : ℕ) → is_extender t m ≡ true → is_extender t n ≡ true → 64 ≤ on t n
+      → h.port (trunk t m) channel ≡ Some (on t n) →
+      0 < channel → channel < 4095 → 0 < p → p ≤ 64 → 0 < (far m).tables.own p → (far m).tables.pair channel p ≡ true
+      → IsNextHop t (far m) m p channel n
   -- the own channel of a cascade port is the one that it holds
-  pub up : (m p n : ℕ) → is_extender t m ≡ true → HangsOn t n (port_of m p) → 0 < p → p ≤ 64 → 0 < (far m).tables.own p → h.port (trunk t m) ((far m).tables.own p) ≡ Some (port_of m p)
+  pub up : (m p n : ℕ) → is_extender t m ≡ true → HangsOn t n (port_of m p) → 0 < p → p ≤ 64 → 0 < (far m).tables.own p
+      → h.port (trunk t m) ((far m).tables.own p) ≡ Some (port_of m p)
 
 -- the ports on which extenders hang keep their channels
 abbrev pub KeepsCascades : Shape → Held → Held → Type 0
-KeepsCascades t h g = (n channel : ℕ) → is_extender t n ≡ true → 64 ≤ on t n → 0 < channel → h.port (trunk t n) channel ≡ Some (on t n) → g.port (trunk t n) channel ≡ Some (on t n)
+KeepsCascades t h g = (n channel : ℕ) → is_extender t n ≡ true → 64 ≤ on t n → 0 < channel
+    → h.port (trunk t n) channel ≡ Some (on t n) → g.port (trunk t n) channel ≡ Some (on t n)
 
 -- each message that goes out can be written, and is short
 pub record CanBeSent (m : Message) : Type 0 where

@@ -31,7 +31,11 @@ answer_in None askers far = None
 answer_in (Some w) askers far = answer_at (askers w.first.extender) (far w.first.extender)
 
 abbrev pub system_of : World → System
-system_of w = record { state = w.control; tables = λ n. (w.far n).tables; answer = answer_in w.control.work w.control.askers w.far }
+system_of w = record {
+  state = w.control;
+  tables = λ n. (w.far n).tables;
+  answer = answer_in w.control.work w.control.askers w.far;
+}
 
 -- ---- what is told
 -- the events of jobs, among others
@@ -68,7 +72,8 @@ pub record IsNothing (cs : List Command) (y z : System) (es : List Event) : Type
 
 -- A step of the machine that may happen. It gives just these commands; of jobs just its events are told, in order; and
 -- of what was learned, just the ports that it makes go down are forgotten.
-pub record IsStep (t : Shape) (l : Limits) (cs : List Command) (y z : System) (es : List Event) (u v : Table) : Type 0 where
+pub record IsStep (t : Shape) (l : Limits) (cs : List Command) (y z : System) (es : List Event)
+    (u v : Table) : Type 0 where
   pub step : Step
   pub may : MayStep (planning t) y step
   pub is : z ≡ stepped (decide t l) y step

@@ -30,7 +30,8 @@ pub record AreStamped (w : World) : Type 0 where
 
 -- So it is over each run from the beginning.
 abbrev pub DataIsStamped : Type 0
-DataIsStamped = (t : Shape) (l : Limits) (b : Bridge) (ageing : ℕ) (steps : List Step) → AreStamped (run t l steps (first_world t l b ageing)).world
+DataIsStamped = (t : Shape) (l : Limits) (b : Bridge) (ageing : ℕ) (steps : List Step)
+    → AreStamped (run t l steps (first_world t l b ageing)).world
 
 -- So of a data word that the bridge takes exactly one event is told, Relay or Ignored with its stamp, where an external
 -- port holds its channel.
@@ -46,16 +47,21 @@ pub record TellsOfStamp (w : World) (port : ℕ) (x : LinkFrame) (es : List Even
 
 abbrev pub CarriesTellOnce : Type 0
 CarriesTellOnce =
-    (t : Shape) (l : Limits) (w : World) (n : ℕ) (way : Way) (x : LinkFrame) → AreStamped w → is_to_bridge t n way ≡ true → first_data (words_on n way w) ≡ Some x → (k : IsOfPort t w n x) →
+    (t : Shape) (l : Limits) (w : World) (n : ℕ) (way : Way) (x : LinkFrame) → AreStamped w
+    → is_to_bridge t n way ≡ true → first_data (words_on n way w) ≡ Some x → (k : IsOfPort t w n x) →
     TellsOfStamp w k.port x (stepped t l (Carry n way) w).events
 
 -- ---- what an extender ignores
 -- In a sound world, a frame that arrives at an external port of an extender is ignored exactly where the port has no
 -- channel or the frame isn't of a kind to send; and where the port has one, it holds that.
 pub record IgnoresExactly (t : Shape) (w : World) (a : Arrival) (es : List Event) : Type 0 where
-  pub events : es ≡ (if is_ignored ((w.far (device a.port)).tables.own (port_number a.port)) a.bytes then event.Ignored a.port a.index ∷ [] else [])
-  pub holds : 0 < (w.far (device a.port)).tables.own (port_number a.port) → w.control.held.port (trunk t (device a.port)) ((w.far (device a.port)).tables.own (port_number a.port)) ≡ Some a.port
+  pub events : es ≡ (if is_ignored ((w.far (device a.port)).tables.own (port_number a.port)) a.bytes then event.Ignored
+      a.port a.index ∷ [] else [])
+  pub holds : 0 < (w.far (device a.port)).tables.own (port_number a.port)
+      → w.control.held.port (trunk t (device a.port)) ((w.far (device a.port)).tables.own (port_number a.port))
+      ≡ Some a.port
 
 abbrev pub ExtendersIgnore : Type 0
 ExtendersIgnore =
-    (t : Shape) (l : Limits) → IsSetting t l → (w : World) (a : Arrival) → IsSound t l w → 64 ≤ a.port → is_external t a.port ≡ true → IgnoresExactly t w a (stepped t l (Arrive a) w).events
+    (t : Shape) (l : Limits) → IsSetting t l → (w : World) (a : Arrival) → IsSound t l w → 64 ≤ a.port
+    → is_external t a.port ≡ true → IgnoresExactly t w a (stepped t l (Arrive a) w).events
