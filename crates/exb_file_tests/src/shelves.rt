@@ -82,7 +82,7 @@ fn a_whole_text_is_written(rt: HostRuntime) {
 // The calls: create, open, read, write of the first piece, write of the second.
 #[test]
 fn exactly_the_listed_calls_fail(rt: HostRuntime) {
-    let text = sevens(&rt, rt.alloc(), 70_000);
+    let text = sevens(&rt, rt.alloc(), 140_000);
     let mut shelf = shelf_with(&rt, rt.alloc(), &[5, 3], "in", b"alpha");
     let writing = shelf.create("out").expect(&rt, "a file");
     let reading = shelf.open("in").expect(&rt, "a file");
