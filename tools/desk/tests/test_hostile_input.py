@@ -135,7 +135,7 @@ class Sizes(Hostile):
     def test_a_journal_of_one_line(self):
         with open(self.path("out-journal.txt"), "wb") as file:
             file.truncate(1 << 30)
-        self.refused("line is too long", tools=("exbr-why", "exbr-compare"))
+        self.refused("out-journal.txt", " line", tools=("exbr-why", "exbr-compare"))
         self.call("exbr-report", ".")
 
     def test_thousands_of_commands(self):
