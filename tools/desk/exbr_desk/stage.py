@@ -8,7 +8,9 @@ from __future__ import annotations
 import contextlib
 import os
 import shutil
+import signal
 import subprocess
+import sys
 import tempfile
 import time
 from typing import Iterator, NamedTuple
@@ -18,6 +20,11 @@ from .progress import Progress
 
 IN_MEMORY, ROOM = "/dev/shm", 1 << 30
 BROKEN = "exbr: "
+
+
+def tidy_at_end() -> None:
+    """Has a tool that is asked to end by a signal take its folders away first."""
+    signal.signal(signal.SIGTERM, lambda *_: sys.exit(128 + signal.SIGTERM))
 
 
 class Said(NamedTuple):

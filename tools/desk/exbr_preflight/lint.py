@@ -77,6 +77,7 @@ class Watch:
         self.vlans_of: dict[int, dict[int, str]] = {}
         for vid, kinds in self.now.vlans.items():
             self._join(vid, kinds)
+        self.isolated = {port for port, rules in self.now.rules.items() if rules.isolated}
         self.standing: dict[Subject, Warning] = {}
         self.found: list[Warning] = []
         self.named = {plain.number_of(it["name"]): at for at, it in enumerate(given.tables.get("port", []))}
@@ -116,7 +117,10 @@ class Watch:
             return self._changed_vlan(table["vid"], before)
         if op in ("static", "unstatic"):
             return set(), set(), {(table["vid"], plain.address_of(table["mac"]))}
-        return {plain.number_of(table["port"])}, set(), set()
+        port = plain.number_of(table["port"])
+        if op == "isolate":
+            (self.isolated.add if table["isolated"] else self.isolated.discard)(port)
+        return {port}, set(), set()
 
     def _members(self, vid: int) -> set[int]:
         return {port for ports in self.now.vlans.get(vid, {}).values() for port in ports}
@@ -214,7 +218,7 @@ class Watch:
         return ("vlan", self.vlan_tables[vids[0]], "vid") if vids and vids[0] in self.vlan_tables else ()
 
     def _isolated(self) -> Iterator[tuple[Warning, Subject]]:
-        isolated = sorted(port for port, rules in self.now.rules.items() if rules.isolated)
+        isolated = sorted(self.isolated)
         counts = Counter(vid for port in isolated for vid in self.vlans_of.get(port, {}))
         alone = (port for port in isolated if all(counts[vid] == 1 for vid in self.vlans_of.get(port, {})))
         yield from ((Warning("isolated-alone", "{} is isolated, and no other isolated port is in a VLAN of it: that keeps nothing apart", [port],

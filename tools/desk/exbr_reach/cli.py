@@ -44,7 +44,7 @@ def words_of(words: list[str] | None) -> argparse.Namespace:
     parser.add_argument("--brief", action="store_true", help="counts and policies alone")
     parser.add_argument("--unfolded", action="store_true", help="plays a frame for each port, and takes no ports as alike")
     parser.add_argument("--limit", type=int, default=40, metavar="N", help="how many lines each part has (default 40, 0: all)")
-    parser.add_argument("--keep", metavar="FOLDER", help="keeps what was played in an empty folder")
+    parser.add_argument("--keep", metavar="FOLDER", help="keeps what was played of BEFORE in this folder, which has to be empty or not there")
     parser.add_argument("--program", metavar="FILE", help="the exbr to run (default: the file that EXBR names, or that of the repository)")
     parser.add_argument("--version", action="version", version="exbr-reach 1")
     return parser.parse_args(words)

@@ -14,22 +14,17 @@ from exbr_desk.errors import DeskError
 from exbr_desk.progress import Progress
 
 from .moments import Course, bare
-from .probes import ALL, TAG, Plan, Probe
+from .probes import ALL, LOCAL, TAG, Plan, Probe, source
 
 BEGIN = 1_000_000
 HEADER = struct.pack("<IHHIIII", 0xA1B23C4D, 2, 4, 0, 0, 262_144, 1)
-RECORD, SOURCE = struct.Struct("<IIII"), struct.Struct("<2sI")
+RECORD = struct.Struct("<IIII")
 # Of a record of an output: its length, and of its frame the number in the source address, the type, and a tag where it has one.
 LEFT = struct.Struct("<8xI4x6x2xIHH")
-TAGGED, LOCAL = 0x0081, b"\x02\xee"
+TAGGED = 0x0081
 BODY = b"\x88\xb5exbr-reach"
 # A frame that no bridge relays. It stands at the beginning, so that seconds are counted from there.
 CLOCK = bytes.fromhex("0180c2000000") + LOCAL + bytes(4) + BODY
-
-
-def source(number: int) -> bytes:
-    """The address of a probe."""
-    return SOURCE.pack(LOCAL, number)
 
 
 def frame_of(number: int, probe: Probe) -> bytes:

@@ -6,6 +6,7 @@ one bridge, so who changes two such ports for one another changes nothing else: 
 """
 from __future__ import annotations
 
+import struct
 from dataclasses import dataclass
 from typing import NamedTuple
 
@@ -16,6 +17,12 @@ from .moments import Course, Moment, State, states
 
 TAG, NO_TAG = "tag", "no tag"
 ALL = b"\xff" * 6
+LOCAL, SOURCE = b"\x02\xee", struct.Struct("<2sI")
+
+
+def source(number: int) -> bytes:
+    """The address of a probe."""
+    return SOURCE.pack(LOCAL, number)
 
 
 class Probe(NamedTuple):
@@ -107,7 +114,8 @@ class Planner:
         for mac, form, piece in ((mac, form, piece) for mac, mask in entries for form, part in sets for piece in self._parts(part, (mask,))):
             self._add(moment, vid, form, piece, mac)
         if self.asked.unicast:
-            self._to_stations(moment, vid, sets, places)
+            # A station whose address a static entry has is no station of these.
+            self._to_stations(moment, vid, sets, [place for place in places if (vid, source(place)) not in state.now.statics])
 
     def _parts(self, senders: int, by: tuple[int, ...]) -> list[int]:
         if self.asked.senders is not None:
@@ -128,8 +136,8 @@ class Planner:
     def _to_stations(self, moment: Moment, vid: int, sets: list[tuple[str, int]], places: list[int]) -> None:
         """From each kind of port to a station at each kind of port, whose address was the source of a frame just now."""
         for form, part in sets:
-            for (_, other), place in zip(sets, places):
-                target = self.plan.probes[place].sender
+            for place in places:
+                target, other = self.plan.probes[place].sender, self.plan.probes[place].alike
                 rest = part & ~(1 << target)
                 if rest and (other == part or not part & other):
                     self._add(moment, vid, form, rest, place, masks.first(rest))

@@ -12,7 +12,7 @@ from exbr_desk.topology import Topology
 
 from . import playing
 from .moments import Moment, course_of, vids_of
-from .probes import ALL, NO_TAG, TAG, Asked, Plan, planned
+from .probes import ALL, LOCAL, NO_TAG, SOURCE, TAG, Asked, Plan, planned
 
 NAMES = plain.name_of
 
@@ -68,8 +68,8 @@ def reasons_of(run: runs.Run, plan: Plan, target: int) -> dict[int, list[str]]:
     """Of each probe to all why it comes to a port or doesn't. The second reading has to agree with what the program wrote."""
     judge, found = Judge(run), {}
     for event in judge.events():
-        if event.__class__ is Arrival and event.frame[6:8] == playing.LOCAL and event.frame[:6] == ALL:
-            number = playing.SOURCE.unpack(event.frame[6:12])[1]
+        if event.__class__ is Arrival and event.frame[6:8] == LOCAL and event.frame[:6] == ALL:
+            number = SOURCE.unpack(event.frame[6:12])[1]
             found[number] = _reason(judge.reading, event, target)
     if judge.faults:
         raise DeskError(f"the second reading doesn't agree with what the program wrote: {judge.faults[0].file}: {judge.faults[0].text}")
