@@ -95,7 +95,7 @@ fn exactly_the_listed_calls_fail(rt: HostRuntime) {
         &rt,
         &shelf,
         "out",
-        sevens(&rt, rt.alloc(), PIECE).as_slice(),
+        sevens(&rt, rt.alloc(), 2 * PIECE).as_slice(),
     );
     holds(
         &rt,
