@@ -63,7 +63,7 @@ class TraceToPcapng(unittest.TestCase):
 
     def test_what_can_not_be_written(self):
         os.mkdir(f"{self.folder}/trace.pcapng")
-        self.assertEqual(self.says(TRACE.encode()), (1, "trace_to_pcapng.py: trace.pcapng: it is a folder\n"))
+        self.assertEqual(self.says(TRACE.encode()), (2, "trace_to_pcapng.py: trace.pcapng: it is a folder\n"))
         self.assertEqual(sorted(os.listdir(self.folder)), ["trace.pcapng", "trace.txt"])
 
     def test_what_is_no_trace(self):

@@ -15,8 +15,9 @@ import tempfile
 from array import array
 from typing import Iterator, Sequence
 
-from . import plain, standing, swift, trace_index
+from . import plain, safe_files, standing, swift, trace_index
 from .captures import SECOND, Blocks, Capture, Classic
+from .errors import DeskError
 from .judge import Fault, Judge, is_seeded
 from .place import umask
 from .progress import Progress
@@ -154,7 +155,7 @@ class Outcomes(Sequence):
 def read(run: Run, path: str) -> Table | None:
     """The table of an index, where there is one that counts. What is odd in it makes it one that doesn't."""
     try:
-        with open(path, "rb") as file:
+        with safe_files.opened(path) as file:
             if file.read(len(MAGIC)) != MAGIC:
                 return None
             size = struct.unpack("<Q", file.read(8))[0]
@@ -165,7 +166,7 @@ def read(run: Run, path: str) -> Table | None:
                 return None
             data = memoryview(mmap.mmap(file.fileno(), 0, access=mmap.ACCESS_READ))
         return _table(run, head, dict(_columns(head["columns"], data, len(MAGIC) + 8 + size)))
-    except (OSError, ValueError, KeyError, TypeError, IndexError, struct.error, RecursionError):
+    except (OSError, DeskError, ValueError, KeyError, TypeError, IndexError, struct.error, RecursionError):
         return None
 
 

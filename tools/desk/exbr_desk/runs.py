@@ -5,7 +5,7 @@ import os
 import resource
 from dataclasses import dataclass, field
 
-from . import plain, topology
+from . import plain, safe_files, topology
 from .captures import PIECE, Capture
 from .errors import DeskError
 
@@ -119,8 +119,8 @@ def unended(run: Run) -> str | None:
 def end_of(path: str) -> bytes:
     """The last bytes of a journal, as many as its last line has where the run ended; nothing where it can't be read."""
     try:
-        with open(path, "rb") as file:
+        with safe_files.opened(path) as file:
             file.seek(max(0, os.path.getsize(path) - len(SETTLED)))
-            return file.read()
-    except OSError:
+            return file.read(len(SETTLED))
+    except (OSError, DeskError):
         return b""

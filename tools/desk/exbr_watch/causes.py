@@ -8,10 +8,9 @@ import re
 import resource
 import stat
 import subprocess
-import tomllib
 from itertools import chain
 
-from exbr_desk import plain, topology
+from exbr_desk import plain, safe_files, toml_text, topology
 from exbr_desk.errors import DeskError
 
 OF_TOPOLOGY, OF_READING, OF_WRITING = 3, 6, 7
@@ -27,7 +26,7 @@ def cause(status: int, words: list[str], path: str | None, program: str) -> str 
             return first(map(unread, to_read(path)), "each of its files can be read now")
         if status == OF_WRITING:
             them = to_write(path, words)
-            return first(chain(map(unwritten, them), map(full, [them])), "each of its files can be written now, so what failed was printing, or it has passed")
+            return first(chain(map(unwritten, them), map(full, [them])), "each of its files can be written now, so what failed was printing, or EXBR_BYTES were written, or it has passed")
     except (OSError, ValueError, KeyError, TypeError, AttributeError, DeskError):
         return None
     return numbered(path, program) if status == OF_TOPOLOGY and words[0] == "run" else None
@@ -46,8 +45,8 @@ def numbered(path: str, program: str) -> str | None:
 
 
 def tables_of(path: str) -> dict:
-    with open(path, "rb") as file:
-        return tomllib.load(file)
+    data = safe_files.read(path, topology.LARGEST)
+    return toml_text.tables((data or b"").decode())
 
 
 def parts(path: str) -> list[tuple[str, str | None]]:
@@ -95,6 +94,8 @@ def unread(path: str) -> str | None:
 def unwritten(path: str) -> str | None:
     """Why a file can't be written. It is opened where it is there, and neither made nor changed."""
     try:
+        if odd := refused(path):
+            return f"{path}: {odd}"
         if os.path.exists(path):
             os.close(os.open(path, os.O_WRONLY | os.O_NONBLOCK))
             limit = resource.getrlimit(resource.RLIMIT_FSIZE)[0]
@@ -104,6 +105,19 @@ def unwritten(path: str) -> str | None:
         return None if os.access(folder, os.W_OK | os.X_OK) else f"{path}: {os.strerror(errno.EACCES)}"
     except OSError as fault:
         return f"{path}: {fault.strerror}"
+
+
+def refused(path: str) -> str | None:
+    """Why the program writes nothing at a place though the system would."""
+    if os.environ.get("EXBR_ANYWHERE") != "1":
+        base = os.path.realpath(".")
+        if os.path.commonpath([base, os.path.realpath(os.path.dirname(path) or ".")]) != base:
+            return "it lies outside the folder of the run (EXBR_ANYWHERE=1 lifts that)"
+    if os.path.islink(path):
+        return "it is a link, and nothing is written through it"
+    if os.path.isfile(path) and os.stat(path).st_nlink > 1:
+        return "the file has another name too"
+    return None
 
 
 def full(them: list[str]) -> str | None:
