@@ -71,7 +71,7 @@ def body_starts(lines, at, indent):
         if place == at or not is_clause:
             if line.endswith(" {") and line.startswith(indent) and not is_clause and is_closed(lines[at:place + 1]):
                 return place, True
-        if line.endswith(";") and is_closed(lines[at:place + 1]):
+        if line.endswith(";") and "//" not in line and is_closed(lines[at:place + 1]):
             return place, True
     return len(lines) - 1, True
 
