@@ -223,18 +223,37 @@ def made(run: Run, what: str, quiet: bool = False) -> Table:
 
 def judged(run: Run, progress: Progress) -> Table:
     """The same by the judge."""
-    table, judge = Table(is_seeded=is_seeded(run)), Judge(run)
-    filling = Filling(table)
-    judge.late_line, judge.late_place = filling.late_line, filling.late_place
+    judge = Judge(run)
+    filling = filling_of(judge)
     try:
         for at, event in enumerate(judge.events()):
             filling.take(event, judge.reading)
             if not at & 4095:
-                progress.at(table.count)
+                progress.at(filling.table.count)
     finally:
         progress.end()
+    return filled(judge, filling.table)
+
+
+def filling_of(judge: Judge) -> Filling:
+    """A table to be filled by the events of a judge."""
+    filling = Filling(Table(is_seeded=is_seeded(judge.run)))
+    judge.late_line, judge.late_place = filling.late_line, filling.late_place
+    return filling
+
+
+def filled(judge: Judge, table: Table) -> Table:
+    """The table, when all events have come."""
     table.faults, table.given_up, table.notes = judge.faults, judge.given_up, judge.notes
     return table
+
+
+def keep(run: Run, judge: Judge, table: Table) -> None:
+    """Keeps a table that was filled beside other work, where it may be."""
+    try:
+        write(run, filled(judge, table), path_of(run))
+    except OSError:
+        return
 
 
 def table_of(run: Run, what: str, keep: bool = True, quiet: bool = False) -> Table:

@@ -6,7 +6,7 @@ from collections import Counter
 from collections.abc import Iterator
 from datetime import datetime, timezone
 
-from exbr_desk import earlier, frames, journal, runs
+from exbr_desk import earlier, frames, index, journal, runs
 from exbr_desk.errors import DeskError
 from exbr_desk.judge import Judge, is_seeded
 from exbr_desk.plain import Configuration
@@ -43,6 +43,8 @@ class Gathering:
         self.run, self.judge = run, Counting(run)
         self.reading = self.judge.reading
         self.before: Configuration | None = None
+        # What became of each frame is kept for the questions that follow, where it isn't kept already.
+        self.filling = None if index.read(run, index.path_of(run)) else index.filling_of(self.judge)
         self.rows = Rows(run.topology.external, Choice(most, run.arrivals), self.reading.start)
         self.seconds = [Counter(), Counter(), Counter()]
         self.fates: dict[int, Ordered] = {}
@@ -66,6 +68,8 @@ class Gathering:
 
     def take(self, event: Arrival | Ordered | Told) -> None:
         """One event."""
+        if self.filling:
+            self.filling.take(event, self.reading)
         if isinstance(event, Arrival):
             self.arrive(event)
         elif isinstance(event, Ordered):
@@ -298,6 +302,8 @@ def report_of(run: runs.Run, most: int, quiet: bool = False) -> Report:
     seen = Gathering(run, most)
     seen.go(progress)
     progress.end()
+    if seen.filling and not seen.broken:
+        index.keep(run, seen.judge, seen.filling.table)
     ports = ports_of(seen)
     vlans, every = vlans_of(seen)
     notices = refusals(seen) + unended(seen) + disagreements(seen) + counted(seen, ports) + lost(seen)

@@ -8,8 +8,9 @@ import shutil
 import struct
 import unittest
 
-from desk_help import TOP, FolderTest, program
+from desk_help import FolderTest, program
 from exbr_desk import captures, choose, index, progress, runs, swift, why
+from exbr_report import gather
 from planted import PLANTED
 from random_runs import given_of, write_run
 from test_why import EXAMPLES
@@ -149,6 +150,14 @@ class Kept(FolderTest):
             self.write("campus/out-index", data)
             self.assertIsNone(index.read(runs.whole(folder), path), data[:40])
             self.assertEqual(said(runs.whole(folder)), first)
+
+    def test_the_report_makes_it(self):
+        for example in ("campus", "lossy-links", "too-few-groups"):
+            folder = self.example(example)
+            gather.report_of(runs.read(folder), 100, quiet=True)
+            kept = index.read(runs.whole(folder), index.path_of(runs.whole(folder)))
+            self.assertEqual(all_of(kept), all_of(by_judge(runs.whole(folder))))
+            self.assertEqual(bool(kept.hops), example == "lossy-links")
 
     def test_a_folder_that_can_not_be_written(self):
         folder = self.example("campus")
