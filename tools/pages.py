@@ -21,7 +21,7 @@ LINK = re.compile(r'(?<!!)\[[^\]]+\]\(([^)\s]+)\)', re.S)
 LAW = re.compile(r'^pub fn (\w+)', re.M)
 NAME = re.compile(r"[A-Za-z_]\w*")
 MACHINE = re.compile(r'(?<![\w.~])/(?:work|root|home|opt|tmp|Users)/')
-WIDE, LONG = 120, 120
+WIDE, LONG = 125, 140
 # The pages of which each name between backquotes is one of the sources.
 NAMING = ['docs/what-is-proved.md', 'docs/glossary.md', 'docs/ARCHITECTURE.md']
 
