@@ -1,5 +1,6 @@
 """A small repository with the launcher and the gate as they are here, a toolchain that only seems to be one, and /bin/echo as the
 program that it builds: so what each says is tested in seconds, and without any proof."""
+import hashlib
 import os
 import platform
 import shutil
@@ -74,6 +75,14 @@ class Scratch:
         for name in [*beside, *(f"tools/{it}" for it in os.listdir(f"{TOP}/tools")), "crates/exb_cases"]:
             if not os.path.lexists(self.at(name)):
                 os.symlink(os.path.join(TOP, name), self.at(name))
+
+    def sum(self):
+        """Puts dist/sums there, which `./install` asks for: the sums of what is linked are those of this repository."""
+        with open(os.path.join(TOP, "dist/sums"), encoding="utf-8") as file:
+            lines = [it for it in file if not it.endswith("  dist/exbr\n")]
+        with open(self.at("dist/exbr"), "rb") as file:
+            lines.append(f"{hashlib.sha256(file.read()).hexdigest()}  dist/exbr\n")
+        self.write("dist/sums", "".join(lines))
 
     def at(self, name):
         return os.path.join(self.top, name)

@@ -52,9 +52,10 @@ class Safely(unittest.TestCase):
         for umask in (0o000, 0o022, 0o077, 0o777):
             self.assertEqual(self.put(umask=umask)[0], 0)
             for name, mode, is_folder in entries(f"{self.room.name}/new"):
-                may_run = is_folder or name.startswith("prefix/bin/") or os.path.basename(name).startswith("exbr-")
+                must_run = is_folder or name.startswith("prefix/bin/") or name == "prefix/lib/exbr/exbr"
+                may_run = must_run or os.path.basename(name).startswith("exbr-")
                 with self.subTest(name, umask=oct(umask)):
-                    self.assertIn(mode, (0o755,) if is_folder or name.startswith("prefix/bin/") else (0o755, 0o644) if may_run else (0o644,))
+                    self.assertIn(mode, (0o755,) if must_run else (0o755, 0o644) if may_run else (0o644,))
             self.assertEqual(stat.S_IMODE(os.stat(f"{self.room.name}/new").st_mode), 0o755)
             self.assertEqual(self.install("--remove", self.prefix)[0], 0)
             shutil.rmtree(f"{self.room.name}/new")
@@ -116,8 +117,12 @@ class Sums(unittest.TestCase):
             for name in (*sums().files(), "dist/sums"):
                 os.makedirs(os.path.dirname(f"{top}/{name}"), exist_ok=True)
                 shutil.copy2(f"{TOP}/{name}", f"{top}/{name}")
+            # What the version is made of.
+            for name in ("crates.txt", *(f"crates/{it}" for it in os.listdir(f"{TOP}/crates"))):
+                if not os.path.lexists(f"{top}/{name}"):
+                    os.symlink(f"{TOP}/{name}", f"{top}/{name}")
             subprocess.run([f"{top}/tools/sums", "--write"], check=True)
-            self.assertEqual(self.put(top, f"{room}/one")[0], 0)
+            self.assertEqual(self.put(top, f"{room}/one"), (0, ""))
             with open(f"{top}/tools/desk/exbr_desk/errors.py", "a", encoding="utf-8") as it:
                 it.write("\n")
             status, said = self.put(top, f"{room}/two")

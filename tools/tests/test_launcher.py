@@ -357,6 +357,7 @@ class Anywhere(unittest.TestCase):
         os.makedirs(it.at("dist"))
         shutil.copy2(self.program, it.at("dist/exbr"))
         it.write("dist/record", record.make(self.program, record.sources_of(it.top), "kit one"))
+        it.sum()
         self.printed = subprocess.run([self.program, "make", "3"], capture_output=True, text=True, check=True).stdout
         # What the three commands do where the program is run: status, printed text as an expression, and said text.
         self.exbr, self.install = (0, f"^{re.escape(self.printed)}$", ""), (0, r"^install: \d+ files in ", "")
