@@ -89,7 +89,7 @@ def _unknown(fault: Fault, placed: Placed) -> tuple[str, str | None]:
         return 'a topology has no table "wire"', "this is a file of a net: exbr net reads it, and this tool each of its topologies"
     where = "a topology has no table" if len(path) == 1 else f"{element_of(path, placed.tables)} has no key"
     if len(path) == 1 and any(key in it for it in KEYS.values()):
-        return f'{where} "{key}"', f'"{key}" is a key of a table: it stands behind the head of its table, as [bridge]'
+        return f'{where} "{key}"', f'"{key}" is a key of a table: it stands below the head of its table, as [bridge]'
     rest = f"there are {', '.join(known)}" if len(path) == 1 else f"{'the keys of ' + shown(op) if op else 'its keys'} are {', '.join(known)}"
     return f'{where} "{key}"', f'did you mean "{close}"?' if close else rest
 
@@ -273,7 +273,7 @@ def hint_of(words: str, place: Place | None) -> str | None:
     if re.search(r"=\s*[+-]?0[0-9]", line):
         return "a number has no leading zero"
     if words.startswith("Cannot overwrite a value") and line.lstrip().startswith("["):
-        return "this is a table above and a list of tables here, or the other way round: write [[..]], with two brackets, above each of several"
+        return "this is a table above and a list of tables here, or the other way round. Write [[..]], with two brackets, above each of several"
     if words.startswith("Invalid value") and re.search(r"=\s*[A-Za-z]", line):
         return "a text stands in quotes"
     return next((hint for begin, hint in HINTS if words.startswith(begin)), None)

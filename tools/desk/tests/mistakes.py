@@ -142,9 +142,10 @@ MISTAKES = [
 ]
 HEAD = """# Typing mistakes, and what is said of them
 
-Each row is [one topology](#the-topology) with one mistake, and what `exbr-preflight` says of it: line and column, what is wrong, and what would be
-right. The last column is the answer of `exbr check`, the proved program. `tools/desk/tests/mistakes.py --write` makes this table, and a test holds the
-page against the tool.
+Each row is [one topology](#the-topology) with one mistake, and what `exbr-preflight` says of it:
+line and column, what is wrong, and what would be right. The last column is the answer of
+`exbr check`, the proved program. `tools/desk/tests/mistakes.py --write` makes this table, and a
+test compares the page with the tool's answers.
 
 | | Mistake | What `exbr-preflight` says | `exbr check` |
 |---|---|---|---|
