@@ -21,7 +21,7 @@ LINK = re.compile(r'(?<!!)\[[^\]]+\]\(([^)\s]+)\)', re.S)
 LAW = re.compile(r'^pub fn (\w+)', re.M)
 NAME = re.compile(r"[A-Za-z_]\w*")
 MACHINE = re.compile(r'(?<![\w.~])/(?:work|root|home|opt|tmp|Users)/')
-WIDE, LONG = 125, 140
+WIDE, LONG = 100, 140
 # The pages of which each name between backquotes is one of the sources.
 NAMING = ['docs/what-is-proved.md', 'docs/glossary.md', 'docs/ARCHITECTURE.md']
 
@@ -152,7 +152,9 @@ def readme():
     lines = text('README.md').splitlines()
     if len(lines) > LONG:
         yield f'README.md: {len(lines)} lines'
-    yield from (f'README.md: line {at} has {len(it)} columns' for at, it in enumerate(lines, 1) if len(it) > WIDE)
+    # Tables and what is printed may be wider.
+    wide = (at for at, it in enumerate(lines, 1) if len(it) > WIDE and not it.startswith(('|', '    ')))
+    yield from (f'README.md: line {at} has {len(lines[at - 1])} columns' for at in wide)
 
 
 def main():
