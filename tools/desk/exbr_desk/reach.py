@@ -5,7 +5,7 @@ from array import array
 from dataclasses import dataclass, field
 from typing import Iterable
 
-from . import frames, index, runs
+from . import frames, index
 from .course import Course
 from .judge import Fault
 from .reading import Where

@@ -209,6 +209,8 @@ def main(words: list[str] | None = None) -> int:
         raise DeskError("--limit is 0 or more")
     run = runs.whole(asked.run, asked.folder)
     called = names.of(asked.run, asked.names)
+    # An index knows the captures, so they needn't be looked through before it is asked.
+    index.read(run, index.path_of(run))
     choice = None if asked.all else choose.choice(run, [called.heard(it) for it in asked.frame], asked.filter)
     why = Why(run, choice, asked.limit, not asked.no_index)
     why.go()

@@ -7,6 +7,7 @@ import random
 import shutil
 import struct
 import unittest
+from unittest import mock
 
 from desk_help import FolderTest, program
 from exbr_desk import captures, choose, index, progress, runs, swift, why
@@ -95,6 +96,13 @@ class Kept(FolderTest):
             self.assertEqual(said(runs.whole(folder)), first)
             its = all_of(index.read(runs.whole(folder), path))
             self.assertEqual(its, all_of(by_judge(runs.whole(folder))))
+
+    def test_captures_are_not_looked_through_once_more(self):
+        folder = self.example("campus")
+        first = self.tool("exbr-why", "b4:3", at=folder)
+        with mock.patch.object(captures.Capture, "_scan", side_effect=AssertionError("a capture is looked through")):
+            again = self.tool("exbr-why", "b4:3", at=folder)
+        self.assertEqual((again.returncode, again.stdout), (0, first.stdout))
 
     def test_seeded_runs_and_runs_with_faults(self):
         exbr = program()
