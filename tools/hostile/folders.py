@@ -121,18 +121,15 @@ class Input:
             raise Wrong(f"on standard error: {ran.said[:200]!r}")
         if not self.may_print(ran):
             raise Wrong(f"status {ran.status} prints {ran.printed!r}")
-        # Where the summary was printed all was written, and was not brought to the disk.
-        as_if = 0 if ran.printed.startswith(self.printed) else ran.status
-        self.judge_files(held(folder), as_if, before or {}, changed, more)
+        self.judge_files(held(folder), ran.status, before or {}, changed, more)
 
     def may_print(self, ran):
-        """The line of the status or a front of it. Behind the summary 7 says that what was written couldn't be brought to the disk."""
+        """The line of the status or a front of it."""
         if ran.status == 0:
             return ran.printed == self.printed
         if ran.status < 0 or ran.status not in LINES:
             return ran.status > 0 or self.printed.startswith(ran.printed)
-        line = LINES[ran.status]
-        return line.startswith(ran.printed) or ran.status == 7 and ran.printed.startswith(self.printed) and (self.printed + line).startswith(ran.printed)
+        return LINES[ran.status].startswith(ran.printed)
 
     def judge_files(self, there, status, before, changed, more):
         for name, data in self.files.items():

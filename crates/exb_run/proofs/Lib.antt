@@ -13,3 +13,4 @@ pub mod CounterSums
 pub mod StatusCounts
 pub mod PartialOutputs
 pub mod AuditsAfterRuns
+pub mod FinishedRuns

@@ -1,10 +1,10 @@
 -- What comes of all that is done but printing.
-use Rattle.std.specs.Prelude.{◌≡◌, ◌⊎◌, Option, Some, None, Result, IfOk, IfErr, IsErrOf, String, string_bytes}
+use Rattle.std.specs.Prelude.{◌≡◌, ◌⊎◌, Option, Some, None, Result, Ok, Err, IfOk, IfErr, IsErrOf, String, string_bytes}
 use Rattle.std.specs.declared.alloc.Global.{Global}
 use Rattle.exb_shelf.specs.Files.{Files, SameFiles}
 use Rattle.exb_cli.specs.CommandLines.{Ask, Run, Check, Make, Audit, Net}
 use Rattle.exb_inputs.specs.declared.fault.Fault.{Fault}
-use Rattle.exb_inputs.specs.declared.fault.Fault.TheVariants.{Usage, Read, Memory}
+use Rattle.exb_inputs.specs.declared.fault.Fault.TheVariants.{Usage, Read, Write, Memory}
 use Rattle.exb_run.specs.Answers.{AreFronts, IsDone, IsFailure, IsRun, OnlyAsked, Stops}
 use Rattle.exb_run.specs.PartialOutputs.{AreParts}
 use Rattle.exb_inputs.specs.FaultPhases.{IsOfAudit, IsOfTopology, IsOfPlaying, IsOfPlay}
@@ -23,6 +23,12 @@ CanCome (Some (Net name counters)) fault = IsOfNet fault
 -- a fault that can come once files are made, of a topology or a net that is played
 abbrev pub IsOfMaking : Fault → Type 0
 IsOfMaking fault = IsOfPlay fault ⊎ IsOfNetPlay fault
+
+-- What comes of an outcome once all was brought to where it is to stay: the same, or where all was
+-- played that this failed or memory ran out.
+abbrev pub IsFinished : Result (String Global) Fault → Result (String Global) Fault → Type 0
+IsFinished (Ok line) o = (o ≡ Ok line) ⊎ (o ≡ Err Write) ⊎ (o ≡ Err Memory)
+IsFinished (Err fault) o = o ≡ Err fault
 
 -- By the result: what is done, which text says so, which cause a fault has, and what has become of the files.
 pub record CameOut (tells : Type 0) (a : Option Ask) (o : Result (String Global) Fault) (old new : Files) : Type 0 where

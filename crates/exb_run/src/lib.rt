@@ -7,6 +7,7 @@
 mod audit;
 mod check;
 mod fates;
+mod finish;
 mod generated_run;
 pub mod laws;
 mod net;

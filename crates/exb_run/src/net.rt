@@ -6,6 +6,7 @@ ghost use Rattle.exb_inputs.specs.ShelfEffects.{CountsFaults};
 ghost use Rattle.exb_run.specs.OpenedFiles.{OpensBy, OpensInOrder};
 ghost use Rattle.exb_run.specs.Outcomes.{CameOut};
 
+use crate::finish::finished;
 use exb_fate::Fate;
 use exb_inputs::Fault;
 use exb_net::play_net;
@@ -33,5 +34,6 @@ pub(crate) fn run_net<S: Shelf>(
         (S.ids shelf.old) (S.ids shelf.new) }
     ensures faults { CountsFaults result (S.faults shelf.old) (S.faults shelf.new) }
 {
-    play_net(alloc, shelf, name, counters, fate, more)
+    let played = play_net(alloc, shelf, name, counters, fate, more);
+    finished(shelf, played)
 }

@@ -27,6 +27,7 @@ ghost use Rattle.exb_outputs.specs.Counts.{IsSummary};
 
 use crate::audit::audit_topology;
 use crate::check::check_topology;
+use crate::finish::finished;
 use crate::generated_run::make_input;
 use crate::net::run_net;
 use exb_cli::{Invocation, Options, accept};
@@ -154,7 +155,7 @@ fn run_topology<S: Shelf>(
     let played = play_topology(alloc, shelf, &topology, options, fate);
     // By a call, since a block's end is far longer to prove where it lets a topology go.
     drop(topology);
-    played
+    finished(shelf, played)
 }
 
 /// Does all but print: what the words ask for.

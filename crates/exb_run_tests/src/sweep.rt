@@ -98,7 +98,7 @@ fn answer_to<'a>(run: &'a Run, asked: CallKind, how: Disturbance) -> (u8, &'a st
     match how {
         Disturbance::Fails { .. } | Disturbance::Stops { .. } => match asked {
             CallKind::Open | CallKind::Read => (6, "exbr: read fault\n"),
-            CallKind::Create | CallKind::Append => (7, "exbr: write fault\n"),
+            CallKind::Create | CallKind::Append | CallKind::Finish => (7, "exbr: write fault\n"),
             CallKind::Print => (7, run.summary),
         },
         Disturbance::WantsMemory { .. } => match asked {

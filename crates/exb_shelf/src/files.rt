@@ -66,24 +66,6 @@ impl FileShelf {
             writes: 0,
         }
     }
-
-    /// Brings what was written to the disk. It fails where a file that was made is not at its name
-    /// any more, or does not hold as much as was written.
-    pub fn sync(&mut self) -> Result<(), ShelfFault> {
-        empty_made(
-            &self.rt,
-            self.entries.as_slice(),
-            self.outputs.as_slice(),
-            &mut self.full,
-        );
-        match sync_all(&self.rt, self.entries.as_slice(), self.outputs.as_slice()) {
-            Ok(()) => Ok(()),
-            Err(_) => {
-                self.writes = self.writes.saturating_add(1);
-                Err(ShelfFault::Failed)
-            }
-        }
-    }
 }
 
 fn refused() -> io::Error {
@@ -382,6 +364,24 @@ impl Shelf for FileShelf {
                 Ok(n)
             }
             _ => {
+                self.writes = self.writes.saturating_add(1);
+                Err(ShelfFault::Failed)
+            }
+        }
+    }
+
+    // It fails where a file that was made is not at its name any more, or does not hold as much as
+    // was written.
+    fn finish(&mut self) -> Result<(), ShelfFault> {
+        empty_made(
+            &self.rt,
+            self.entries.as_slice(),
+            self.outputs.as_slice(),
+            &mut self.full,
+        );
+        match sync_all(&self.rt, self.entries.as_slice(), self.outputs.as_slice()) {
+            Ok(()) => Ok(()),
+            Err(_) => {
                 self.writes = self.writes.saturating_add(1);
                 Err(ShelfFault::Failed)
             }

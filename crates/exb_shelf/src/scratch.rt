@@ -165,4 +165,8 @@ impl Shelf for ScratchShelf {
             Err(_) => Err(ShelfFault::Memory),
         }
     }
+
+    fn finish(&mut self) -> Result<(), ShelfFault> {
+        Ok(())
+    }
 }

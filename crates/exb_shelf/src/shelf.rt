@@ -90,7 +90,10 @@ pub trait Shelf {
         ensures failed { IsErrOf result ShelfFault.Failed
             → Rose (faults self.old).reads (faults self.new).reads };
 
-    /// Makes a file, or empties one that is there.
+    /// Makes a file, or empties one that is there. Over the system's files one that is there is
+    /// marked alone, and the first call that is no `create` empties all that were marked: until
+    /// then each holds what it held. One that can't be emptied is a fault of writing, at the latest
+    /// in `finish`.
     fn create(&mut self, name: &str) -> Result<u32, ShelfFault>
         ensures id { IfOk result (λ id. ids self.new id ≡ writing name.now) }
         ensures fresh { IfOk result (λ id. (ids self.old id).given ≡ false) }
@@ -118,6 +121,17 @@ pub trait Shelf {
             → IfOk result (λ n. Puts (file self.old) (file self.new) (ids self.old id).name
             (bytes_of (file self.old (ids self.old id).name) ++ take n bytes.now)) }
         ensures err { tells → OnErr result (SameFiles (file self.old) (file self.new)) }
+        ensures kept { (j : ℕ) → ids self.new j ≡ ids self.old j }
+
+        ensures counts { faults self.new ≡ after_write result (faults self.old) }
+        ensures faults { NoFewer (faults self.old) (faults self.new) }
+        ensures failed { IsErrOf result ShelfFault.Failed
+            → Rose (faults self.old).writes (faults self.new).writes };
+
+    /// Brings what was made and written to where it is to stay, as to the disk. No file changes;
+    /// what can't be brought there is a fault of writing.
+    fn finish(&mut self) -> Result<(), ShelfFault>
+        ensures files { SameFiles (file self.old) (file self.new) }
         ensures kept { (j : ℕ) → ids self.new j ≡ ids self.old j }
 
         ensures counts { faults self.new ≡ after_write result (faults self.old) }

@@ -66,4 +66,8 @@ impl Shelf for ChangingShelf {
     fn write(&mut self, id: u32, bytes: &[u8]) -> Result<usize, ShelfFault> {
         self.kept.write(id, bytes)
     }
+
+    fn finish(&mut self) -> Result<(), ShelfFault> {
+        self.kept.finish()
+    }
 }

@@ -8,6 +8,7 @@ pub enum CallKind {
     Read,
     Create,
     Append,
+    Finish,
     Print,
 }
 

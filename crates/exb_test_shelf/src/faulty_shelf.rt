@@ -119,4 +119,15 @@ impl Shelf for FaultyShelf {
             _ => Err(ShelfFault::Memory),
         }
     }
+
+    fn finish(&mut self) -> Result<(), ShelfFault> {
+        match note(&mut self.calls, self.disturbance, CallKind::Finish) {
+            Ok(CallFate::Fails) => {
+                self.writes = self.writes.saturating_add(1);
+                Err(ShelfFault::Failed)
+            }
+            Ok(CallFate::Moves { .. }) => self.kept.finish(),
+            _ => Err(ShelfFault::Memory),
+        }
+    }
 }

@@ -267,4 +267,24 @@ impl Shelf for MemShelf {
         }
         self.kept.write(id, bytes)
     }
+
+    fn finish(&mut self) -> Result<(), ShelfFault>
+        ensures files { SameFiles (files_of self.old) (files_of self.new) }
+        ensures kept { (j : ℕ) → ids_of self.new j ≡ ids_of self.old j }
+        ensures counts { faults_of self.new ≡ after_write result (faults_of self.old) }
+        ensures faults { NoFewer (faults_of self.old) (faults_of self.new) }
+        ensures failed { IsErrOf result ShelfFault.Failed
+            → Rose (faults_of self.old).writes (faults_of self.new).writes }
+
+        ensures fails { IsErrOf result ShelfFault.Failed
+            ↔ Contains (failing_of self.old) (calls_of self.old + 1) }
+        ensures calls { calls_of self.new ≡ one_more (calls_of self.old) }
+        ensures fail { failing_of self.new ≡ failing_of self.old }
+    {
+        if is_to_fail(&mut self.calls, &self.fail) {
+            self.writes = self.writes.saturating_add(1);
+            return Err(ShelfFault::Failed);
+        }
+        self.kept.finish()
+    }
 }

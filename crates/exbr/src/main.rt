@@ -28,17 +28,6 @@ fn out_of_memory(rt: HostRuntime) -> ExitCode {
     }
 }
 
-// Status 0 stands only where all that was written has come to the disk: else 7, behind the summary.
-fn brought_to_disk(status: u8, shelf: &mut FileShelf, out: &mut OutSink) -> u8 {
-    if status != 0 || shelf.sync().is_ok() {
-        return status;
-    }
-    match print_text(out, b"exbr: write fault\n") {
-        Err(ShelfFault::Memory) => 1,
-        _ => 7,
-    }
-}
-
 fn main(rt: HostRuntime) -> ExitCode {
     let alloc = rt.alloc();
     let Ok(words) = words(alloc, &rt) else {
@@ -49,5 +38,5 @@ fn main(rt: HostRuntime) -> ExitCode {
     let Ok(status) = run_armed(alloc, &words, &mut shelf, &mut out) else {
         return out_of_memory(rt);
     };
-    ExitCode::from(brought_to_disk(status, &mut shelf, &mut out))
+    ExitCode::from(status)
 }
