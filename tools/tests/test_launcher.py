@@ -240,9 +240,10 @@ class InOurOrder(Launched):
         lines = self.it.read("kit/calls").splitlines()
         return ["own" if it.startswith("one") else it.split()[0] for it in lines]
 
+    # Two runs tell of the last crate at once: whether it is told as proved or as kept is chance, and `proved` says which were proved.
     def test_each_crate_is_proved_once_and_the_toolchain_has_the_last_word(self):
         it = self.wide()
-        self.says(["tools/build"], 0, "4 crates", "exb_low proved (1 of 4", "exb_high proved", "exb_beside proved", "exbr proved (4 of 4")
+        self.says(["tools/build"], 0, "4 crates", "exb_low proved (1 of 4", "exb_high proved", "exb_beside proved", "(4 of 4")
         found = self.proved()
         self.assertEqual((found[0], sorted(found[1:3]), sorted(found[3:])), ("exb_low", ["exb_beside", "exb_high"], ["exbr", "own"]))
         self.assertIn("exb_high proved", it.read("crates/exbr/out/build-first.log"))
@@ -262,7 +263,7 @@ class InOurOrder(Launched):
 
     def test_the_longest_chain_has_more_processes(self):
         it = self.wide()
-        self.says(["tools/build"], 0, "exbr proved (4 of 4")
+        self.says(["tools/build"], 0, "(4 of 4")
         jobs = {line.split()[0]: int(line.split()[2].rstrip(",")) for line in it.read("kit/calls").splitlines() if " by " in line}
         self.assertGreater(jobs["exb_high"], 2)
         self.assertEqual(jobs["exb_beside"], 1)
@@ -271,7 +272,7 @@ class InOurOrder(Launched):
         it = self.wide()
         it.write("kit/kept-exb_low", "")
         it.write("kit/kept-exb_high", "")
-        self.says(["tools/build"], 0, "exb_low kept (1 of 4", "exb_high kept", "exb_beside proved", "exbr proved (4 of 4")
+        self.says(["tools/build"], 0, "exb_low kept (1 of 4", "exb_high kept", "exb_beside proved", "(4 of 4")
         self.assertEqual(sorted(self.proved()), ["exb_beside", "exbr", "own"])
 
     def in_one_run_of_our_order(self):
@@ -281,7 +282,7 @@ class InOurOrder(Launched):
     def test_anew_is_one_run_that_takes_nothing(self):
         it = self.wide()
         it.write("kit/kept-exb_low", "")
-        self.says(["tools/build", "--anew"], 0, "exb_low proved (1 of 4", "exbr proved (4 of 4")
+        self.says(["tools/build", "--anew"], 0, "exb_low proved (1 of 4", "(4 of 4")
         self.in_one_run_of_our_order()
 
     def test_a_kit_that_keeps_nothing_has_one_run_and_no_such_word(self):
@@ -294,14 +295,14 @@ class InOurOrder(Launched):
 
     def test_where_nothing_is_shared_there_is_one_run(self):
         self.wide(KEEPS.replace('"doc"', '"none"'))
-        self.says(["tools/build"], 0, "exbr proved (4 of 4")
+        self.says(["tools/build"], 0, "(4 of 4")
         self.in_one_run_of_our_order()
 
     def test_a_toolchain_without_that_scheduler_has_its_own_order(self):
         it = self.wide(KEEPS.replace("in_lanes(tasks)", "in_lanes(tasks, more=1)"))
         for words in ([], ["--anew"]):
             it.write("kit/calls", "")
-            self.says(["tools/build", *words], 0, "exbr proved (4 of 4")
+            self.says(["tools/build", *words], 0, "(4 of 4")
             self.assertEqual(self.proved(), ["own", "exb_low", "exb_high", "exb_beside", "exbr"])
 
     def test_what_fails_in_our_order_is_tried_again_in_the_toolchains(self):
